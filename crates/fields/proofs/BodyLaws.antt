@@ -1,0 +1,62 @@
+-- A Leaf's body that was written is read, and all around it stays. Assumes nothing.
+use Prim.Native.Nat.{ℕ, _+_, _^_, _<_, _≤_}
+use mathlib.Core.Path.{_≡_}
+use mathlib.Core.List.{List}
+use mathlib.Core.Logic.{⊎-elim, inl, inr}
+use mathlib.Core.Bool.{true}
+use native.Mathlib.Omega.{arith}
+use borrow.Author.Tests.{leb-true, le-leb}
+use lib.Dec.{leb}
+use lib.ListN.{length}
+use Rattle.layout.specs.Number.{byteAt, le, put}
+use Rattle.layout.specs.Place.{leafExtent, leafKey, leafValue, leafZero}
+use Rattle.fields.specs.Body.{putLeafBody}
+use Rattle.layout.proofs.NumberLaws.{lt-or-le, Off, getD-put-off, zero-le-bytes, le-laws, own-at}
+
+-- a field of a body of 16 bytes at a, itself and seen from outside
+own16 : (w : ℕ) (f : List ℕ) (a o v : ℕ) → leb (a + 16) (length f) ≡ true → leb (o + w) 16 ≡ true → v < 256 ^ w → le w (put w f (a + o) v) (a + o) ≡ v
+own16 w f a o v = own-at w f a o v 16
+
+off16 : (w : ℕ) (f : List ℕ) (a o v k : ℕ) → Off k a 16 → leb (o + w) 16 ≡ true → byteAt (put w f (a + o) v) k ≡ byteAt f k
+off16 w f a o v k h t =
+    let l : o + w ≤ 16 = leb-true (o + w) 16 t in
+    getD-put-off w f (a + o) v k (⊎-elim (λ x. inl (omega arith)) (λ y. inr (omega arith)) h)
+
+module _ (f : List ℕ) (o extent key value : ℕ) where
+  pub length-putLeafBody : length (putLeafBody f o extent key value) ≡ length f
+  unfolding putLeafBody
+  length-putLeafBody = simp le-laws
+
+  pub leaf-off : (a : ℕ) → Off a o 16 → byteAt (putLeafBody f o extent key value) a ≡ byteAt f a
+  unfolding putLeafBody
+  leaf-off a h = simp off16
+
+  module _ (inside : o + 16 ≤ length f) where
+    room : leb (o + 16) (length f) ≡ true
+    room = le-leb (o + 16) (length f) inside
+
+    pub leaf-extent : extent < 4294967296 → le 4 (putLeafBody f o extent key value) (o + leafExtent) ≡ extent
+    unfolding putLeafBody
+    leaf-extent h = simp (le-laws, own16, room)
+
+    pub leaf-key : key < 65536 → le 2 (putLeafBody f o extent key value) (o + leafKey) ≡ key
+    unfolding putLeafBody
+    leaf-key h = simp (le-laws, own16, room)
+
+    pub leaf-value : value < 65536 → le 2 (putLeafBody f o extent key value) (o + leafValue) ≡ value
+    unfolding putLeafBody
+    leaf-value h = simp (le-laws, own16, room)
+
+    pub leaf-zero-low : le 4 (putLeafBody f o extent key value) (o + leafZero) ≡ 0
+    unfolding putLeafBody
+    leaf-zero-low = let z : 0 < 4294967296 = omega arith in simp (le-laws, own16, room)
+
+    pub leaf-zero-high : le 4 (putLeafBody f o extent key value) (o + (leafZero + 4)) ≡ 0
+    unfolding putLeafBody
+    leaf-zero-high = let z : 0 < 4294967296 = omega arith in simp (le-laws, own16, room)
+
+    pub leaf-zeros : (a : ℕ) → o + leafZero ≤ a → a < o + 16 → byteAt (putLeafBody f o extent key value) a ≡ 0
+    leaf-zeros a x y =
+        let g = putLeafBody f o extent key value in
+        ⊎-elim (λ l. zero-le-bytes 4 g (o + leafZero) leaf-zero-low a x (omega arith))
+        (λ l. zero-le-bytes 4 g (o + (leafZero + 4)) leaf-zero-high a l (omega arith)) (lt-or-le a (o + (leafZero + 4)))

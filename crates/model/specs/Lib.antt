@@ -1,0 +1,12 @@
+pub mod Strings
+pub mod Edition
+pub mod Tree
+pub mod Records
+pub mod State
+pub mod Image
+pub mod Item
+pub mod Body
+pub mod Frame
+pub mod Touch
+pub mod Promise
+pub mod Worked

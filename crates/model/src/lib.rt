@@ -1,0 +1,1 @@
+// No code stands here: specs/ says what a frame means, and proofs/ has the theory of it.
