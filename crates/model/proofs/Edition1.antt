@@ -86,6 +86,7 @@ lawful1 = record {
   apart = λ k l t h g e. apart1 k l t (key-passes k (h .passes) .chars) (key-passes l (g .passes) .chars) e;
   order = λ w x y b s c t h g e f l. order1 w x y b s c t e f l;
   fits = lit≤ tt;
+  fields = record { number = lit< tt; keys = λ k h. (let o = key-passes k (h .passes) .short in omega arith) };
 }
 
 -- ---- paths and Prefixes

@@ -16,3 +16,14 @@ pub mod KindsTaken
 pub mod StateLaws
 pub mod EightLaws
 pub mod Commute
+pub mod ItemLaws
+pub mod UniqueLaws
+pub mod StandsGood
+pub mod TextLaws
+pub mod NodeImage
+pub mod LayLaws
+pub mod PackedBytes
+pub mod FormatLaws
+pub mod ImageLaws
+pub mod PackStands
+pub mod WorkedLaws

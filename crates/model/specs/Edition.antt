@@ -40,6 +40,11 @@ pub record LegalValue (v : List ℕ) : Type 0 where
   pub passes : length v ≤ 65535
   pub bytes : All Byte v
 
+-- the edition's number fits four bytes and a key's length two
+pub record FitsFields (E : Edition) : Type 0 where
+  pub number : E .number < 4294967296
+  pub keys : (k : List ℕ) → Legal E k → length k ≤ 65535
+
 -- What the theory asks of an edition.
 pub record Lawful (E : Edition) : Type 0 where
   pub bytes : (k : List ℕ) → Legal E k → All Byte (E .walked k)
@@ -50,3 +55,4 @@ pub record Lawful (E : Edition) : Type 0 where
   pub order : (w x y : List ℕ) (b : ℕ) (s : List ℕ) (c : ℕ) (t : List ℕ) → Legal E x → Legal E y → E .walked x ≡ w ++ b ∷ s → E .walked y ≡ w ++ c ∷ t → b < c → before x y ≡ true
   -- what keys share before they part fits one Prefix
   pub fits : E .longest ≤ 113
+  pub fields : FitsFields E
