@@ -1,0 +1,63 @@
+-- "Numbers a call can give": the number, and the place and length, of each answer.
+use Prim.Native.Nat.{ℕ}
+use Rattle.answers.specs.declared.Refusal.{Refusal}
+use Rattle.answers.specs.declared.Refusal.the-variants as refusal
+use Rattle.answers.specs.declared.Format.{Format}
+use Rattle.answers.specs.declared.Format.the-variants as format
+use Rattle.answers.specs.declared.Check.{Check}
+use Rattle.answers.specs.declared.Check.the-variants as check
+use Rattle.answers.specs.declared.LookUp.{LookUp}
+use Rattle.answers.specs.declared.LookUp.the-variants as look
+use Rattle.answers.specs.declared.Put.{Put}
+use Rattle.answers.specs.declared.Put.the-variants as put
+use Rattle.answers.specs.declared.Erase.{Erase}
+use Rattle.answers.specs.declared.Erase.the-variants as erase
+use Rattle.answers.specs.declared.Pack.{Pack}
+use Rattle.answers.specs.declared.Pack.the-variants as pack
+
+abbrev pub refusalNumber : Refusal → ℕ
+refusalNumber refusal.Length = 1
+refusalNumber refusal.Frame = 2
+refusalNumber refusal.KeyLength = 3
+refusalNumber refusal.KeyZero = 4
+refusalNumber refusal.ValueLength = 5
+refusalNumber refusal.Output = 7
+refusalNumber refusal.Room = 6
+
+abbrev pub formatNumber : Format → ℕ
+formatNumber format.Done = 0
+formatNumber (format.Refused r) = refusalNumber r
+
+abbrev pub checkNumber : Check → ℕ
+checkNumber check.Good = 0
+checkNumber (check.Refused r) = refusalNumber r
+
+abbrev pub lookUpNumber : LookUp → ℕ
+lookUpNumber (look.Found p n) = 0
+lookUpNumber look.Absent = 8
+lookUpNumber (look.Refused r) = refusalNumber r
+
+-- "both 0 with any number but 0"
+abbrev pub lookUpPlace : LookUp → ℕ
+lookUpPlace (look.Found p n) = p
+lookUpPlace look.Absent = 0
+lookUpPlace (look.Refused r) = 0
+
+abbrev pub lookUpLong : LookUp → ℕ
+lookUpLong (look.Found p n) = n
+lookUpLong look.Absent = 0
+lookUpLong (look.Refused r) = 0
+
+abbrev pub putNumber : Put → ℕ
+putNumber put.New = 0
+putNumber put.Replaced = 9
+putNumber (put.Refused r) = refusalNumber r
+
+abbrev pub eraseNumber : Erase → ℕ
+eraseNumber erase.Done = 0
+eraseNumber erase.Absent = 8
+eraseNumber (erase.Refused r) = refusalNumber r
+
+abbrev pub packNumber : Pack → ℕ
+packNumber pack.Done = 0
+packNumber (pack.Refused r) = refusalNumber r

@@ -1,0 +1,126 @@
+// The answers of the public calls as enums by value, and document 01's number for each.
+ghost use mathlib.Core.Path.{_≡_};
+ghost use Rattle.answers.specs.Number.{refusalNumber, formatNumber, checkNumber, lookUpNumber, putNumber, eraseNumber, packNumber};
+
+// "1 to 7 are refusals"
+pub enum Refusal {
+    // 1: F or N against the limits, or the slice length
+    Length,
+    // 2: not a good frame
+    Frame,
+    // 3: key length 0 or above 112
+    KeyLength,
+    // 4: key holds a byte 0
+    KeyZero,
+    // 5: value above 65,535 bytes
+    ValueLength,
+    // 7: pack: the output is not F long
+    Output,
+    // 6: no room
+    Room,
+}
+
+pub enum Format {
+    Done,
+    Refused(Refusal),
+}
+
+pub enum Check {
+    Good,
+    Refused(Refusal),
+}
+
+pub enum LookUp {
+    // place, counted from the frame's start, and length of the value
+    Found(usize, usize),
+    Absent,
+    Refused(Refusal),
+}
+
+pub enum Put {
+    New,
+    Replaced,
+    Refused(Refusal),
+}
+
+pub enum Erase {
+    Done,
+    Absent,
+    Refused(Refusal),
+}
+
+pub enum Pack {
+    Done,
+    Refused(Refusal),
+}
+
+pub fn refusal_number(r: Refusal) -> u32
+    ensures { λ n. ⌜ n ≡ refusalNumber r ⌝ }
+{
+    match r {
+        Refusal::Length => 1,
+        Refusal::Frame => 2,
+        Refusal::KeyLength => 3,
+        Refusal::KeyZero => 4,
+        Refusal::ValueLength => 5,
+        Refusal::Output => 7,
+        Refusal::Room => 6,
+    }
+}
+
+pub fn format_number(a: Format) -> u32
+    ensures { λ n. ⌜ n ≡ formatNumber a ⌝ }
+{
+    match a {
+        Format::Done => 0,
+        Format::Refused(r) => refusal_number(r),
+    }
+}
+
+pub fn check_number(a: Check) -> u32
+    ensures { λ n. ⌜ n ≡ checkNumber a ⌝ }
+{
+    match a {
+        Check::Good => 0,
+        Check::Refused(r) => refusal_number(r),
+    }
+}
+
+pub fn look_up_number(a: LookUp) -> u32
+    ensures { λ n. ⌜ n ≡ lookUpNumber a ⌝ }
+{
+    match a {
+        LookUp::Found(_, _) => 0,
+        LookUp::Absent => 8,
+        LookUp::Refused(r) => refusal_number(r),
+    }
+}
+
+pub fn put_number(a: Put) -> u32
+    ensures { λ n. ⌜ n ≡ putNumber a ⌝ }
+{
+    match a {
+        Put::New => 0,
+        Put::Replaced => 9,
+        Put::Refused(r) => refusal_number(r),
+    }
+}
+
+pub fn erase_number(a: Erase) -> u32
+    ensures { λ n. ⌜ n ≡ eraseNumber a ⌝ }
+{
+    match a {
+        Erase::Done => 0,
+        Erase::Absent => 8,
+        Erase::Refused(r) => refusal_number(r),
+    }
+}
+
+pub fn pack_number(a: Pack) -> u32
+    ensures { λ n. ⌜ n ≡ packNumber a ⌝ }
+{
+    match a {
+        Pack::Done => 0,
+        Pack::Refused(r) => refusal_number(r),
+    }
+}
