@@ -211,11 +211,11 @@ module _ (E : Edition) (f : List ℕ) where
 -- ---- as many bodies as slots
 
 -- is it a body whose slot is at most v
-unfoldable slotTo : ℕ → Item → ℕ
+unfoldable pub slotTo : ℕ → Item → ℕ
 slotTo v (body s k o) = inside 0 (suc v) s
 slotTo v (extent e n) = 0
 
-slotTo-zero : (i : Item) → slotTo 0 i ≡ onSlot 0 i
+pub slotTo-zero : (i : Item) → slotTo 0 i ≡ onSlot 0 i
 unfolding slotTo onSlot
 slotTo-zero (extent e n) = refl
 slotTo-zero (body s k o) = elim (decLe s 0) [
@@ -223,7 +223,7 @@ slotTo-zero (body s k o) = elim (decLe s 0) [
   | no p ↦ in-over 0 1 s (omega arith) ∙ sym (in-under s 1 0 (omega arith))
 ]
 
-slotTo-suc : (v : ℕ) (i : Item) → slotTo (suc v) i ≡ slotTo v i + onSlot (suc v) i
+pub slotTo-suc : (v : ℕ) (i : Item) → slotTo (suc v) i ≡ slotTo v i + onSlot (suc v) i
 unfolding slotTo onSlot
 slotTo-suc v (extent e n) = refl
 slotTo-suc v (body s k o) = elim (decLe s v) [
@@ -241,7 +241,7 @@ module _ {d u b x : ℕ} {is : List Item} (S : Sound d u b x is) where
       omega (arith, sum-add (slotTo v) (onSlot (suc v)) (slotTo (suc v)) (slotTo-suc v) is, slots-to v (omega arith), S .once (suc v) (omega arith) h)
 
 -- no body has a slot past u: all bodies have one up to u
-bodies-to : (u : ℕ) (is : List Item) → ((s : ℕ) → u < s → sum (onSlot s) is ≡ 0) → sum bodied is ≡ sum (slotTo u) is
+pub bodies-to : (u : ℕ) (is : List Item) → ((s : ℕ) → u < s → sum (onSlot s) is ≡ 0) → sum bodied is ≡ sum (slotTo u) is
 unfolding sum bodied slotTo onSlot
 bodies-to u [] h = refl
 bodies-to u (extent e n ∷ is) h = omega (arith, bodies-to u is (λ t l. let z = h t l in omega arith))

@@ -1,0 +1,46 @@
+// The map of the exact check: one bit for each unit of 8 bytes of the frame, in words of 64 bits. Every body and every
+// live extent claims its units; a unit that is claimed twice is refused.
+ghost use mathlib.Core.Path.{_≡_};
+ghost use mathlib.Core.Bool.{true, false};
+ghost use Prim.Native.Nat.{_+_, _*_, _^_, _<_, _≤_};
+ghost use lib.ListN.{length};
+ghost use Rattle.claims.specs.Units.{Mask, Run, Claimed, Taken};
+
+// The bits lo to lo + n - 1 of a word.
+fn mask(lo: usize, n: usize) -> u64
+    requires { ⌜ (1 ≤ n) × (lo + n ≤ 64) ⌝ }
+    ensures { λ r. ⌜ Mask lo n r ⌝ }
+{
+    (0xffff_ffff_ffff_ffff >> (64 - n)) << lo
+}
+
+// How many units from at on stand in at's word, left at most.
+fn within(at: usize, left: usize) -> usize
+    requires { ⌜ 1 ≤ left ⌝ }
+    ensures { λ r. ⌜ Run at left r ⌝ }
+{
+    let room = 64 - at % 64;
+    if left < room { left } else { room }
+}
+
+// Marks count units from the unit `from` on. False if one of them has its mark already: the map is then of no more use.
+pub fn claim(map: &mut [u64], from: usize, count: usize) -> bool
+    requires { ⌜ (from + count ≤ 64 * length (now map)) × (from + count < 2 ^ 64) ⌝ }
+    ensures { λ r. ⌜ (r ≡ true → Claimed from count (now (map .entry)) (now (map .exit))) × (r ≡ false → Taken from count (now (map .entry))) ⌝ }
+{
+    let mut at = from;
+    let mut left = count;
+    while left > 0 {
+        let n = within(at, left);
+        let bits = mask(at % 64, n);
+        let word = at / 64;
+        let old = map[word];
+        if old & bits != 0 {
+            return false;
+        }
+        map[word] = old | bits;
+        at += n;
+        left -= n;
+    }
+    true
+}
