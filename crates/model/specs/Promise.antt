@@ -29,6 +29,12 @@ FormatOk f len cap = FrameLength len × SlotCapacity cap × (dataStart cap + 8 �
 abbrev pub changes : ℕ → Bool
 changes n = pick (eqb n 0) true (eqb n 9)
 
+-- what the number of any call on an existing frame says of the frame
+pub record Told (E : Edition) (f : List ℕ) (n : ℕ) : Type 0 where
+  pub length1 : (LengthOk f → ⊥) → n ≡ 1
+  pub bad2 : LengthOk f → (Good E f → ⊥) → n ≡ 2
+  pub good : (n ≡ 1 → ⊥) → (n ≡ 2 → ⊥) → Good E f
+
 -- ---- format and check
 
 pub record FormatPromise (E : Edition) (f : List ℕ) (len cap n : ℕ) (f' : List ℕ) : Type 0 where
@@ -36,8 +42,7 @@ pub record FormatPromise (E : Edition) (f : List ℕ) (len cap n : ℕ) (f' : Li
   pub limits1 : (FormatOk f len cap → ⊥) → (n ≡ 1) × (f' ≡ f)
 
 pub record CheckPromise (E : Edition) (f : List ℕ) (n : ℕ) : Type 0 where
-  pub length1 : (LengthOk f → ⊥) → n ≡ 1
-  pub bad2 : LengthOk f → (Good E f → ⊥) → n ≡ 2
+  pub told : Told E f n
   pub good0 : Good E f → n ≡ 0
 
 -- ---- look-up
@@ -59,8 +64,8 @@ abbrev pub onLookUp : Edition → Root → List ℕ → Found
 onLookUp E root k = pick (eqb (E .keyFault k) 0) (foundOf (findAt E root k)) (notFound (E .keyFault k))
 
 pub record LookUpPromise (E : Edition) (f k : List ℕ) (g : Found) : Type 0 where
-  pub length1 : (LengthOk f → ⊥) → g ≡ notFound 1
-  pub bad2 : LengthOk f → (Good E f → ⊥) → g ≡ notFound 2
+  pub told : Told E f (g .number)
+  pub zeros : (g .number ≡ 0 → ⊥) → (g .place ≡ 0) × (g .long ≡ 0)
   pub found : (s : State) (w : Stands E f s) → g ≡ onLookUp E (w .root) k
   -- what that says of the set of records: the value is the part of the frame, and 8 means that there is none
   pub value : (s : State) → Stands E f s → E .keyFault k ≡ 0 → findIn E (s .tree) k ≡ pick (eqb (g .number) 0) (some (take (g .long) (drop (g .place) f))) none
@@ -76,8 +81,7 @@ pub record ValuePromise (E : Edition) (f k : List ℕ) (at : ℕ) (part : List �
 -- ---- put and erase
 
 pub record PutPromise (E : Edition) (f k v : List ℕ) (n : ℕ) (f' : List ℕ) : Type 0 where
-  pub length1 : (LengthOk f → ⊥) → n ≡ 1
-  pub bad2 : LengthOk f → (Good E f → ⊥) → n ≡ 2
+  pub told : Told E f n
   pub answer : (s : State) → Stands E f s → n ≡ onPut E s k v .answer
   -- the state after, and what is settled of the bytes
   pub after : (s : State) (w : Stands E f s) → (w' : Stands E f' (onPut E s k v .state)) × (changes n ≡ true → let c = putChange E s k v in
@@ -90,8 +94,7 @@ eraseKinds E (bare s o) k = []
 eraseKinds E (tree l) k = let c = eraseChange E (art l) k in c .takes ++ c .frees
 
 pub record ErasePromise (E : Edition) (f k : List ℕ) (n : ℕ) (f' : List ℕ) : Type 0 where
-  pub length1 : (LengthOk f → ⊥) → n ≡ 1
-  pub bad2 : LengthOk f → (Good E f → ⊥) → n ≡ 2
+  pub told : Told E f n
   pub answer : (s : State) → Stands E f s → n ≡ onErase E s k .answer
   pub after : (s : State) (w : Stands E f s) → (w' : Stands E f' (onErase E s k .state)) × (n ≡ 0 → 2 ≤ s .R →
       Outside f f' (w .root) (w' .root) (w .lists) (w' .lists) (eraseKinds E (w .root) k) (eraseTouch E (w .root) k) [] false)
@@ -102,8 +105,7 @@ pub record ErasePromise (E : Edition) (f k : List ℕ) (n : ℕ) (f' : List ℕ)
 -- ---- pack: the input is only read
 
 pub record PackPromise (E : Edition) (f o : List ℕ) (n : ℕ) (o' : List ℕ) : Type 0 where
-  pub length1 : (LengthOk f → ⊥) → n ≡ 1
-  pub bad2 : LengthOk f → (Good E f → ⊥) → n ≡ 2
+  pub told : Told E f n
   pub output7 : Good E f → (length o ≡ length f → ⊥) → n ≡ 7
   pub packed0 : (s : State) → Stands E f s → length o ≡ length f → (n ≡ 0) × (o' ≡ image E (s .F) (s .N) (recordsOf (s .tree)))
   pub kept : changes n ≡ false → o' ≡ o
