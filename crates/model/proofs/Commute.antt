@@ -16,43 +16,11 @@ use Rattle.model.specs.Tree.Left.{gone, one, kept}
 use Rattle.model.specs.Records.{Record, recordsOf, lookup, upsert, remove, absent, Ascending}
 use Rattle.model.specs.State.{State, room, Done, done, findIn, putChange, callPut, eraseChange, eraseDone, eraseFound, eraseIn, callErase, unless, onPut, onErase}
 use Rattle.model.specs.Image.{image}
+use Rattle.model.specs.Call.{Call, put, erase, keyOf, LegalCall, onCall, edited, given, reply}
 use Rattle.model.proofs.StringLaws.{bool-cases, same-refl, same-true, same-false, same-sym}
 use Rattle.model.proofs.SetLaws.{lookup-upsert, lookup-upsert-other, remove-none, lookup-remove, lookup-remove-other, upsert-ascending, remove-ascending, lookup-all}
 use Rattle.model.proofs.GoodState.{GoodState}
 use Rattle.model.proofs.StateLaws.{eraseFits, tree-ascending, put-done, put-full, erase-done, erase-full, erase-missing, find-good}
-
-pub data Call : Type 0 where
-  put : List ℕ → List ℕ → Call
-  erase : List ℕ → Call
-
-abbrev pub keyOf : Call → List ℕ
-keyOf (put k v) = k
-keyOf (erase k) = k
-
--- the number given and the state after, on any key and value
-abbrev pub onCall : Edition → State → Call → Done
-onCall E s (put k v) = onPut E s k v
-onCall E s (erase k) = onErase E s k
-
-abbrev pub LegalCall : Edition → Call → Type 0
-LegalCall E (put k v) = Legal E k × LegalValue v
-LegalCall E (erase k) = Legal E k
-
--- ---- what it does to a set
-
-abbrev pub edited : Call → List Record → List Record
-edited (put k v) rs = upsert k v rs
-edited (erase k) rs = remove k rs
-
--- the key's value after it
-abbrev pub given : Call → Option (List ℕ)
-given (put k v) = some v
-given (erase k) = none
-
--- the number, from the key's value before it
-abbrev pub reply : Call → Option (List ℕ) → ℕ
-reply (put k v) o = pick (absent o) 0 9
-reply (erase k) o = pick (absent o) 8 0
 
 pub edited-lookup : (c : Call) (l : List ℕ) (rs : List Record) → lookup l (edited c rs) ≡ pick (same l (keyOf c)) (given c) (lookup l rs)
 edited-lookup (put k v) l rs = bool-cases (same l k)

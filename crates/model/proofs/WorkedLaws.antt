@@ -10,24 +10,21 @@ use Rattle.layout.specs.Number.{le}
 use Rattle.layout.specs.Place.{atB, atU, atX, entryAt, dataStart}
 use Rattle.model.specs.Strings.{pick}
 use Rattle.model.specs.Edition.{Edition, edition1}
-use Rattle.model.specs.State.{State, Done, done, formatted, onPut, onErase}
+use Rattle.model.specs.State.{State, Done, done, formatted}
 use Rattle.model.specs.Records.{recordsOf}
 use Rattle.model.specs.Image.{image}
 use Rattle.model.specs.Frame.{Stands, FrameLength, SlotCapacity}
-use Rattle.model.specs.Promise.{FormatOk, FormatPromise, PutPromise, ErasePromise, PackPromise}
-use Rattle.model.specs.Worked.{Call, put, erase, Row, table, Ran, EntriesAre, Shows, AtEnd, Worked, AllRows}
+use Rattle.model.specs.Promise.{FormatOk, FormatPromise, PackPromise}
+use Rattle.model.specs.Call.{Call, put, erase, onCall, Called}
+use Rattle.model.specs.Worked.{Row, table, Ran, EntriesAre, Shows, AtEnd, Worked, AllRows}
 use Rattle.model.proofs.Edition1.{lawful1}
 use Rattle.model.proofs.FormatLaws.{empty-stands}
 
 -- ---- the calls on the model
 
-abbrev on : Edition → State → Call → Done
-on E s (put k v) = onPut E s k v
-on E s (erase k) = onErase E s k
-
 abbrev run : Edition → Done → List Call → Done
 run E d [] = d
-run E d (c ∷ cs) = run E (on E (d .state) c) cs
+run E d (c ∷ cs) = run E (onCall E (d .state) c) cs
 
 abbrev pub end : Row → Done
 end r = run edition1 (done 0 (formatted (r .F) (r .N))) (r .calls)
@@ -81,6 +78,11 @@ every (r ∷ rs) = both (test r) (every rs)
 
 -- ---- from the test to the row's statement
 
+-- a promised call gives the model's number, and leaves the model's state
+pub called-stands : (E : Edition) (f : List ℕ) (c : Call) (n : ℕ) (f' : List ℕ) (s : State) → Stands E f s → Called E f c n f' → (n ≡ onCall E s c .answer) × Stands E f' (onCall E s c .state)
+called-stands E f (put k v) n f' s w h = (h .answer s w, h .after s w .0)
+called-stands E f (erase k) n f' s w h = (h .answer s w, h .after s w .0)
+
 -- a call that makes d of the frame's state, and then the others
 ran-step : (E : Edition) (cs : List Call) (m : ℕ) (d : Done) (n' : ℕ) (f' g : List ℕ) → m ≡ d .answer → Stands E g (d .state)
     → ((s : State) → Stands E g s → (n' ≡ run E (done m s) cs .answer) × Stands E f' (run E (done m s) cs .state))
@@ -90,10 +92,9 @@ ran-step E cs m d n' f' g e w ih = let q : done m (d .state) ≡ d = ap (λ (x :
 ran-stands : (E : Edition) (n : ℕ) (f : List ℕ) (cs : List Call) (n' : ℕ) (f' : List ℕ) (s : State) → Stands E f s → Ran E n f cs n' f'
     → (n' ≡ run E (done n s) cs .answer) × Stands E f' (run E (done n s) cs .state)
 ran-stands E n f [] n' f' s w h = (h .0, rw (h .1) w)
-ran-stands E n f (put k v ∷ cs) n' f' s w h =
-    ran-step E cs (h .0) (onPut E s k v) n' f' (h .1) (h .2 .answer s w) (h .2 .after s w .0) (λ t x. ran-stands E (h .0) (h .1) cs n' f' t x (h .3))
-ran-stands E n f (erase k ∷ cs) n' f' s w h =
-    ran-step E cs (h .0) (onErase E s k) n' f' (h .1) (h .2 .answer s w) (h .2 .after s w .0) (λ t x. ran-stands E (h .0) (h .1) cs n' f' t x (h .3))
+ran-stands E n f (c ∷ cs) n' f' s w h =
+    let p = called-stands E f c (h .0) (h .1) s w (h .2) in
+    ran-step E cs (h .0) (onCall E s c) n' f' (h .1) (p .0) (p .1) (λ t x. ran-stands E (h .0) (h .1) cs n' f' t x (h .3))
 
 numbers-of : (r : Row) (n u b x : ℕ) → T (numbersTest r n u b x) → (n ≡ r .answer) × (u ≡ r .U) × (b ≡ r .B) × (x ≡ r .X)
 numbers-of r n u b x t =

@@ -9,4 +9,5 @@ pub mod Body
 pub mod Frame
 pub mod Touch
 pub mod Promise
+pub mod Call
 pub mod Worked

@@ -7,11 +7,8 @@ use lib.ListN.{length, replicate}
 use Rattle.layout.specs.Number.{le}
 use Rattle.layout.specs.Place.{atB, atU, atX, entryAt}
 use Rattle.model.specs.Edition.{Edition, edition1}
-use Rattle.model.specs.Promise.{FormatPromise, PutPromise, ErasePromise, PackPromise}
-
-pub data Call : Type 0 where
-  put : List ℕ → List ℕ → Call
-  erase : List ℕ → Call
+use Rattle.model.specs.Promise.{FormatPromise, PackPromise}
+use Rattle.model.specs.Call.{Call, put, erase, Called}
 
 pub record Row : Type 0 where
   pub F : ℕ
@@ -72,8 +69,7 @@ table =
 -- calls one after the other, each as promised, from frame f after the number n: the last number and the frame at the end
 abbrev pub Ran : Edition → ℕ → List ℕ → List Call → ℕ → List ℕ → Type 0
 Ran E n f [] n' f' = (n' ≡ n) × (f' ≡ f)
-Ran E n f (put k v ∷ cs) n' f' = (m : ℕ) × (g : List ℕ) × PutPromise E f k v m g × Ran E m g cs n' f'
-Ran E n f (erase k ∷ cs) n' f' = (m : ℕ) × (g : List ℕ) × ErasePromise E f k m g × Ran E m g cs n' f'
+Ran E n f (c ∷ cs) n' f' = (m : ℕ) × (g : List ℕ) × Called E f c m g × Ran E m g cs n' f'
 
 abbrev pub EntriesAre : List ℕ → List (ℕ × ℕ) → Type 0
 EntriesAre f [] = Unit {0}
