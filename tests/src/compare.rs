@@ -1,0 +1,424 @@
+//! The comparer: any six calls, held to what document 01 settles.
+//!
+//! Believed here: for each call, the number, the place or part given, and the
+//! whole effect. The frame after must be good, its model must equal the one
+//! predicted, and no byte outside what the step touches may differ. Every
+//! lent buffer stands between known bytes, at changing alignment, so that a
+//! write outside it shows; buffers lent for reading must be as they were.
+
+use crate::check::{self, Reading};
+use crate::decode;
+use crate::image::image;
+use crate::layout::{key_refusal, number::*};
+use crate::slotless::{bodies, State};
+use crate::store::{self, Records};
+use crate::tally::{Call, Entry, Tally};
+use crate::touched;
+use std::fmt;
+use std::hint::black_box;
+
+/// The six calls of document 01, as they are exported.
+pub trait Calls {
+    fn format(&self, frame: &mut [u8], f: usize, n: usize) -> u32;
+    fn check(&self, frame: &[u8]) -> u32;
+    /// The number, the place and the length.
+    fn look_up(&self, frame: &[u8], key: &[u8]) -> (u32, u64, u64);
+    fn put(&self, frame: &mut [u8], key: &[u8], value: &[u8]) -> u32;
+    fn erase(&self, frame: &mut [u8], key: &[u8]) -> u32;
+    fn pack(&self, frame: &[u8], out: &mut [u8]) -> u32;
+}
+
+/// The second store itself.
+pub struct Second;
+
+impl Calls for Second {
+    fn format(&self, frame: &mut [u8], f: usize, n: usize) -> u32 {
+        store::format(frame, f, n)
+    }
+    fn check(&self, frame: &[u8]) -> u32 {
+        check::check(frame)
+    }
+    fn look_up(&self, frame: &[u8], key: &[u8]) -> (u32, u64, u64) {
+        store::look_up(frame, key)
+    }
+    fn put(&self, frame: &mut [u8], key: &[u8], value: &[u8]) -> u32 {
+        store::put(frame, key, value)
+    }
+    fn erase(&self, frame: &mut [u8], key: &[u8]) -> u32 {
+        store::erase(frame, key)
+    }
+    fn pack(&self, frame: &[u8], out: &mut [u8]) -> u32 {
+        store::pack(frame, out)
+    }
+}
+
+/// A call that did not do what document 01 settles, and how to replay it.
+#[derive(Debug)]
+pub struct Difference(String);
+
+impl fmt::Display for Difference {
+    fn fmt(&self, to: &mut fmt::Formatter<'_>) -> fmt::Result {
+        to.write_str(&self.0)
+    }
+}
+
+pub type Compared<T> = Result<T, Difference>;
+
+/// A frame with what is known of it.
+#[derive(Clone)]
+pub struct Held {
+    bytes: Vec<u8>,
+    /// The model of a good frame, else the refusal that every call gives.
+    known: Result<State, u32>,
+}
+
+impl Held {
+    pub fn new(bytes: Vec<u8>) -> Held {
+        let known = match check::read(&bytes) {
+            None => Err(LENGTHS),
+            Some(reading) if reading.broken.is_empty() => Ok(decode::state(&bytes, &reading)),
+            Some(_) => Err(NOT_GOOD),
+        };
+        Held { bytes, known }
+    }
+
+    pub fn bytes(&self) -> &[u8] {
+        &self.bytes
+    }
+
+    /// The model of a frame that is good.
+    pub fn state(&self) -> &State {
+        self.known.as_ref().expect("the frame is good")
+    }
+
+    pub fn refusal(&self) -> Option<u32> {
+        self.known.as_ref().err().copied()
+    }
+
+    fn reading(&self) -> Reading {
+        check::read(&self.bytes).expect("the lengths agree")
+    }
+}
+
+/// A buffer between known bytes.
+struct Lent {
+    all: Vec<u8>,
+    margin: usize,
+    length: usize,
+}
+
+const LEAST_MARGIN: usize = 32;
+const ALIGNMENTS: u64 = 8;
+const MARGIN_BYTE: u8 = 0xA5;
+
+impl Lent {
+    /// `turn` shifts the buffer's start over all alignments.
+    fn new(bytes: &[u8], turn: u64) -> Lent {
+        let margin = LEAST_MARGIN + (turn % ALIGNMENTS) as usize;
+        let mut all = vec![MARGIN_BYTE; margin];
+        all.extend_from_slice(bytes);
+        all.resize(margin + bytes.len() + margin, MARGIN_BYTE);
+        Lent { all, margin, length: bytes.len() }
+    }
+
+    fn part(&self) -> &[u8] {
+        &self.all[self.margin..][..self.length]
+    }
+
+    fn part_mut(&mut self) -> &mut [u8] {
+        &mut self.all[self.margin..][..self.length]
+    }
+
+    /// The bytes as memory holds them now, whatever the call promised.
+    fn seen(&mut self) -> &[u8] {
+        black_box(&mut self.all);
+        self.part()
+    }
+
+    fn margins_kept(&mut self) -> bool {
+        black_box(&mut self.all);
+        let (before, rest) = self.all.split_at(self.margin);
+        before.iter().chain(&rest[self.length..]).all(|byte| *byte == MARGIN_BYTE)
+    }
+}
+
+pub struct Comparer<'a> {
+    calls: &'a dyn Calls,
+    pub tally: Tally,
+    /// The stage and the seed that the run can be repeated with.
+    stage: String,
+    step: u64,
+}
+
+impl<'a> Comparer<'a> {
+    pub fn new(calls: &'a dyn Calls) -> Comparer<'a> {
+        Comparer { calls, tally: Tally::default(), stage: String::new(), step: 0 }
+    }
+
+    /// Steps are counted from here; a difference names the stage and the step.
+    pub fn begin(&mut self, stage: String) {
+        self.stage = stage;
+        self.step = 0;
+    }
+
+    pub fn differs<T>(&self, what: String) -> Compared<T> {
+        Err(Difference(format!("{}, step {}: {what}", self.stage, self.step)))
+    }
+
+    fn demand(&self, kept: bool, what: impl FnOnce() -> String) -> Compared<()> {
+        if kept {
+            Ok(())
+        } else {
+            self.differs(what())
+        }
+    }
+
+    fn same_number(&self, call: &str, given: u32, expected: u32) -> Compared<()> {
+        self.demand(given == expected, || format!("{call} gave {given}, not {expected}"))
+    }
+
+    fn lend(&self, bytes: &[u8]) -> Lent {
+        Lent::new(bytes, self.step)
+    }
+
+    fn margins(&self, call: &str, lent: &mut [&mut Lent]) -> Compared<()> {
+        let kept = lent.iter_mut().all(|lent| lent.margins_kept());
+        self.demand(kept, || format!("{call} wrote outside a lent buffer"))
+    }
+
+    fn unchanged(&self, call: &str, what: &str, lent: &mut Lent, before: &[u8]) -> Compared<()> {
+        let place = lent.seen().iter().zip(before).position(|(is, was)| is != was);
+        self.demand(place.is_none(), || format!("{call} changed byte {place:?} of the {what}"))
+    }
+
+    /// Gives the frame if the call made one.
+    pub fn format(&mut self, before: &[u8], f: usize, n: usize) -> Compared<Option<Held>> {
+        self.step += 1;
+        let call = format!("format of {} bytes with F {f}, N {n}", before.len());
+        let mut expected = before.to_vec();
+        let number = store::format(&mut expected, f, n);
+        let mut frame = self.lend(before);
+        let given = self.calls.format(frame.part_mut(), f, n);
+        self.margins(&call, &mut [&mut frame])?;
+        self.same_number(&call, given, number)?;
+        self.tally.add(Entry::Number(Call::Format, number));
+        if number != DONE {
+            self.unchanged(&call, "refused frame", &mut frame, before)?;
+            return Ok(None);
+        }
+        if expected != image(f, n, &Records::new()) {
+            return self.differs(format!("{call}: the two readings of format differ"));
+        }
+        self.unchanged(&call, "formatted frame as it should be", &mut frame, &expected)?;
+        let held = Held { bytes: expected, known: Ok(State::fresh(f, n)) };
+        Ok(Some(held))
+    }
+
+    pub fn check(&mut self, held: &Held) -> Compared<()> {
+        self.step += 1;
+        let call = format!("check of {} bytes", held.bytes.len());
+        let mut frame = self.lend(&held.bytes);
+        let given = self.calls.check(frame.part());
+        self.margins(&call, &mut [&mut frame])?;
+        self.unchanged(&call, "frame", &mut frame, &held.bytes)?;
+        let number = held.refusal().unwrap_or(DONE);
+        self.tally.add(Entry::Number(Call::Check, number));
+        self.same_number(&call, given, number)
+    }
+
+    pub fn look_up(&mut self, held: &Held, key: &[u8]) -> Compared<()> {
+        self.step += 1;
+        let call = format!("look-up of {}", shown(key));
+        let (mut frame, mut lent_key) = (self.lend(&held.bytes), self.lend(key));
+        let given = self.calls.look_up(frame.part(), lent_key.part());
+        self.margins(&call, &mut [&mut frame, &mut lent_key])?;
+        self.unchanged(&call, "frame", &mut frame, &held.bytes)?;
+        self.unchanged(&call, "key", &mut lent_key, key)?;
+        let refused = held.refusal().or(key_refusal(key));
+        let found = match (refused, &held.known) {
+            (None, Ok(state)) => Some(state.find(key)),
+            _ => None,
+        };
+        let number = match (refused, &found) {
+            (Some(refused), _) => refused,
+            (None, Some(Ok(_))) => DONE,
+            (None, _) => ABSENT,
+        };
+        self.tally.add(Entry::Number(Call::LookUp, number));
+        if let Some(Err(end)) = found {
+            self.tally.add(Entry::Absent(Call::LookUp, end));
+        }
+        let expected = store::look_up(&held.bytes, key);
+        if expected.0 != number {
+            return self.differs(format!("{call}: the two readings of look-up differ"));
+        }
+        if let Some(Ok(value)) = found {
+            if store::value(&held.bytes, key) != &*value {
+                return self.differs(format!("{call}: the two readings of the value differ"));
+            }
+        }
+        self.demand(given == expected, || format!("{call} gave {given:?}, not {expected:?}"))
+    }
+
+    /// Gives the number; the frame held is then the one after the call.
+    pub fn put(&mut self, held: &mut Held, key: &[u8], value: &[u8]) -> Compared<u32> {
+        self.step += 1;
+        let call = format!("put of {} with {} bytes", shown(key), value.len());
+        let mut frame = self.lend(&held.bytes);
+        let (mut lent_key, mut lent_value) = (self.lend(key), self.lend(value));
+        let given = self.calls.put(frame.part_mut(), lent_key.part(), lent_value.part());
+        self.margins(&call, &mut [&mut frame, &mut lent_key, &mut lent_value])?;
+        self.unchanged(&call, "key", &mut lent_key, key)?;
+        self.unchanged(&call, "value", &mut lent_value, value)?;
+        let mut predicted = held.known.clone();
+        let number = match &mut predicted {
+            Err(refused) => {
+                self.tally.add(Entry::Number(Call::Put, *refused));
+                *refused
+            }
+            Ok(state) => {
+                let told = state.put(key, value);
+                self.tally.count(Call::Put, &told);
+                told.number
+            }
+        };
+        self.same_number(&call, given, number)?;
+        let (DONE | REPLACED, Ok(state)) = (number, predicted) else {
+            self.unchanged(&call, "refused frame", &mut frame, &held.bytes)?;
+            return Ok(number);
+        };
+        let was = held.reading();
+        let touched = touched::by_put(&held.bytes, &was, key, value);
+        self.stepped(&call, held, &was, touched, frame.seen(), state)?;
+        Ok(number)
+    }
+
+    /// Gives the number; the frame held is then the one after the call.
+    pub fn erase(&mut self, held: &mut Held, key: &[u8]) -> Compared<u32> {
+        self.step += 1;
+        let call = format!("erase of {}", shown(key));
+        let (mut frame, mut lent_key) = (self.lend(&held.bytes), self.lend(key));
+        let given = self.calls.erase(frame.part_mut(), lent_key.part());
+        self.margins(&call, &mut [&mut frame, &mut lent_key])?;
+        self.unchanged(&call, "key", &mut lent_key, key)?;
+        let mut predicted = held.known.clone();
+        let number = match &mut predicted {
+            Err(refused) => {
+                self.tally.add(Entry::Number(Call::Erase, *refused));
+                *refused
+            }
+            Ok(state) => {
+                let told = state.erase(key);
+                self.tally.count(Call::Erase, &told);
+                told.number
+            }
+        };
+        self.same_number(&call, given, number)?;
+        let (DONE, Ok(state)) = (number, predicted) else {
+            self.unchanged(&call, "frame left alone", &mut frame, &held.bytes)?;
+            return Ok(number);
+        };
+        if state.r == 0 {
+            let formatted = image(state.f, state.n, &Records::new());
+            self.unchanged(&call, "frame as format leaves it", &mut frame, &formatted)?;
+            *held = Held { bytes: formatted, known: Ok(state) };
+            return Ok(number);
+        }
+        let was = held.reading();
+        let touched = touched::by_erase(&held.bytes, &was, key);
+        self.stepped(&call, held, &was, touched, frame.seen(), state)?;
+        Ok(number)
+    }
+
+    /// The frame after a put or an erase that was done.
+    fn stepped(
+        &self,
+        call: &str,
+        held: &mut Held,
+        was: &Reading,
+        touched: touched::Touched,
+        after: &[u8],
+        predicted: State,
+    ) -> Compared<()> {
+        let Some(is) = check::read(after) else {
+            return self.differs(format!("{call} spoilt the frame's length"));
+        };
+        if !is.broken.is_empty() {
+            return self.differs(format!("{call} left no good frame: {:?}", is.broken));
+        }
+        let found = decode::state(after, &is);
+        if found != predicted {
+            let what = differing(&found, &predicted);
+            return self.differs(format!("{call} left another frame: {what}"));
+        }
+        if let Some(what) = touched.overstepped((&held.bytes, was), (after, &is)) {
+            return self.differs(format!("{call} changed what it should not: {what}"));
+        }
+        *held = Held { bytes: after.to_vec(), known: Ok(predicted) };
+        Ok(())
+    }
+
+    /// Gives the packed frame if there is one.
+    pub fn pack(&mut self, held: &Held, out_before: &[u8]) -> Compared<Option<Held>> {
+        self.step += 1;
+        let call = format!("pack into {} bytes", out_before.len());
+        let (mut frame, mut out) = (self.lend(&held.bytes), self.lend(out_before));
+        let given = self.calls.pack(frame.part(), out.part_mut());
+        self.margins(&call, &mut [&mut frame, &mut out])?;
+        self.unchanged(&call, "frame", &mut frame, &held.bytes)?;
+        let number = match &held.known {
+            Err(refused) => *refused,
+            Ok(state) if out_before.len() != state.f => OUTPUT_LENGTH,
+            Ok(_) => DONE,
+        };
+        self.same_number(&call, given, number)?;
+        self.tally.add(Entry::Number(Call::Pack, number));
+        let (DONE, Ok(state)) = (number, &held.known) else {
+            self.unchanged(&call, "refused output", &mut out, out_before)?;
+            return Ok(None);
+        };
+        let expected = image(state.f, state.n, &state.records());
+        self.unchanged(&call, "output as it should be", &mut out, &expected)?;
+        let packed = Held::new(expected);
+        if packed.refusal().is_some() || packed.state().records() != state.records() {
+            return self.differs(format!("{call}: the image does not read back"));
+        }
+        Ok(Some(packed))
+    }
+}
+
+/// Says where a call stood that did not even return.
+impl Drop for Comparer<'_> {
+    fn drop(&mut self) {
+        if std::thread::panicking() {
+            eprintln!("the comparison stood at {}, step {}", self.stage, self.step);
+        }
+    }
+}
+
+/// In what the frame found differs from the one predicted.
+fn differing(found: &State, predicted: &State) -> String {
+    let fields = |state: &State| (state.u, state.b, state.r, state.x, state.list_lengths);
+    if fields(found) != fields(predicted) {
+        let (is, should) = (fields(found), fields(predicted));
+        return format!("U, B, R, X and the lists by kind are {is:?} and not {should:?}");
+    }
+    let (is, should) = (found.records(), predicted.records());
+    if is != should {
+        let keys = should.keys().chain(is.keys());
+        let key = keys.into_iter().find(|key| is.get(*key) != should.get(*key));
+        return format!("the record set, first at {}", shown(key.map_or(&[], |key| key)));
+    }
+    let (is, should) = (bodies(&found.tree), bodies(&predicted.tree));
+    if is != should {
+        return format!("live bodies by kind are {is:?} and not {should:?}");
+    }
+    "the nodes, their bytes, or the places in a Node48".to_string()
+}
+
+const SHOWN_BYTES: usize = 24;
+
+fn shown(key: &[u8]) -> String {
+    let start = key[..key.len().min(SHOWN_BYTES)].escape_ascii();
+    format!("\"{start}\" ({} bytes)", key.len())
+}

@@ -1,0 +1,133 @@
+//! The exported C functions, behind the same six calls.
+//!
+//! Believed here: the C declarations. A call named in `exported.txt` goes to
+//! the linked archive; one that is not yet exported is served by the second
+//! store, so that the mix can be compared. Nothing else has to be changed
+//! when a call is added there.
+
+use crate::compare::{self, Calls};
+
+/// The calls that come from the archive, as `exported.txt` names them.
+pub fn names() -> Vec<&'static str> {
+    let lines = include_str!("../exported.txt").lines().map(str::trim);
+    lines.filter(|line| !line.is_empty() && !line.starts_with('#')).collect()
+}
+
+#[cfg(any(
+    exported_frame_format,
+    exported_frame_check,
+    exported_frame_look_up,
+    exported_frame_put,
+    exported_frame_erase,
+    exported_frame_pack
+))]
+mod c {
+    extern "C" {
+        #[cfg(exported_frame_format)]
+        pub fn frame_format(frame: *mut u8, frame_len: usize, f: usize, n: usize) -> u32;
+        #[cfg(exported_frame_check)]
+        pub fn frame_check(frame: *const u8, frame_len: usize) -> u32;
+        #[cfg(exported_frame_look_up)]
+        pub fn frame_look_up(
+            frame: *const u8,
+            frame_len: usize,
+            key: *const u8,
+            key_len: usize,
+            place_and_len: *mut u64,
+            two: usize,
+        ) -> u32;
+        #[cfg(exported_frame_put)]
+        pub fn frame_put(
+            frame: *mut u8,
+            frame_len: usize,
+            key: *const u8,
+            key_len: usize,
+            value: *const u8,
+            value_len: usize,
+        ) -> u32;
+        #[cfg(exported_frame_erase)]
+        pub fn frame_erase(frame: *mut u8, frame_len: usize, key: *const u8, key_len: usize)
+            -> u32;
+        #[cfg(exported_frame_pack)]
+        pub fn frame_pack(frame: *const u8, frame_len: usize, out: *mut u8, out_len: usize) -> u32;
+    }
+}
+
+pub struct Exported;
+
+// Every part is passed with its own length, and lives through the call.
+impl Calls for Exported {
+    fn format(&self, frame: &mut [u8], f: usize, n: usize) -> u32 {
+        #[cfg(exported_frame_format)]
+        return unsafe { c::frame_format(frame.as_mut_ptr(), frame.len(), f, n) };
+        #[cfg(not(exported_frame_format))]
+        compare::Second.format(frame, f, n)
+    }
+
+    fn check(&self, frame: &[u8]) -> u32 {
+        #[cfg(exported_frame_check)]
+        return unsafe { c::frame_check(frame.as_ptr(), frame.len()) };
+        #[cfg(not(exported_frame_check))]
+        compare::Second.check(frame)
+    }
+
+    fn look_up(&self, frame: &[u8], key: &[u8]) -> (u32, u64, u64) {
+        #[cfg(exported_frame_look_up)]
+        return look_up_by_all_lengths(frame, key);
+        #[cfg(not(exported_frame_look_up))]
+        compare::Second.look_up(frame, key)
+    }
+
+    fn put(&self, frame: &mut [u8], key: &[u8], value: &[u8]) -> u32 {
+        #[cfg(exported_frame_put)]
+        return unsafe {
+            c::frame_put(
+                frame.as_mut_ptr(),
+                frame.len(),
+                key.as_ptr(),
+                key.len(),
+                value.as_ptr(),
+                value.len(),
+            )
+        };
+        #[cfg(not(exported_frame_put))]
+        compare::Second.put(frame, key, value)
+    }
+
+    fn erase(&self, frame: &mut [u8], key: &[u8]) -> u32 {
+        #[cfg(exported_frame_erase)]
+        return unsafe { c::frame_erase(frame.as_mut_ptr(), frame.len(), key.as_ptr(), key.len()) };
+        #[cfg(not(exported_frame_erase))]
+        compare::Second.erase(frame, key)
+    }
+
+    fn pack(&self, frame: &[u8], out: &mut [u8]) -> u32 {
+        #[cfg(exported_frame_pack)]
+        return unsafe { c::frame_pack(frame.as_ptr(), frame.len(), out.as_mut_ptr(), out.len()) };
+        #[cfg(not(exported_frame_pack))]
+        compare::Second.pack(frame, out)
+    }
+}
+
+/// Place and length go into two numbers if two are lent, and nowhere else.
+#[cfg(exported_frame_look_up)]
+fn look_up_by_all_lengths(frame: &[u8], key: &[u8]) -> (u32, u64, u64) {
+    use std::hint::black_box;
+    const KNOWN: u64 = 0xA5A5_A5A5_5A5A_5A5A;
+    let call = |two: usize| {
+        let mut numbers = [KNOWN; 4];
+        let given = unsafe {
+            let lent = numbers.as_mut_ptr().add(1);
+            c::frame_look_up(frame.as_ptr(), frame.len(), key.as_ptr(), key.len(), lent, two)
+        };
+        (given, *black_box(&mut numbers))
+    };
+    let (given, [before, place, length, after]) = call(2);
+    assert_eq!([before, after], [KNOWN; 2], "look-up wrote beside its two numbers");
+    for other in [0, 1, 3] {
+        let (again, numbers) = call(other);
+        assert_eq!(again, given, "look-up with {other} numbers gives another answer");
+        assert_eq!(numbers, [KNOWN; 4], "look-up wrote though {other} numbers were lent");
+    }
+    (given, place, length)
+}

@@ -1,0 +1,366 @@
+//! Long random histories, cuts to the brim, and bytes of any kind.
+//!
+//! Believed here: nothing but that these calls are worth making. Small
+//! alphabets make deep Prefixes; wide ones make every node grow and give way;
+//! crafted frames cut to the brim make each case succeed with its last slots
+//! and last bytes and fail for either.
+
+use crate::compare::{Compared, Comparer, Held};
+use crate::crafted::{build, Spare};
+use crate::layout::*;
+use crate::random::Random;
+use crate::slotless::{bodies, ByKind, State, Tree};
+use crate::store;
+use crate::trees::{aimed, random_tree, small_value, Change};
+use std::rc::Rc;
+
+/// How keys of one history look.
+enum Alphabet {
+    /// Any bytes of these, up to a length.
+    Few { letters: &'static [u8], longest: usize },
+    /// A long common beginning, cut anywhere, and a few bytes more.
+    LongBeginning,
+    /// One or two bytes of all.
+    Wide,
+}
+
+impl Alphabet {
+    fn key(&self, random: &mut Random) -> Vec<u8> {
+        match self {
+            Alphabet::Few { letters, longest } => {
+                let length = random.from_to(1, *longest);
+                (0..length).map(|_| *random.pick(letters)).collect()
+            }
+            Alphabet::LongBeginning => {
+                let start = *random.pick(&[0, 1, 20, 50, 51, 52, 100, 110, 111]);
+                let mut key = vec![b'p'; start];
+                let more = random.from_to(1, 4).min(LONGEST_KEY - start);
+                key.extend((0..more).map(|_| *random.pick(b"pqr")));
+                key
+            }
+            Alphabet::Wide => {
+                let first = *random.pick(b"mn");
+                match random.below(8) {
+                    0 => vec![first],
+                    1 => vec![random.key_byte()],
+                    _ => vec![first, random.key_byte()],
+                }
+            }
+        }
+    }
+}
+
+const REFUSED_KEYS: [&[u8]; 4] = [b"", b"a\0b", &[b'p'; 113], &[0; 200]];
+
+/// Puts, erases, look-ups, checks and packs over one frame after another.
+pub fn histories(comparer: &mut Comparer, seed: u64, rounds: u64) -> Compared<()> {
+    for round in 0..rounds {
+        comparer.begin(format!("history of seed {seed}, round {round}"));
+        let mut random = Random::new(seed.wrapping_mul(1_000_003).wrapping_add(round));
+        let (alphabet, f, n) = match round % 6 {
+            0 => (Alphabet::Few { letters: b"ab", longest: 6 }, 4_096, 100),
+            1 => (Alphabet::Few { letters: b"abc", longest: 40 }, 8_192, 64),
+            2 => (Alphabet::LongBeginning, 8_192, 100),
+            3 => (Alphabet::Wide, 32_768, 700),
+            4 => (Alphabet::Few { letters: b"abcdefghijklmnopqrst", longest: 2 }, 16_384, 400),
+            _ => (Alphabet::Few { letters: b"a\xff\x01", longest: 3 }, 1_024, 20),
+        };
+        let dirt = random.bytes(f);
+        let mut held = comparer.format(&dirt, f, n)?.expect("F and N are within the limits");
+        history(comparer, &mut random, &alphabet, &mut held)?;
+    }
+    Ok(())
+}
+
+fn history(
+    comparer: &mut Comparer,
+    random: &mut Random,
+    alphabet: &Alphabet,
+    held: &mut Held,
+) -> Compared<()> {
+    let wide = matches!(alphabet, Alphabet::Wide);
+    let phase = if wide { 300 } else { 60 };
+    for step in 0..phase * 8 {
+        let growing = step / phase % 2 == 0;
+        if step % phase == 0 && random.one_in(2) {
+            // Go on with the packed frame, or B would soon stand at F.
+            let out = random.bytes(held.bytes().len());
+            *held = comparer.pack(held, &out)?.expect("a good frame packs");
+        }
+        let key = match random.below(40) {
+            0 => random.pick(&REFUSED_KEYS).to_vec(),
+            _ => alphabet.key(random),
+        };
+        let put_chance = if growing { 8 } else { 2 };
+        if random.below(10) < put_chance {
+            let value = if wide { vec![] } else { small_value(random) };
+            comparer.put(held, &key, &value)?;
+        } else if random.one_in(3) {
+            comparer.erase(held, &key)?;
+        } else if let Some(there) = some_key(random, held.state()) {
+            comparer.erase(held, &there)?;
+        }
+        match random.below(12) {
+            0 => comparer.check(held)?,
+            1..=3 => comparer.look_up(held, &key)?,
+            4 => {
+                let out = random.bytes(held.bytes().len());
+                comparer.pack(held, &out)?;
+            }
+            _ => {}
+        }
+    }
+    Ok(())
+}
+
+fn some_key(random: &mut Random, state: &State) -> Option<Vec<u8>> {
+    let keys: Vec<Vec<u8>> = state.records().into_keys().collect();
+    (!keys.is_empty()).then(|| random.pick(&keys).clone())
+}
+
+fn make(comparer: &mut Comparer, held: &mut Held, change: &Change) -> Compared<u32> {
+    match change {
+        Change::Put { key, value } => comparer.put(held, key, value),
+        Change::Erase { key } => comparer.erase(held, key),
+    }
+}
+
+const ROOMY: Spare = Spare { slots: 16, bytes: 4_096 };
+
+/// One change aimed at a node, in crafted frames with just enough room for
+/// it, one slot less, one unit less, and both; then a few more in a roomy one.
+pub fn crafted_frames(comparer: &mut Comparer, seed: u64, rounds: u64) -> Compared<()> {
+    for round in 0..rounds {
+        comparer.begin(format!("crafted frames of seed {seed}, round {round}"));
+        let mut random = Random::new(seed.wrapping_mul(1_000_033).wrapping_add(round));
+        let random = &mut random;
+        let leaves = *random.pick(&[1, 2, 3, 5, 8, 14, 20, 40, 45, 60, 90]);
+        let tree = if random.one_in(25) { None } else { Some(random_tree(random, leaves)) };
+        let mut lists = ByKind::default();
+        let chances = random.from_to(1, 4);
+        for kind in Kind::ALL {
+            if random.one_in(chances) {
+                lists[kind.number()] = random.from_to(1, 3);
+            }
+        }
+        let dead = random.below(12) * UNIT;
+        let change = aimed(random, &tree);
+        let (_, mut roomy) = build(random, &tree, &lists, dead, ROOMY);
+        let told = match &change {
+            Change::Put { key, value } => roomy.put(key, value),
+            Change::Erase { key } => roomy.erase(key),
+        };
+        let (_, room) = told.case.expect("an aimed change is neither refused nor absent");
+        let (slots, bytes) = (room.fresh.len(), room.fresh_bytes);
+        let mut spares = vec![Spare { slots, bytes }];
+        if slots > 0 {
+            spares.push(Spare { slots: slots - 1, bytes });
+        }
+        if bytes > 0 {
+            spares.push(Spare { slots, bytes: bytes - UNIT });
+        }
+        if slots > 0 && bytes > 0 {
+            spares.push(Spare { slots: slots - 1, bytes: bytes - UNIT });
+        }
+        for spare in spares {
+            let mut held = crafted(comparer, random, &tree, &lists, dead, spare)?;
+            comparer.check(&held)?;
+            make(comparer, &mut held, &change)?;
+            comparer.look_up(&held, change.key())?;
+        }
+        let mut held = crafted(comparer, random, &tree, &lists, dead, ROOMY)?;
+        for _ in 0..4 {
+            let change = aimed(random, &held.state().tree);
+            make(comparer, &mut held, &change)?;
+            let near = aimed(random, &held.state().tree);
+            comparer.look_up(&held, near.key())?;
+            if let Change::Put { key, .. } = near {
+                // Absent keys too: look for one next to what is there.
+                comparer.erase(&mut held.clone(), &key)?;
+            }
+        }
+        let out = random.bytes(held.bytes().len());
+        comparer.pack(&held, &out)?;
+    }
+    Ok(())
+}
+
+fn crafted(
+    comparer: &Comparer,
+    random: &mut Random,
+    tree: &Option<Rc<Tree>>,
+    lists: &ByKind,
+    dead: usize,
+    spare: Spare,
+) -> Compared<Held> {
+    let (bytes, state) = build(random, tree, lists, dead, spare);
+    let held = Held::new(bytes);
+    match held.refusal() {
+        Some(refused) => comparer.differs(format!("a crafted frame is refused with {refused}")),
+        None if *held.state() != state => {
+            comparer.differs("a crafted frame does not read back".to_string())
+        }
+        None => Ok(held),
+    }
+}
+
+/// Good frames of the largest F and N, with high slot numbers and a long list.
+pub fn large_frames(comparer: &mut Comparer, seed: u64, rounds: u64) -> Compared<()> {
+    const LEAVES: usize = 1_500;
+    const SLOTS_LEFT: usize = 40;
+    for round in 0..rounds {
+        comparer.begin(format!("large frames of seed {seed}, round {round}"));
+        let mut random = Random::new(seed.wrapping_mul(1_000_037).wrapping_add(round));
+        let random = &mut random;
+        let tree = Some(random_tree(random, LEAVES));
+        let mut lists = ByKind::default();
+        lists[Kind::Leaf.number()] = random.below(3);
+        lists[Kind::Prefix.number()] = random.below(3);
+        let used: usize = bodies(&tree).iter().chain(&lists).sum();
+        lists[Kind::EmptyRoot.number()] = MOST_SLOTS - SLOTS_LEFT - used;
+        let tight = Spare { slots: SLOTS_LEFT, bytes: 0 };
+        let (shortest, _) = build(random, &tree, &lists, 0, tight);
+        let spare = Spare { bytes: LONGEST_FRAME - shortest.len(), ..tight };
+        let mut held = crafted(comparer, random, &tree, &lists, 0, spare)?;
+        for length in [32_767, 32_768, 65_535, 65_536, 1, 65_535, 65_534, 65_535, 65_535] {
+            let key = aimed(random, &held.state().tree).key().to_vec();
+            let value = vec![random.byte(); length];
+            comparer.put(&mut held, &key, &value)?;
+            comparer.look_up(&held, &key)?;
+        }
+        for _ in 0..30 {
+            let change = aimed(random, &held.state().tree);
+            make(comparer, &mut held, &change)?;
+        }
+        comparer.check(&held)?;
+        let out = random.bytes(held.bytes().len());
+        comparer.pack(&held, &out)?;
+    }
+    Ok(())
+}
+
+fn all_calls(comparer: &mut Comparer, random: &mut Random, held: &Held) -> Compared<()> {
+    comparer.check(held)?;
+    comparer.look_up(held, b"a")?;
+    comparer.put(&mut held.clone(), b"a", b"value")?;
+    comparer.erase(&mut held.clone(), b"a")?;
+    let out = random.bytes(held.bytes().len());
+    comparer.pack(held, &out)?;
+    Ok(())
+}
+
+/// Every call on a frame that is refused, or not.
+pub fn every_call(comparer: &mut Comparer, stage: String, bytes: Vec<u8>) -> Compared<()> {
+    comparer.begin(stage);
+    let mut random = Random::new(bytes.len() as u64);
+    all_calls(comparer, &mut random, &Held::new(bytes))
+}
+
+/// Bytes of any kind and length, with and without a likely header.
+pub fn arbitrary_bytes(comparer: &mut Comparer, seed: u64, rounds: u64) -> Compared<()> {
+    for round in 0..rounds {
+        comparer.begin(format!("arbitrary bytes of seed {seed}, round {round}"));
+        let mut random = Random::new(seed.wrapping_mul(1_000_039).wrapping_add(round));
+        let random = &mut random;
+        let length = match random.below(40) {
+            0 => *random.pick(&[LONGEST_FRAME - UNIT, LONGEST_FRAME, LONGEST_FRAME + UNIT]),
+            1..10 => random.below(80),
+            10..20 => random.below(3_000),
+            _ => random.from_to(SHORTEST_FRAME / UNIT, 400) * UNIT,
+        };
+        let mut bytes = random.bytes(length);
+        if length >= SHORTEST_FRAME && !random.one_in(4) {
+            let n = random.from_to(4, 40) * 2;
+            set32(&mut bytes, AT_EDITION, EDITION as usize);
+            set32(&mut bytes, AT_F, length);
+            if !random.one_in(4) {
+                set32(&mut bytes, AT_N, n);
+                set32(&mut bytes, AT_D, data_start(n));
+                set32(&mut bytes, AT_B, length / UNIT * UNIT);
+                set32(&mut bytes, AT_U, random.from_to(1, n));
+                set16(&mut bytes, AT_ROOT, random.from_to(1, n));
+                bytes[HEADER_ZERO].fill(0);
+            }
+        }
+        all_calls(comparer, random, &Held::new(bytes))?;
+    }
+    Ok(())
+}
+
+/// Good frames with a few bytes changed, wherever they are looked at.
+pub fn scratched_frames(comparer: &mut Comparer, seed: u64, rounds: u64) -> Compared<()> {
+    for round in 0..rounds {
+        comparer.begin(format!("scratched frames of seed {seed}, round {round}"));
+        let mut random = Random::new(seed.wrapping_mul(1_000_081).wrapping_add(round));
+        let random = &mut random;
+        let leaves = *random.pick(&[1, 3, 6, 20, 60]);
+        let tree = Some(random_tree(random, leaves));
+        let mut lists = ByKind::default();
+        for kind in Kind::ALL {
+            lists[kind.number()] = random.below(3);
+        }
+        let (good, state) = build(random, &tree, &lists, 2 * UNIT, ROOMY);
+        for _ in 0..20 {
+            let mut bytes = good.clone();
+            for _ in 0..random.from_to(1, 3) {
+                let at = match random.below(3) {
+                    0 => random.below(AT_ENTRIES),
+                    1 => entry_at(random.from_to(1, state.u)) + random.below(ENTRY_BYTES),
+                    _ => random.below(state.b),
+                };
+                bytes[at] = match random.below(3) {
+                    0 => bytes[at] ^ (1 << random.below(8)),
+                    1 => bytes[at].wrapping_add(1),
+                    _ => random.byte(),
+                };
+            }
+            all_calls(comparer, random, &Held::new(bytes))?;
+        }
+    }
+    Ok(())
+}
+
+/// A formatted frame, W5 and W10, and a frame with a Prefix, freed bodies and
+/// dead extents; all of 1,024 bytes.
+pub fn small_frames() -> Vec<Vec<u8>> {
+    let made = |n: usize, puts: &[&[u8]], erases: &[&[u8]]| {
+        let mut frame = vec![0; SHORTEST_FRAME];
+        assert_eq!(store::format(&mut frame, SHORTEST_FRAME, n), number::DONE);
+        for key in puts {
+            assert_eq!(store::put(&mut frame, key, b"v"), number::DONE);
+        }
+        for key in erases {
+            assert_eq!(store::erase(&mut frame, key), number::DONE);
+        }
+        frame
+    };
+    vec![
+        made(8, &[], &[]),
+        made(8, &[b"a", b"b", b"ab", b"ac"], &[]),
+        made(8, &[b"x", b"ab", b"ac"], &[b"x"]),
+        made(20, &[b"long", b"lose", b"loss", b"lost", b"l", b"m"], &[b"loss", b"m"]),
+    ]
+}
+
+/// Every change of one byte in a few small frames; bytes from B on, which are
+/// not looked at, get only a few values.
+pub fn single_bytes(comparer: &mut Comparer, frames: &[Vec<u8>]) -> Compared<()> {
+    const FEW_VALUES: [u8; 3] = [1, 0x80, 0xFF];
+    for (frame, bytes) in frames.iter().enumerate() {
+        comparer.begin(format!("single bytes of frame {frame}"));
+        let mut bytes = bytes.clone();
+        for at in 0..bytes.len() {
+            let kept = bytes[at];
+            let all = 1..=u8::MAX;
+            let few = FEW_VALUES.into_iter();
+            let flips: Vec<u8> =
+                if at < get32(&bytes, AT_B) { all.collect() } else { few.collect() };
+            for flip in flips {
+                bytes[at] = kept ^ flip;
+                comparer.check(&Held::new(bytes.clone()))?;
+            }
+            bytes[at] = kept;
+        }
+    }
+    Ok(())
+}

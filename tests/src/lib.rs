@@ -1,0 +1,25 @@
+//! A second settings store, written from document 01 alone, and the harness
+//! that compares any store with it.
+//!
+//! `layout`, `check` and `store` are the second store. `slotless` and `image`
+//! are two further readings of document 01, and the store is held to both.
+//! `compare` holds any six calls to all of them; `run` is what the gate runs.
+
+pub mod check;
+pub mod compare;
+pub mod crafted;
+pub mod damage;
+pub mod decode;
+pub mod exported;
+pub mod history;
+pub mod image;
+pub mod layout;
+pub mod random;
+pub mod run;
+pub mod slotless;
+pub mod store;
+pub mod tally;
+pub mod touched;
+pub mod trees;
+pub mod worked;
+pub mod wrong;

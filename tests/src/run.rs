@@ -1,0 +1,67 @@
+//! The whole comparison, as the gate runs it.
+//!
+//! Believed here: that these stages together reach every case. Seeds are
+//! fixed unless the environment names others.
+
+use crate::compare::{Calls, Compared, Comparer};
+use crate::tally::Tally;
+use crate::{damage, history, worked};
+use std::env;
+
+/// Which random calls are made, and how many.
+#[derive(Clone, Copy, Debug)]
+pub struct Effort {
+    pub seed: u64,
+    /// Every number of rounds is multiplied by this.
+    pub rounds: u64,
+}
+
+pub const SEED_VARIABLE: &str = "SECOND_STORE_SEED";
+pub const ROUNDS_VARIABLE: &str = "SECOND_STORE_ROUNDS";
+const FIXED: Effort = Effort { seed: 1, rounds: 1 };
+
+impl Effort {
+    pub fn from_environment() -> Effort {
+        let number = |name: &str, fixed: u64| match env::var(name) {
+            Err(_) => fixed,
+            Ok(text) => text.parse().unwrap_or_else(|_| panic!("{name} is no number: {text}")),
+        };
+        Effort {
+            seed: number(SEED_VARIABLE, FIXED.seed),
+            rounds: number(ROUNDS_VARIABLE, FIXED.rounds),
+        }
+    }
+}
+
+/// Stops at the first difference; gives the cases that were reached.
+pub fn all_stages(calls: &dyn Calls, effort: Effort) -> Compared<Tally> {
+    let Effort { seed, rounds } = effort;
+    let mut comparer = Comparer::new(calls);
+    damages(&mut comparer)?;
+    printed_figures(&mut comparer)?;
+    history::crafted_frames(&mut comparer, seed, rounds * 2_000)?;
+    history::histories(&mut comparer, seed, rounds * 12)?;
+    history::scratched_frames(&mut comparer, seed, rounds * 100)?;
+    history::arbitrary_bytes(&mut comparer, seed, rounds * 500)?;
+    history::large_frames(&mut comparer, seed, rounds * 2)?;
+    Ok(std::mem::take(&mut comparer.tally))
+}
+
+pub fn printed_figures(comparer: &mut Comparer) -> Compared<()> {
+    worked::worked_frames(comparer)?;
+    worked::order_of_refusals(comparer)?;
+    worked::format_limits(comparer)?;
+    worked::lengths_at_the_limits(comparer)?;
+    worked::growth_and_shrinking(comparer)
+}
+
+pub fn damages(comparer: &mut Comparer) -> Compared<()> {
+    for frame in damage::undamaged() {
+        history::every_call(comparer, "the frame before any damage".to_string(), frame)?;
+    }
+    for damage in damage::all() {
+        let stage = format!("damage: {}", damage.name);
+        history::every_call(comparer, stage, damage.bytes.clone())?;
+    }
+    Ok(())
+}

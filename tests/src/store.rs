@@ -1,0 +1,687 @@
+//! The second store, over the bytes of a lent frame.
+//!
+//! Believed here: format, look-up, put, erase and pack of document 01. Clear
+//! before fast: every call checks the whole frame, works out all it needs,
+//! compares that with the room left, and only then writes.
+
+use crate::check::check;
+use crate::layout::number::*;
+use crate::layout::*;
+use std::collections::BTreeMap;
+
+pub type Records = BTreeMap<Vec<u8>, Vec<u8>>;
+
+pub fn format(frame: &mut [u8], f: usize, n: usize) -> u32 {
+    if !frame_length_allowed(f) || !slot_capacity_allowed(n) || frame.len() != f {
+        return LENGTHS;
+    }
+    let d = data_start(n);
+    if d + Kind::EmptyRoot.body_bytes() > f {
+        return LENGTHS;
+    }
+    frame.fill(0);
+    set32(frame, AT_EDITION, EDITION as usize);
+    set32(frame, AT_F, f);
+    set32(frame, AT_N, n);
+    set32(frame, AT_D, d);
+    set32(frame, AT_B, d);
+    let root = take(frame, Kind::EmptyRoot);
+    set16(frame, AT_ROOT, root);
+    DONE
+}
+
+/// The number, and the place and length of the value.
+pub fn look_up(frame: &[u8], key: &[u8]) -> (u32, u64, u64) {
+    match find(frame, key) {
+        Err(number) => (number, 0, 0),
+        Ok(leaf) => {
+            let place = leaf.extent + leaf.key_length;
+            (DONE, place as u64, leaf.value_length as u64)
+        }
+    }
+}
+
+/// The value as a part of the frame; an empty part at its start otherwise.
+pub fn value<'a>(frame: &'a [u8], key: &[u8]) -> &'a [u8] {
+    match find(frame, key) {
+        Err(_) => &frame[..0],
+        Ok(leaf) => &frame[leaf.extent + leaf.key_length..][..leaf.value_length],
+    }
+}
+
+fn find(frame: &[u8], key: &[u8]) -> Result<LeafFields, u32> {
+    refusal(frame, key)?;
+    let steps = walk(frame, &walked(key));
+    present(frame, &steps, key).ok_or(ABSENT)
+}
+
+pub fn put(frame: &mut [u8], key: &[u8], value: &[u8]) -> u32 {
+    put_or_refuse(frame, key, value).unwrap_or_else(|refused| refused)
+}
+
+fn put_or_refuse(frame: &mut [u8], key: &[u8], value: &[u8]) -> Result<u32, u32> {
+    refusal(frame, key)?;
+    if value.len() > LONGEST_VALUE {
+        return Err(VALUE_LENGTH);
+    }
+    let string = walked(key);
+    let steps = walk(frame, &string);
+    if let Some(leaf) = present(frame, &steps, key) {
+        return put_present(frame, last(&steps), &leaf, key, value);
+    }
+    let end = last(&steps);
+    let record = NewRecord { key, value, rest: &string[end.depth..] };
+    match end.kind {
+        Kind::EmptyRoot => replace_empty_root(frame, end, &record)?,
+        Kind::Leaf => split_leaf(frame, end, &record)?,
+        Kind::Prefix => cut_prefix(frame, end, &record)?,
+        _ => add_to_inner(frame, end, &record)?,
+    }
+    set32(frame, AT_R, get32(frame, AT_R) + 1);
+    Ok(DONE)
+}
+
+/// A record whose key is absent, with the walked bytes left at the walk's end.
+struct NewRecord<'a> {
+    key: &'a [u8],
+    value: &'a [u8],
+    rest: &'a [u8],
+}
+
+impl NewRecord<'_> {
+    /// Room for the extent, a Leaf and what is needed besides.
+    fn room(&self, frame: &[u8], besides: &[Kind]) -> Result<(), u32> {
+        let bodies = [&[Kind::Leaf], besides].concat();
+        room(frame, &bodies, extent_bytes(self.key.len(), self.value.len()))
+    }
+
+    fn add_leaf(&self, frame: &mut [u8]) -> usize {
+        add_leaf(frame, self.key, self.value)
+    }
+}
+
+fn replace_empty_root(frame: &mut [u8], end: &Step, record: &NewRecord) -> Result<(), u32> {
+    record.room(frame, &[])?;
+    let leaf = record.add_leaf(frame);
+    set_link(frame, end.link, leaf);
+    release(frame, end.slot, Kind::EmptyRoot);
+    Ok(())
+}
+
+/// A Leaf with another key: a Node4, and a Prefix if they share bytes.
+fn split_leaf(frame: &mut [u8], end: &Step, record: &NewRecord) -> Result<(), u32> {
+    let there = leaf_walked(frame, end.slot);
+    let there = &there[end.depth..];
+    let q = shared(record.rest, there);
+    if q == 0 {
+        record.room(frame, &[Kind::Node4])?;
+    } else {
+        record.room(frame, &[Kind::Node4, Kind::Prefix])?;
+    }
+    let leaf = record.add_leaf(frame);
+    let node = take(frame, Kind::Node4);
+    write_inner(frame, node, &sorted([(there[q], end.slot), (record.rest[q], leaf)]));
+    if q == 0 {
+        set_link(frame, end.link, node);
+    } else {
+        let prefix = take(frame, Kind::Prefix);
+        write_prefix(frame, prefix, &there[..q], node);
+        set_link(frame, end.link, prefix);
+    }
+    Ok(())
+}
+
+/// A Prefix that does not match: a Node4 between the part before and the part
+/// after. If both have bytes, the part before keeps the old body.
+fn cut_prefix(frame: &mut [u8], end: &Step, record: &NewRecord) -> Result<(), u32> {
+    let bytes = prefix_bytes(frame, end.slot);
+    let below = prefix_child(frame, end.slot);
+    let q = shared(record.rest, &bytes);
+    let (before, after) = (&bytes[..q], &bytes[q + 1..]);
+    let both = !before.is_empty() && !after.is_empty();
+    if both {
+        record.room(frame, &[Kind::Node4, Kind::Prefix])?;
+    } else {
+        record.room(frame, &[Kind::Node4])?;
+    }
+    let leaf = record.add_leaf(frame);
+    let node = take(frame, Kind::Node4);
+    let lower = if after.is_empty() {
+        below
+    } else {
+        let lower = if both { take(frame, Kind::Prefix) } else { end.slot };
+        write_prefix(frame, lower, after, below);
+        lower
+    };
+    write_inner(frame, node, &sorted([(bytes[q], lower), (record.rest[q], leaf)]));
+    if before.is_empty() {
+        set_link(frame, end.link, node);
+    } else {
+        write_prefix(frame, end.slot, before, node);
+    }
+    if before.is_empty() && after.is_empty() {
+        release(frame, end.slot, Kind::Prefix);
+    }
+    Ok(())
+}
+
+/// An inner node without the byte: it takes the Leaf, or grows if it is full.
+fn add_to_inner(frame: &mut [u8], end: &Step, record: &NewRecord) -> Result<(), u32> {
+    let byte = record.rest[0];
+    let children = children(frame, end.slot);
+    if children.len() < end.kind.most_children() {
+        record.room(frame, &[])?;
+        let leaf = record.add_leaf(frame);
+        add_child(frame, end.slot, byte, leaf);
+        return Ok(());
+    }
+    let larger = end.kind.larger().expect("a Node256 is never full without a byte");
+    record.room(frame, &[larger])?;
+    let leaf = record.add_leaf(frame);
+    let grown = take(frame, larger);
+    write_inner(frame, grown, &children);
+    add_child(frame, grown, byte, leaf);
+    set_link(frame, end.link, grown);
+    release(frame, end.slot, end.kind);
+    Ok(())
+}
+
+fn put_present(
+    frame: &mut [u8],
+    step: &Step,
+    leaf: &LeafFields,
+    key: &[u8],
+    value: &[u8],
+) -> Result<u32, u32> {
+    if leaf.value_length == value.len() {
+        frame[leaf.extent + leaf.key_length..][..value.len()].copy_from_slice(value);
+        return Ok(REPLACED);
+    }
+    room(frame, &[], extent_bytes(key.len(), value.len()))?;
+    let extent = write_extent(frame, key, value);
+    write_leaf(frame, step.slot, extent, key.len(), value.len());
+    retire(frame, leaf);
+    Ok(REPLACED)
+}
+
+pub fn erase(frame: &mut [u8], key: &[u8]) -> u32 {
+    erase_or_refuse(frame, key).unwrap_or_else(|refused| refused)
+}
+
+fn erase_or_refuse(frame: &mut [u8], key: &[u8]) -> Result<u32, u32> {
+    refusal(frame, key)?;
+    let string = walked(key);
+    let steps = walk(frame, &string);
+    let leaf = present(frame, &steps, key).ok_or(ABSENT)?;
+    if get32(frame, AT_R) == 1 {
+        let (f, n) = (get32(frame, AT_F), get32(frame, AT_N));
+        return Ok(format(frame, f, n));
+    }
+    let [above @ .., node, leaf_step] = &steps[..] else {
+        panic!("a Leaf beside others stands under an inner node");
+    };
+    let byte = string[leaf_step.depth - 1];
+    let left: Vec<(u8, usize)> =
+        children(frame, node.slot).into_iter().filter(|child| child.0 != byte).collect();
+    if left.len() == 1 {
+        collapse(frame, above, node, left[0])?;
+    } else if node.kind.shrink_mark() == Some(left.len()) {
+        let smaller = node.kind.smaller().expect("a kind with a mark has a smaller one");
+        room(frame, &[smaller], 0)?;
+        let shrunk = take(frame, smaller);
+        write_inner(frame, shrunk, &left);
+        set_link(frame, node.link, shrunk);
+        release(frame, node.slot, node.kind);
+    } else {
+        remove_child(frame, node.slot, byte);
+    }
+    retire(frame, &leaf);
+    release(frame, leaf_step.slot, Kind::Leaf);
+    set32(frame, AT_R, get32(frame, AT_R) - 1);
+    Ok(DONE)
+}
+
+/// A Node4 with one child left is freed, and its byte goes into a Prefix if
+/// the child is no Leaf.
+fn collapse(
+    frame: &mut [u8],
+    above: &[Step],
+    node: &Step,
+    (byte, child): (u8, usize),
+) -> Result<(), u32> {
+    let upper = above.last().filter(|step| step.kind == Kind::Prefix);
+    match (slot_kind(frame, child), upper) {
+        (Kind::Leaf, None) => set_link(frame, node.link, child),
+        (Kind::Leaf, Some(upper)) => {
+            set_link(frame, upper.link, child);
+            release(frame, upper.slot, Kind::Prefix);
+        }
+        (Kind::Prefix, None) => {
+            let joined = [&[byte][..], &prefix_bytes(frame, child)].concat();
+            let below = prefix_child(frame, child);
+            write_prefix(frame, child, &joined, below);
+            set_link(frame, node.link, child);
+        }
+        (Kind::Prefix, Some(upper)) => {
+            let start = prefix_bytes(frame, upper.slot);
+            let joined = [&start[..], &[byte], &prefix_bytes(frame, child)].concat();
+            let below = prefix_child(frame, child);
+            write_prefix(frame, upper.slot, &joined, below);
+            release(frame, child, Kind::Prefix);
+        }
+        (_, None) => {
+            room(frame, &[Kind::Prefix], 0)?;
+            let prefix = take(frame, Kind::Prefix);
+            write_prefix(frame, prefix, &[byte], child);
+            set_link(frame, node.link, prefix);
+        }
+        (_, Some(upper)) => {
+            let start = prefix_bytes(frame, upper.slot);
+            write_prefix(frame, upper.slot, &[&start[..], &[byte]].concat(), child);
+        }
+    }
+    release(frame, node.slot, Kind::Node4);
+    Ok(())
+}
+
+pub fn pack(frame: &[u8], out: &mut [u8]) -> u32 {
+    let checked = check(frame);
+    if checked != DONE {
+        return checked;
+    }
+    if out.len() != frame.len() {
+        return OUTPUT_LENGTH;
+    }
+    let (f, n) = (get32(frame, AT_F), get32(frame, AT_N));
+    assert_eq!(format(out, f, n), DONE, "a good frame's F and N can be formatted");
+    let records = get32(frame, AT_R);
+    if records > 0 {
+        // Slot 1 and the bytes at D are given out anew, as format gave them.
+        out[data_start(n)..].fill(0);
+        set32(out, AT_U, 0);
+        set32(out, AT_B, data_start(n));
+        let root = pack_slot(frame, get16(frame, AT_ROOT), out);
+        set16(out, AT_ROOT, root);
+        set32(out, AT_R, records);
+    }
+    DONE
+}
+
+/// Packs a live slot and all below it, parent first; gives the new slot.
+fn pack_slot(frame: &[u8], slot: usize, out: &mut [u8]) -> usize {
+    match slot_kind(frame, slot) {
+        Kind::EmptyRoot => panic!("a frame with records has no EmptyRoot"),
+        Kind::Leaf => {
+            let leaf = leaf_fields(frame, slot);
+            let (key, value) = frame[leaf.extent..][..leaf.key_length + leaf.value_length]
+                .split_at(leaf.key_length);
+            add_leaf(out, key, value)
+        }
+        Kind::Prefix => {
+            let packed = take(out, Kind::Prefix);
+            let child = pack_slot(frame, prefix_child(frame, slot), out);
+            write_prefix(out, packed, &prefix_bytes(frame, slot), child);
+            packed
+        }
+        _ => {
+            let children = children(frame, slot);
+            let packed = take(out, Kind::smallest_for(children.len()));
+            let moved: Vec<(u8, usize)> = children
+                .into_iter()
+                .map(|(byte, child)| (byte, pack_slot(frame, child, out)))
+                .collect();
+            write_inner(out, packed, &moved);
+            packed
+        }
+    }
+}
+
+/// The record set of a good frame.
+pub fn records(frame: &[u8]) -> Records {
+    let mut found = Records::new();
+    gather(frame, get16(frame, AT_ROOT), &mut found);
+    found
+}
+
+fn gather(frame: &[u8], slot: usize, found: &mut Records) {
+    match slot_kind(frame, slot) {
+        Kind::EmptyRoot => {}
+        Kind::Leaf => {
+            let leaf = leaf_fields(frame, slot);
+            let (key, value) = frame[leaf.extent..][..leaf.key_length + leaf.value_length]
+                .split_at(leaf.key_length);
+            found.insert(key.to_vec(), value.to_vec());
+        }
+        Kind::Prefix => gather(frame, prefix_child(frame, slot), found),
+        _ => {
+            for (_, child) in children(frame, slot) {
+                gather(frame, child, found);
+            }
+        }
+    }
+}
+
+// Refusals and room.
+
+fn refusal(frame: &[u8], key: &[u8]) -> Result<(), u32> {
+    match check(frame) {
+        DONE => key_refusal(key).map_or(Ok(()), Err),
+        refused => Err(refused),
+    }
+}
+
+/// Bodies come from their lists first; an extent always comes from B.
+fn room(frame: &[u8], bodies: &[Kind], extent: usize) -> Result<(), u32> {
+    let fresh: Vec<Kind> = bodies
+        .iter()
+        .copied()
+        .filter(|kind| get16(frame, list_head_at(kind.number())) == 0)
+        .collect();
+    let bytes = fresh.iter().map(|kind| kind.body_bytes()).sum::<usize>() + extent;
+    let slots_left = get32(frame, AT_N) - get32(frame, AT_U);
+    let bytes_left = get32(frame, AT_F) - get32(frame, AT_B);
+    if fresh.len() > slots_left || bytes > bytes_left {
+        Err(NO_ROOM)
+    } else {
+        Ok(())
+    }
+}
+
+// The way a key leads.
+
+/// The field that names a slot.
+#[derive(Clone, Copy, Debug)]
+pub(crate) enum Link {
+    Root,
+    /// The place in the frame of a child field.
+    Child(usize),
+}
+
+/// A slot on the way, with the number of walked bytes that lead to it.
+#[derive(Clone, Copy, Debug)]
+pub(crate) struct Step {
+    pub link: Link,
+    pub slot: usize,
+    pub kind: Kind,
+    pub depth: usize,
+}
+
+/// From the root as far as the walked string leads. The last step is a Leaf,
+/// an EmptyRoot, a Prefix that does not match or an inner node without the byte.
+pub(crate) fn walk(frame: &[u8], string: &[u8]) -> Vec<Step> {
+    let mut steps = Vec::new();
+    let (mut link, mut depth) = (Link::Root, 0);
+    loop {
+        let slot = linked(frame, link);
+        let kind = slot_kind(frame, slot);
+        steps.push(Step { link, slot, kind, depth });
+        let next = match kind {
+            Kind::EmptyRoot | Kind::Leaf => None,
+            Kind::Prefix => {
+                let bytes = prefix_bytes(frame, slot);
+                let matched = string[depth..].starts_with(&bytes);
+                matched.then(|| (Link::Child(body_at(frame, slot) + PREFIX_CHILD), bytes.len()))
+            }
+            _ => child_field(frame, slot, string[depth]).map(|at| (Link::Child(at), 1)),
+        };
+        match next {
+            None => return steps,
+            Some((field, bytes)) => {
+                link = field;
+                depth += bytes;
+            }
+        }
+    }
+}
+
+fn last(steps: &[Step]) -> &Step {
+    steps.last().expect("a walk has at least the root")
+}
+
+/// The Leaf at the end of the walk, if it holds this very key.
+fn present(frame: &[u8], steps: &[Step], key: &[u8]) -> Option<LeafFields> {
+    let end = last(steps);
+    if end.kind != Kind::Leaf {
+        return None;
+    }
+    let leaf = leaf_fields(frame, end.slot);
+    (&frame[leaf.extent..][..leaf.key_length] == key).then_some(leaf)
+}
+
+fn linked(frame: &[u8], link: Link) -> usize {
+    match link {
+        Link::Root => get16(frame, AT_ROOT),
+        Link::Child(at) => get32(frame, at),
+    }
+}
+
+pub(crate) fn set_link(frame: &mut [u8], link: Link, slot: usize) {
+    match link {
+        Link::Root => set16(frame, AT_ROOT, slot),
+        Link::Child(at) => set32(frame, at, slot),
+    }
+}
+
+// Slots and lists.
+
+pub(crate) fn body_at(frame: &[u8], slot: usize) -> usize {
+    get_entry(frame, slot).0
+}
+
+/// Only for a slot that is known to be live.
+pub(crate) fn slot_kind(frame: &[u8], slot: usize) -> Kind {
+    Kind::of_number(get_entry(frame, slot).1).expect("a live slot of a good frame has a kind")
+}
+
+/// A body from its list, or slot U + 1 and bytes at B. The body's bytes are
+/// left for the writer.
+pub(crate) fn take(frame: &mut [u8], kind: Kind) -> usize {
+    let head_at = list_head_at(kind.number());
+    let head = get16(frame, head_at);
+    if head != 0 {
+        let (offset, next) = get_entry(frame, head);
+        set16(frame, head_at, next);
+        set_entry(frame, head, offset, kind.number());
+        return head;
+    }
+    let slot = get32(frame, AT_U) + 1;
+    let offset = get32(frame, AT_B);
+    set32(frame, AT_U, slot);
+    set32(frame, AT_B, offset + kind.body_bytes());
+    set_entry(frame, slot, offset, kind.number());
+    slot
+}
+
+pub(crate) fn release(frame: &mut [u8], slot: usize, kind: Kind) {
+    let head_at = list_head_at(kind.number());
+    let next = get16(frame, head_at);
+    let offset = body_at(frame, slot);
+    set_entry(frame, slot, offset, next);
+    set16(frame, head_at, slot);
+}
+
+// Leaves and extents.
+
+pub(crate) struct LeafFields {
+    pub extent: usize,
+    pub key_length: usize,
+    pub value_length: usize,
+}
+
+pub(crate) fn leaf_fields(frame: &[u8], slot: usize) -> LeafFields {
+    let body = body_at(frame, slot);
+    LeafFields {
+        extent: get32(frame, body + LEAF_EXTENT),
+        key_length: get16(frame, body + LEAF_KEY_LENGTH),
+        value_length: get16(frame, body + LEAF_VALUE_LENGTH),
+    }
+}
+
+pub(crate) fn leaf_walked(frame: &[u8], slot: usize) -> Vec<u8> {
+    let leaf = leaf_fields(frame, slot);
+    walked(&frame[leaf.extent..][..leaf.key_length])
+}
+
+/// A new Leaf with a new extent.
+pub(crate) fn add_leaf(frame: &mut [u8], key: &[u8], value: &[u8]) -> usize {
+    let leaf = take(frame, Kind::Leaf);
+    let extent = write_extent(frame, key, value);
+    write_leaf(frame, leaf, extent, key.len(), value.len());
+    leaf
+}
+
+/// A new extent at B, its padding zero; gives its place.
+pub(crate) fn write_extent(frame: &mut [u8], key: &[u8], value: &[u8]) -> usize {
+    let at = get32(frame, AT_B);
+    let size = extent_bytes(key.len(), value.len());
+    let extent = &mut frame[at..at + size];
+    extent.fill(0);
+    extent[..key.len()].copy_from_slice(key);
+    extent[key.len()..key.len() + value.len()].copy_from_slice(value);
+    set32(frame, AT_B, at + size);
+    at
+}
+
+pub(crate) fn write_leaf(frame: &mut [u8], slot: usize, extent: usize, key: usize, value: usize) {
+    let body = clear_body(frame, slot, Kind::Leaf);
+    set32(frame, body + LEAF_EXTENT, extent);
+    set16(frame, body + LEAF_KEY_LENGTH, key);
+    set16(frame, body + LEAF_VALUE_LENGTH, value);
+}
+
+fn retire(frame: &mut [u8], leaf: &LeafFields) {
+    let dead = get32(frame, AT_X) + extent_bytes(leaf.key_length, leaf.value_length);
+    set32(frame, AT_X, dead);
+}
+
+fn clear_body(frame: &mut [u8], slot: usize, kind: Kind) -> usize {
+    let body = body_at(frame, slot);
+    frame[body..body + kind.body_bytes()].fill(0);
+    body
+}
+
+// Prefixes.
+
+pub(crate) fn prefix_bytes(frame: &[u8], slot: usize) -> Vec<u8> {
+    let body = body_at(frame, slot);
+    let length = get16(frame, body + PREFIX_LENGTH);
+    frame[body + PREFIX_BYTES.start..][..length].to_vec()
+}
+
+pub(crate) fn prefix_child(frame: &[u8], slot: usize) -> usize {
+    get32(frame, body_at(frame, slot) + PREFIX_CHILD)
+}
+
+pub(crate) fn write_prefix(frame: &mut [u8], slot: usize, bytes: &[u8], child: usize) {
+    assert!((1..=LONGEST_PREFIX).contains(&bytes.len()), "a Prefix has 1 to 112 bytes");
+    let body = clear_body(frame, slot, Kind::Prefix);
+    set32(frame, body + PREFIX_CHILD, child);
+    set16(frame, body + PREFIX_LENGTH, bytes.len());
+    frame[body + PREFIX_BYTES.start..][..bytes.len()].copy_from_slice(bytes);
+}
+
+// Inner nodes.
+
+fn sorted(mut pair: [(u8, usize); 2]) -> [(u8, usize); 2] {
+    pair.sort();
+    pair
+}
+
+/// The place in the frame of the field that names the child at this byte.
+fn child_field(frame: &[u8], slot: usize, byte: u8) -> Option<usize> {
+    let (body, kind) = (body_at(frame, slot), slot_kind(frame, slot));
+    let index = match kind {
+        Kind::Node256 => {
+            let index = usize::from(byte);
+            (get32(frame, body + kind.child_at(index)) != 0).then_some(index)
+        }
+        Kind::Node48 => {
+            let place = frame[body + NODE48_INDEX + usize::from(byte)];
+            (place != 0).then(|| usize::from(place) - 1)
+        }
+        _ => {
+            let count = get16(frame, body + INNER_COUNT);
+            let start = kind.branch_bytes().expect("a Node4 or a Node16").start;
+            frame[body + start..][..count].iter().position(|there| *there == byte)
+        }
+    };
+    index.map(|index| body + kind.child_at(index))
+}
+
+/// Bytes and child slots of an inner node, in byte order.
+pub(crate) fn children(frame: &[u8], slot: usize) -> Vec<(u8, usize)> {
+    let (body, kind) = (body_at(frame, slot), slot_kind(frame, slot));
+    let bytes = match kind.branch_bytes() {
+        None => (0..=u8::MAX).collect(),
+        Some(field) => {
+            let count = get16(frame, body + INNER_COUNT);
+            frame[body + field.start..][..count].to_vec()
+        }
+    };
+    let child = |byte| child_field(frame, slot, byte).map(|at| (byte, get32(frame, at)));
+    bytes.into_iter().filter_map(child).collect()
+}
+
+/// Writes the whole body anew; `children` are in byte order, and in a Node48
+/// they take places 1, 2 and so on.
+pub(crate) fn write_inner(frame: &mut [u8], slot: usize, children: &[(u8, usize)]) {
+    let kind = slot_kind(frame, slot);
+    let body = clear_body(frame, slot, kind);
+    set16(frame, body + INNER_COUNT, children.len());
+    for (index, (byte, child)) in children.iter().enumerate() {
+        let at_byte = usize::from(*byte);
+        match kind {
+            Kind::Node256 => set32(frame, body + kind.child_at(at_byte), *child),
+            Kind::Node48 => {
+                frame[body + NODE48_INDEX + at_byte] = place_number(index);
+                set32(frame, body + kind.child_at(index), *child);
+            }
+            _ => {
+                let start = kind.branch_bytes().expect("a Node4 or a Node16").start;
+                frame[body + start + index] = *byte;
+                set32(frame, body + kind.child_at(index), *child);
+            }
+        }
+    }
+}
+
+fn place_number(index: usize) -> u8 {
+    u8::try_from(index + 1).expect("a place from 1 to 48")
+}
+
+/// Adds a child to a node that is not full.
+fn add_child(frame: &mut [u8], slot: usize, byte: u8, child: usize) {
+    let (body, kind) = (body_at(frame, slot), slot_kind(frame, slot));
+    let mut all = children(frame, slot);
+    match kind {
+        Kind::Node48 => {
+            let lowest_empty = (0..kind.most_children())
+                .find(|index| get32(frame, body + kind.child_at(*index)) == 0)
+                .expect("a Node48 that is not full has an empty place");
+            frame[body + NODE48_INDEX + usize::from(byte)] = place_number(lowest_empty);
+            set32(frame, body + kind.child_at(lowest_empty), child);
+            set16(frame, body + INNER_COUNT, all.len() + 1);
+        }
+        _ => {
+            all.push((byte, child));
+            all.sort();
+            write_inner(frame, slot, &all);
+        }
+    }
+}
+
+/// Takes a child away; what stays in a Node48 keeps its place.
+pub(crate) fn remove_child(frame: &mut [u8], slot: usize, byte: u8) {
+    let (body, kind) = (body_at(frame, slot), slot_kind(frame, slot));
+    let mut left = children(frame, slot);
+    left.retain(|child| child.0 != byte);
+    match kind {
+        Kind::Node48 => {
+            let field = child_field(frame, slot, byte).expect("the child to take away is there");
+            set32(frame, field, 0);
+            frame[body + NODE48_INDEX + usize::from(byte)] = 0;
+            set16(frame, body + INNER_COUNT, left.len());
+        }
+        _ => write_inner(frame, slot, &left),
+    }
+}

@@ -1,0 +1,182 @@
+//! Which cases a run has reached.
+//!
+//! Believed here: the list of everything a put, an erase and the other calls
+//! can come to. A run that never reaches an entry of it proves nothing about
+//! that entry, and fails.
+
+use crate::layout::{number::*, Kind};
+use crate::slotless::{Case, End, Survivor, Told};
+use std::collections::BTreeMap;
+
+#[derive(Clone, Copy, PartialEq, Eq, PartialOrd, Ord, Debug)]
+pub enum Call {
+    Format,
+    Check,
+    LookUp,
+    Put,
+    Erase,
+    Pack,
+}
+
+/// How a case ended.
+#[derive(Clone, Copy, PartialEq, Eq, PartialOrd, Ord, Debug)]
+pub enum Outcome {
+    Done,
+    /// Done, with not one slot left after it.
+    DoneWithLastSlots,
+    /// Done, with not one byte left after it.
+    DoneWithLastBytes,
+    /// Refused for slots alone.
+    NoSlots,
+    /// Refused for bytes alone.
+    NoBytes,
+    /// Refused for slots and for bytes.
+    NoSlotsNorBytes,
+}
+
+#[derive(Clone, Copy, PartialEq, Eq, PartialOrd, Ord, Debug)]
+pub enum Entry {
+    Number(Call, u32),
+    Ended(Case, Outcome),
+    FromList(Call, Kind),
+    Fresh(Call, Kind),
+    Absent(Call, End),
+}
+
+#[derive(Clone, Default, Debug)]
+pub struct Tally {
+    counts: BTreeMap<Entry, u64>,
+}
+
+impl Tally {
+    pub fn add(&mut self, entry: Entry) {
+        *self.counts.entry(entry).or_default() += 1;
+    }
+
+    pub fn count(&mut self, call: Call, told: &Told) {
+        self.add(Entry::Number(call, told.number));
+        if let Some(end) = told.end {
+            self.add(Entry::Absent(call, end));
+        }
+        let Some((case, room)) = &told.case else {
+            return;
+        };
+        let outcome = match (room.lacks_slots(), room.lacks_bytes()) {
+            (true, true) => Outcome::NoSlotsNorBytes,
+            (true, false) => Outcome::NoSlots,
+            (false, true) => Outcome::NoBytes,
+            (false, false) => Outcome::Done,
+        };
+        self.add(Entry::Ended(*case, outcome));
+        if outcome != Outcome::Done {
+            return;
+        }
+        if !room.fresh.is_empty() && room.fresh.len() == room.slots_left {
+            self.add(Entry::Ended(*case, Outcome::DoneWithLastSlots));
+        }
+        if room.fresh_bytes > 0 && room.fresh_bytes == room.bytes_left {
+            self.add(Entry::Ended(*case, Outcome::DoneWithLastBytes));
+        }
+        for kind in &room.from_list {
+            self.add(Entry::FromList(call, *kind));
+        }
+        for kind in &room.fresh {
+            self.add(Entry::Fresh(call, *kind));
+        }
+    }
+
+    pub fn counts(&self) -> impl Iterator<Item = (&Entry, &u64)> {
+        self.counts.iter()
+    }
+
+    pub fn never_reached(&self) -> Vec<Entry> {
+        expected().into_iter().filter(|entry| !self.counts.contains_key(entry)).collect()
+    }
+}
+
+pub fn cases() -> Vec<Case> {
+    let mut all = vec![
+        Case::PutInEmptyFrame,
+        Case::PutSameLength,
+        Case::PutOtherLength { same_rounded: true },
+        Case::PutOtherLength { same_rounded: false },
+        Case::EraseOnlyRecord,
+    ];
+    for kind in Kind::INNER {
+        all.extend([Case::PutAdds(kind), Case::EraseRemoves(kind)]);
+        all.extend(kind.larger().map(|_| Case::PutGrows(kind)));
+        all.extend(kind.smaller().map(|_| Case::EraseShrinks(kind)));
+    }
+    for yes in [false, true] {
+        all.push(Case::PutSplitsLeaf { shared: yes });
+        for after in [false, true] {
+            all.push(Case::PutCutsPrefix { before: yes, after });
+        }
+        for survivor in [Survivor::Leaf, Survivor::Prefix, Survivor::Inner] {
+            all.push(Case::EraseCollapses { survivor, prefix_above: yes });
+        }
+    }
+    all
+}
+
+fn needs_bodies(case: Case) -> bool {
+    match case {
+        Case::PutInEmptyFrame
+        | Case::PutSplitsLeaf { .. }
+        | Case::PutAdds(_)
+        | Case::PutGrows(_)
+        | Case::PutCutsPrefix { .. }
+        | Case::EraseShrinks(_) => true,
+        Case::EraseCollapses { survivor, prefix_above } => {
+            survivor == Survivor::Inner && !prefix_above
+        }
+        Case::PutSameLength
+        | Case::PutOtherLength { .. }
+        | Case::EraseOnlyRecord
+        | Case::EraseRemoves(_) => false,
+    }
+}
+
+/// Everything a full run has to reach.
+pub fn expected() -> Vec<Entry> {
+    let mut all = Vec::new();
+    for case in cases() {
+        let mut outcomes = vec![Outcome::Done];
+        if needs_bodies(case) {
+            outcomes.extend([
+                Outcome::DoneWithLastSlots,
+                Outcome::NoSlots,
+                Outcome::NoSlotsNorBytes,
+            ]);
+        }
+        if needs_bodies(case) || matches!(case, Case::PutOtherLength { .. }) {
+            outcomes.extend([Outcome::DoneWithLastBytes, Outcome::NoBytes]);
+        }
+        all.extend(outcomes.into_iter().map(|outcome| Entry::Ended(case, outcome)));
+    }
+    let put = [Kind::Leaf, Kind::Prefix, Kind::Node4, Kind::Node16, Kind::Node48, Kind::Node256];
+    let erase = [Kind::Prefix, Kind::Node4, Kind::Node16, Kind::Node48];
+    let put = put.into_iter().map(|kind| (Call::Put, kind));
+    for (call, kind) in put.chain(erase.into_iter().map(|kind| (Call::Erase, kind))) {
+        all.extend([Entry::FromList(call, kind), Entry::Fresh(call, kind)]);
+    }
+    for call in [Call::LookUp, Call::Erase] {
+        let ends = [End::EmptyFrame, End::AnotherLeaf, End::NoSuchByte, End::PrefixDiffers];
+        all.extend(ends.map(|end| Entry::Absent(call, end)));
+    }
+    let numbers: [(Call, &[u32]); 6] = [
+        (Call::Format, &[DONE, LENGTHS]),
+        (Call::Check, &[DONE, LENGTHS, NOT_GOOD]),
+        (Call::LookUp, &[DONE, ABSENT, LENGTHS, NOT_GOOD, KEY_LENGTH, KEY_HOLDS_ZERO]),
+        (
+            Call::Put,
+            &[DONE, REPLACED, LENGTHS, NOT_GOOD, KEY_LENGTH, KEY_HOLDS_ZERO, VALUE_LENGTH, NO_ROOM],
+        ),
+        (Call::Erase, &[DONE, ABSENT, LENGTHS, NOT_GOOD, KEY_LENGTH, KEY_HOLDS_ZERO, NO_ROOM]),
+        (Call::Pack, &[DONE, LENGTHS, NOT_GOOD, OUTPUT_LENGTH]),
+    ];
+    for (call, given) in numbers {
+        all.extend(given.iter().map(|number| Entry::Number(call, *number)));
+    }
+    all
+}

@@ -1,0 +1,242 @@
+//! The worked frames W1 to W11 and everything under "Run and compared".
+//!
+//! Believed here: the figures document 01 prints. They are literal, and do
+//! not come from any reading in this crate.
+
+use crate::compare::{Compared, Comparer, Held};
+use crate::layout::*;
+
+const SMALL: (usize, usize) = (1_024, 8);
+const LARGE: (usize, usize) = (524_288, 10_240);
+
+/// Number given and the fields after it.
+struct Figures {
+    name: &'static str,
+    number: u32,
+    fields: &'static [(usize, usize)],
+}
+
+impl Figures {
+    fn hold(&self, comparer: &Comparer, held: &Held, number: u32) -> Compared<()> {
+        if number != self.number {
+            return comparer.differs(format!("{} gave {number}, not {}", self.name, self.number));
+        }
+        for (at, value) in self.fields {
+            let found = get32(held.bytes(), *at);
+            if found != *value {
+                let name = self.name;
+                return comparer.differs(format!("{name}: {found} stands at {at}, not {value}"));
+            }
+        }
+        Ok(())
+    }
+}
+
+fn formatted(comparer: &mut Comparer, (f, n): (usize, usize), fill: u8) -> Compared<Held> {
+    let made = comparer.format(&vec![fill; f], f, n)?;
+    Ok(made.expect("F and N are within the limits"))
+}
+
+fn put(
+    comparer: &mut Comparer,
+    held: &mut Held,
+    key: &[u8],
+    value: &[u8],
+    figures: Figures,
+) -> Compared<()> {
+    let number = comparer.put(held, key, value)?;
+    figures.hold(comparer, held, number)
+}
+
+pub fn worked_frames(comparer: &mut Comparer) -> Compared<()> {
+    comparer.begin("worked frames W1 to W11".to_string());
+    let mut held = formatted(comparer, SMALL, 0xEE)?;
+    let w1 = Figures { name: "W1", number: 0, fields: &[(AT_D, 96), (AT_U, 1), (AT_B, 104)] };
+    w1.hold(comparer, &held, 0)?;
+    let w2 = Figures { name: "W2", number: 0, fields: &[(AT_U, 2), (AT_B, 128)] };
+    put(comparer, &mut held, b"a", b"1", w2)?;
+    let w3 = Figures { name: "W3", number: 0, fields: &[(AT_U, 4), (AT_B, 176)] };
+    put(comparer, &mut held, b"b", b"2", w3)?;
+    let w4 = Figures { name: "W4", number: 0, fields: &[(AT_U, 6), (AT_B, 224)] };
+    put(comparer, &mut held, b"ab", b"3", w4)?;
+    let w5 = Figures { name: "W5", number: 0, fields: &[(AT_U, 7), (AT_B, 248)] };
+    put(comparer, &mut held, b"ac", b"4", w5)?;
+
+    let packed = comparer.pack(&held, &vec![0xEE; SMALL.0])?.expect("a good frame packs");
+    let w6 = Figures {
+        name: "W6",
+        number: 0,
+        fields: &[(AT_U, 6), (AT_B, 240), (64, 524_300), (72, 131_090)],
+    };
+    w6.hold(comparer, &packed, 0)?;
+
+    let mut full = held.clone();
+    let w7 = Figures { name: "W7", number: 0, fields: &[(AT_U, 8), (AT_B, 272)] };
+    put(comparer, &mut full, b"ad", b"5", w7)?;
+    let w8 = Figures { name: "W8", number: 6, fields: &[(AT_U, 8), (AT_B, 272)] };
+    put(comparer, &mut full, b"ae", b"6", w8)?;
+
+    let mut erased = held.clone();
+    let number = comparer.erase(&mut erased, b"ab")?;
+    let w9 = Figures { name: "W9", number: 0, fields: &[(AT_U, 7), (AT_B, 248), (AT_X, 8)] };
+    w9.hold(comparer, &erased, number)?;
+    let w9 = Figures { name: "W9 after put", number: 0, fields: &[(AT_U, 7), (AT_B, 256)] };
+    put(comparer, &mut erased, b"ad", b"5", w9)?;
+
+    let mut held = formatted(comparer, SMALL, 0)?;
+    for key in [&b"x"[..], b"ab", b"ac"] {
+        let step = Figures { name: "W10 before erase", number: 0, fields: &[] };
+        put(comparer, &mut held, key, b"v", step)?;
+    }
+    let number = comparer.erase(&mut held, b"x")?;
+    let w10 = Figures { name: "W10", number: 0, fields: &[(AT_U, 7), (AT_B, 352), (AT_X, 8)] };
+    w10.hold(comparer, &held, number)?;
+
+    let mut held = formatted(comparer, LARGE, 0xEE)?;
+    let w11 = Figures { name: "W11", number: 0, fields: &[(AT_D, 41_024), (AT_B, 73_824)] };
+    put(comparer, &mut held, b"fw", &vec![7; 32_768], w11)
+}
+
+/// Values and keys at their limits.
+pub fn lengths_at_the_limits(comparer: &mut Comparer) -> Compared<()> {
+    comparer.begin("lengths at the limits".to_string());
+    let mut held = formatted(comparer, LARGE, 1)?;
+    for (length, expected) in [
+        (0, 0),
+        (1, 0),
+        (32_767, 0),
+        (32_768, 0),
+        (65_535, 0),
+        (65_536, 5),
+        (65_537, 5),
+        (131_072, 5),
+    ] {
+        let key = format!("value of {length}");
+        let figures = Figures { name: "a value's length", number: expected, fields: &[] };
+        put(comparer, &mut held, key.as_bytes(), &vec![length as u8; length], figures)?;
+        comparer.look_up(&held, key.as_bytes())?;
+    }
+    for (length, expected) in [(0, 3), (1, 0), (111, 0), (112, 0), (113, 3), (200, 3), (65_648, 3)]
+    {
+        let key = vec![b'k'; length];
+        let figures = Figures { name: "a key's length", number: expected, fields: &[] };
+        put(comparer, &mut held, &key, b"v", figures)?;
+        comparer.look_up(&held, &key)?;
+    }
+    for key in [&b"\0"[..], b"a\0", b"\0a", b"a\0b"] {
+        let figures = Figures { name: "a key with a byte 0", number: 4, fields: &[] };
+        put(comparer, &mut held, key, b"v", figures)?;
+        comparer.look_up(&held, key)?;
+        comparer.erase(&mut held, key)?;
+    }
+    comparer.check(&held)?;
+    // Read back, replaced and packed at full length.
+    for length in [32_768, 65_535, 32_767] {
+        let figures = Figures { name: "a replaced value", number: 9, fields: &[] };
+        put(comparer, &mut held, b"value of 1", &vec![3; length], figures)?;
+        comparer.look_up(&held, b"value of 1")?;
+    }
+    let packed = comparer.pack(&held, &vec![2; LARGE.0])?.expect("a good frame packs");
+    comparer.look_up(&packed, b"value of 65535")?;
+    for length in [32_767, 32_768, 65_535] {
+        comparer.erase(&mut held, format!("value of {length}").as_bytes())?;
+    }
+    comparer.check(&held)
+}
+
+/// 4 to 5, 16 to 17, 48 to 49 children, and 38 to 37, 13 to 12, 4 to 3.
+pub fn growth_and_shrinking(comparer: &mut Comparer) -> Compared<()> {
+    for (stage, shuffled) in [("in byte order", 1), ("in another order", 77)] {
+        comparer.begin(format!("growth and shrinking {stage}"));
+        let mut held = formatted(comparer, (32_768, 600), 0)?;
+        let key = |turn: usize| [(turn * shuffled % 251) as u8 + 1];
+        let root_kind = |held: &Held| {
+            let root = get16(held.bytes(), AT_ROOT);
+            get_entry(held.bytes(), root).1
+        };
+        for children in 1..=60 {
+            comparer.put(&mut held, &key(children), b"v")?;
+            let expected = match children {
+                1 => 1,
+                2..=4 => 4,
+                5..=16 => 5,
+                17..=48 => 6,
+                _ => 7,
+            };
+            if root_kind(&held) != expected {
+                return comparer.differs(format!("{children} children are not kind {expected}"));
+            }
+        }
+        for children in (1..60).rev() {
+            comparer.erase(&mut held, &key(children + 1))?;
+            let expected = match children {
+                1 => 1,
+                2..=3 => 4,
+                4..=12 => 5,
+                13..=37 => 6,
+                _ => 7,
+            };
+            if root_kind(&held) != expected {
+                return comparer.differs(format!("{children} children left, not kind {expected}"));
+            }
+            comparer.pack(&held, &vec![9; held.bytes().len()])?;
+        }
+    }
+    Ok(())
+}
+
+/// F and N around their limits, and slices of another length.
+pub fn format_limits(comparer: &mut Comparer) -> Compared<()> {
+    comparer.begin("format around the limits".to_string());
+    const ALL: [usize; 16] =
+        [0, 1, 2, 6, 7, 8, 9, 10, 238, 239, 240, 242, 10_238, 10_240, 10_241, 10_242];
+    const FEW: [usize; 5] = [6, 8, 9, 10_240, 10_242];
+    let short = [0, 8, 1_016, 1_020, 1_023, 1_024, 1_025, 1_032, 16_384];
+    let long = [41_024, 41_032, 524_280, 524_288, 524_289, 524_296, 1 << 20];
+    let short = short.into_iter().map(|f| (f, &ALL[..]));
+    for (f, capacities) in short.chain(long.into_iter().map(|f| (f, &FEW[..]))) {
+        for n in capacities {
+            comparer.format(&vec![0xEE; f], f, *n)?;
+        }
+        for slice in [0, f.saturating_sub(8), f + 8, f + 1] {
+            comparer.format(&vec![0xEE; slice], f, FEWEST_SLOTS)?;
+        }
+    }
+    for huge in [1 << 32, (1 << 32) + 1_024, usize::MAX, usize::MAX - 7, 1 << 62] {
+        comparer.format(&[0xEE; 1_024], huge, 8)?;
+        comparer.format(&[0xEE; 1_024], 1_024, huge)?;
+        comparer.format(&[0xEE; 1_024], 1_024, huge.wrapping_add(8))?;
+    }
+    Ok(())
+}
+
+/// The first refusal in the order 1, 2, 3, 4, 5, 7, 6 is the one given.
+pub fn order_of_refusals(comparer: &mut Comparer) -> Compared<()> {
+    comparer.begin("order of refusals".to_string());
+    let mut full = formatted(comparer, SMALL, 0)?;
+    let fill = vec![5; 1_024 - 104 - 16 - 1];
+    let figures =
+        Figures { name: "a put that fills the frame", number: 0, fields: &[(AT_B, 1_024)] };
+    put(comparer, &mut full, b"a", &fill, figures)?;
+    let mut not_good = full.bytes().to_vec();
+    not_good[AT_X] ^= 8;
+    let mut wrong_length = not_good.clone();
+    wrong_length.truncate(1_016);
+    let long_value = vec![1; LONGEST_VALUE + 1];
+    let keys: [&[u8]; 5] = [b"", &[b'k'; 113], &[0; 113], b"a\0", b"b"];
+    for bytes in [full.bytes().to_vec(), not_good, wrong_length] {
+        let mut held = Held::new(bytes);
+        for key in keys {
+            for value in [&b""[..], b"v", &fill, &long_value] {
+                comparer.put(&mut held, key, value)?;
+            }
+            comparer.look_up(&held, key)?;
+            comparer.erase(&mut held, key)?;
+        }
+        for out in [0, 1, 1_016, 1_023, 1_025, 1_032, 524_288, 1_024] {
+            comparer.pack(&held, &vec![0xEE; out])?;
+        }
+        comparer.check(&held)?;
+    }
+    Ok(())
+}

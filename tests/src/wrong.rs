@@ -1,0 +1,780 @@
+//! Deliberately wrong stores, and a right one that uses every freedom.
+//!
+//! Believed here: that the comparer tells them apart. Each wrong store is the
+//! second store with one fault; the comparison must catch every one of them,
+//! and must let pass the store that differs only where document 01 allows it.
+
+use crate::check::{self, Rule};
+use crate::compare::{Calls, Second};
+use crate::layout::number::*;
+use crate::layout::*;
+use crate::store::{self, body_at, children, release, set_link, take, Step};
+
+type Format = dyn Fn(&mut [u8], usize, usize) -> u32;
+type Check = dyn Fn(&[u8]) -> u32;
+type LookUp = dyn Fn(&[u8], &[u8]) -> (u32, u64, u64);
+type Put = dyn Fn(&mut [u8], &[u8], &[u8]) -> u32;
+type Erase = dyn Fn(&mut [u8], &[u8]) -> u32;
+type Pack = dyn Fn(&[u8], &mut [u8]) -> u32;
+
+/// The second store with some calls exchanged.
+pub struct Altered {
+    pub name: String,
+    format: Box<Format>,
+    check: Box<Check>,
+    look_up: Box<LookUp>,
+    put: Box<Put>,
+    erase: Box<Erase>,
+    pack: Box<Pack>,
+}
+
+impl Altered {
+    fn named(name: &str) -> Altered {
+        Altered {
+            name: name.to_string(),
+            format: Box::new(|frame, f, n| Second.format(frame, f, n)),
+            check: Box::new(|frame| Second.check(frame)),
+            look_up: Box::new(|frame, key| Second.look_up(frame, key)),
+            put: Box::new(|frame, key, value| Second.put(frame, key, value)),
+            erase: Box::new(|frame, key| Second.erase(frame, key)),
+            pack: Box::new(|frame, out| Second.pack(frame, out)),
+        }
+    }
+}
+
+impl Calls for Altered {
+    fn format(&self, frame: &mut [u8], f: usize, n: usize) -> u32 {
+        (self.format)(frame, f, n)
+    }
+    fn check(&self, frame: &[u8]) -> u32 {
+        (self.check)(frame)
+    }
+    fn look_up(&self, frame: &[u8], key: &[u8]) -> (u32, u64, u64) {
+        (self.look_up)(frame, key)
+    }
+    fn put(&self, frame: &mut [u8], key: &[u8], value: &[u8]) -> u32 {
+        (self.put)(frame, key, value)
+    }
+    fn erase(&self, frame: &mut [u8], key: &[u8]) -> u32 {
+        (self.erase)(frame, key)
+    }
+    fn pack(&self, frame: &[u8], out: &mut [u8]) -> u32 {
+        (self.pack)(frame, out)
+    }
+}
+
+fn with_format(name: &str, format: impl Fn(&mut [u8], usize, usize) -> u32 + 'static) -> Altered {
+    Altered { format: Box::new(format), ..Altered::named(name) }
+}
+
+fn with_check(name: &str, check: impl Fn(&[u8]) -> u32 + 'static) -> Altered {
+    Altered { check: Box::new(check), ..Altered::named(name) }
+}
+
+fn with_look_up(
+    name: &str,
+    look_up: impl Fn(&[u8], &[u8]) -> (u32, u64, u64) + 'static,
+) -> Altered {
+    Altered { look_up: Box::new(look_up), ..Altered::named(name) }
+}
+
+fn with_put(name: &str, put: impl Fn(&mut [u8], &[u8], &[u8]) -> u32 + 'static) -> Altered {
+    Altered { put: Box::new(put), ..Altered::named(name) }
+}
+
+fn with_erase(name: &str, erase: impl Fn(&mut [u8], &[u8]) -> u32 + 'static) -> Altered {
+    Altered { erase: Box::new(erase), ..Altered::named(name) }
+}
+
+fn with_pack(name: &str, pack: impl Fn(&[u8], &mut [u8]) -> u32 + 'static) -> Altered {
+    Altered { pack: Box::new(pack), ..Altered::named(name) }
+}
+
+pub fn checks() -> Vec<Altered> {
+    let without = |rule: Rule| {
+        with_check(&format!("a check without the rule {rule:?}"), move |frame| {
+            match check::read(frame) {
+                None => LENGTHS,
+                Some(reading) if reading.broken.iter().all(|broken| *broken == rule) => DONE,
+                Some(_) => NOT_GOOD,
+            }
+        })
+    };
+    let mut all: Vec<Altered> = Rule::ALL.into_iter().map(without).collect();
+    all.push(with_check("a check that answers 2 to everything", |frame| {
+        if check::check(frame) == LENGTHS {
+            LENGTHS
+        } else {
+            NOT_GOOD
+        }
+    }));
+    all.push(with_check("a check that tells live from freed by the high bits", |frame| {
+        let reading = match check::read(frame) {
+            None => return LENGTHS,
+            Some(reading) => reading,
+        };
+        let looks_live = reading.lists.iter().flatten().any(|slot| {
+            let (_, next) = get_entry(frame, *slot);
+            Kind::of_number(next).is_some_and(Kind::is_inner)
+        });
+        if looks_live || !reading.broken.is_empty() {
+            NOT_GOOD
+        } else {
+            DONE
+        }
+    }));
+    all.push(with_check("a check that calls a wrong stored N a wrong length", |frame| {
+        let given = check::check(frame);
+        if given == NOT_GOOD && !slot_capacity_allowed(get32(frame, AT_N)) {
+            LENGTHS
+        } else {
+            given
+        }
+    }));
+    all.push(with_check("a check that wants padding zero", |frame| {
+        let given = check::check(frame);
+        if given != DONE {
+            return given;
+        }
+        let reading = check::read(frame).expect("the lengths agree");
+        let padded = reading.extents.iter().any(|(slot, extent)| {
+            let leaf = store::leaf_fields(frame, *slot);
+            let end = leaf.extent + leaf.key_length + leaf.value_length;
+            frame[end..extent.end].iter().any(|byte| *byte != 0)
+        });
+        if padded {
+            NOT_GOOD
+        } else {
+            DONE
+        }
+    }));
+    all.push(with_check("a check that writes into the frame", |frame| {
+        // As a C function could: the comparer looks at memory anew.
+        let last = frame.as_ptr().cast_mut().wrapping_add(frame.len().saturating_sub(1));
+        if !frame.is_empty() {
+            unsafe { last.write_volatile(last.read_volatile() ^ 1) };
+        }
+        check::check(frame)
+    }));
+    all
+}
+
+pub fn formats() -> Vec<Altered> {
+    vec![
+        with_format("a format that leaves old bytes", |frame, f, n| {
+            let old = frame.to_vec();
+            let given = Second.format(frame, f, n);
+            if given == DONE {
+                let b = get32(frame, AT_B);
+                frame[b..].copy_from_slice(&old[b..]);
+            }
+            given
+        }),
+        with_format("a format without the rule D + 8 at most F", |frame, f, n| {
+            if slot_capacity_allowed(n) && frame_length_allowed(f) && frame.len() == f {
+                Second.format(frame, f, n);
+                DONE
+            } else {
+                LENGTHS
+            }
+        }),
+        with_format("a format that takes an odd N", |frame, f, n| {
+            Second.format(frame, f, if n.is_multiple_of(2) { n } else { n - 1 })
+        }),
+        with_format("a format that reads 32 bits of F and N", |frame, f, n| {
+            Second.format(frame, f as u32 as usize, n as u32 as usize)
+        }),
+    ]
+}
+
+pub fn look_ups() -> Vec<Altered> {
+    vec![
+        with_look_up("a look-up that always says 8", |frame, key| {
+            match Second.look_up(frame, key) {
+                (DONE, _, _) => (ABSENT, 0, 0),
+                given => given,
+            }
+        }),
+        with_look_up("a look-up that trusts the path", |frame, key| {
+            let given = Second.look_up(frame, key);
+            if given.0 != ABSENT {
+                return given;
+            }
+            let steps = store::walk(frame, &walked(key));
+            match steps[steps.len() - 1] {
+                Step { kind: Kind::Leaf, slot, .. } => {
+                    let leaf = store::leaf_fields(frame, slot);
+                    let place = leaf.extent + leaf.key_length;
+                    (DONE, place as u64, leaf.value_length as u64)
+                }
+                _ => given,
+            }
+        }),
+        with_look_up("a look-up that reads long lengths as negative", |frame, key| {
+            let (given, place, length) = Second.look_up(frame, key);
+            (given, place, i64::from(length as u16 as i16) as u64)
+        }),
+        with_look_up("a look-up that gives an empty value no place", |frame, key| {
+            match Second.look_up(frame, key) {
+                (given, _, 0) => (given, 0, 0),
+                given => given,
+            }
+        }),
+        with_look_up("a look-up that gives the extent's place", |frame, key| {
+            match Second.look_up(frame, key) {
+                (DONE, place, length) => (DONE, place - key.len() as u64, length),
+                given => given,
+            }
+        }),
+        with_look_up("a look-up that says 8 to an illegal key", |frame, key| {
+            match Second.look_up(frame, key) {
+                (KEY_LENGTH | KEY_HOLDS_ZERO, _, _) => (ABSENT, 0, 0),
+                given => given,
+            }
+        }),
+    ]
+}
+
+/// The last slot on a key's way, of a frame that is good.
+fn end_of_way(frame: &[u8], key: &[u8]) -> Option<Step> {
+    let legal = check::check(frame) == DONE && key_refusal(key).is_none();
+    legal.then(|| *store::walk(frame, &walked(key)).last().expect("at least the root"))
+}
+
+pub fn puts() -> Vec<Altered> {
+    vec![
+        with_put("a put that answers 6 to everything", |frame, key, value| {
+            match Second.put(&mut frame.to_vec(), key, value) {
+                DONE | REPLACED => NO_ROOM,
+                given => given,
+            }
+        }),
+        with_put("a put that writes only the first record", |frame, key, value| {
+            if check::check(frame) == DONE && get32(frame, AT_R) > 0 {
+                return Second.put(&mut frame.to_vec(), key, value);
+            }
+            Second.put(frame, key, value)
+        }),
+        with_put("a put that invents X", |frame, key, value| {
+            let given = Second.put(frame, key, value);
+            if given == DONE && get32(frame, AT_B) + UNIT <= frame.len() {
+                set32(frame, AT_B, get32(frame, AT_B) + UNIT);
+                set32(frame, AT_X, get32(frame, AT_X) + UNIT);
+            }
+            given
+        }),
+        with_put("a put that invents U", |frame, key, value| {
+            let given = Second.put(frame, key, value);
+            let slot_left = given == DONE && get32(frame, AT_U) < get32(frame, AT_N);
+            if slot_left && get32(frame, AT_B) + UNIT <= frame.len() {
+                let slot = take(frame, Kind::EmptyRoot);
+                release(frame, slot, Kind::EmptyRoot);
+            }
+            given
+        }),
+        with_put("a put that takes 32,768 bytes for a negative length", |frame, key, value| {
+            let given = Second.put(&mut frame.to_vec(), key, value);
+            if value.len() > 32_767 && (given == DONE || given == REPLACED) {
+                return VALUE_LENGTH;
+            }
+            Second.put(frame, key, value)
+        }),
+        with_put("a put that says 0 for a key that was there", |frame, key, value| {
+            match Second.put(frame, key, value) {
+                REPLACED => DONE,
+                given => given,
+            }
+        }),
+        with_put("a put that keeps the extent if rounded sizes agree", |frame, key, value| {
+            if let Some(Step { kind: Kind::Leaf, slot, .. }) = end_of_way(frame, key) {
+                let leaf = store::leaf_fields(frame, slot);
+                let size = extent_bytes(leaf.key_length, leaf.value_length);
+                let same_key = frame[leaf.extent..][..leaf.key_length] == *key;
+                if same_key && extent_bytes(key.len(), value.len()) == size {
+                    frame[leaf.extent + key.len()..][..value.len()].copy_from_slice(value);
+                    store::write_leaf(frame, slot, leaf.extent, key.len(), value.len());
+                    return REPLACED;
+                }
+            }
+            Second.put(frame, key, value)
+        }),
+        with_put("a put that retires the length and not the size", |frame, key, value| {
+            let before = check::check(frame) == DONE;
+            let dead = if before { get32(frame, AT_X) } else { 0 };
+            let given = Second.put(frame, key, value);
+            if given == REPLACED && get32(frame, AT_X) > dead {
+                set32(frame, AT_X, get32(frame, AT_X) - 1);
+            }
+            given
+        }),
+        with_put("a put that clears all from B on", |frame, key, value| {
+            let given = Second.put(frame, key, value);
+            if given == DONE {
+                let b = get32(frame, AT_B);
+                frame[b..].fill(0);
+            }
+            given
+        }),
+        with_put("a put that wants one unit to be left", |frame, key, value| {
+            let mut tried = frame.to_vec();
+            let given = Second.put(&mut tried, key, value);
+            let moved = given == DONE && get32(&tried, AT_B) > get32(frame, AT_B);
+            if moved && get32(&tried, AT_B) == frame.len() {
+                return NO_ROOM;
+            }
+            Second.put(frame, key, value)
+        }),
+        with_put("a put that wants one slot to be left", |frame, key, value| {
+            let mut tried = frame.to_vec();
+            let given = Second.put(&mut tried, key, value);
+            let moved = given == DONE && get32(&tried, AT_U) > get32(frame, AT_U);
+            if moved && get32(&tried, AT_U) == get32(&tried, AT_N) {
+                return NO_ROOM;
+            }
+            Second.put(frame, key, value)
+        }),
+        with_put("a put that marks a frame it refuses", |frame, key, value| {
+            let given = Second.put(frame, key, value);
+            if given == NO_ROOM {
+                let last = frame.len() - 1;
+                frame[last] ^= 1;
+            }
+            given
+        }),
+        with_put(
+            "a put that looks for a byte 0 before the length",
+            |frame, key, value| match Second.put(frame, key, value) {
+                KEY_LENGTH if key.contains(&END_BYTE) => KEY_HOLDS_ZERO,
+                given => given,
+            },
+        ),
+        with_put("a put that looks at the value before the key", |frame, key, value| match Second
+            .put(frame, key, value)
+        {
+            KEY_LENGTH | KEY_HOLDS_ZERO if value.len() > LONGEST_VALUE => VALUE_LENGTH,
+            given => given,
+        }),
+        with_put("a put with a longest key of 111", |frame, key, value| {
+            let given = Second.put(&mut frame.to_vec(), key, value);
+            if key.len() == LONGEST_KEY && given == DONE {
+                return KEY_LENGTH;
+            }
+            Second.put(frame, key, value)
+        }),
+        with_put("a put that gives a Node48 child the highest empty place", highest_place),
+        with_put("a put that moves a Node4 to a listed body", |frame, key, value| {
+            let step = end_of_way(frame, key);
+            let given = Second.put(frame, key, value);
+            let listed = given == DONE && get16(frame, list_head_at(Kind::Node4.number())) != 0;
+            if let (true, Some(Step { kind: Kind::Node4, slot, link, .. })) = (listed, step) {
+                let still_there = check::read(frame).is_some_and(|r| r.live.contains_key(&slot));
+                if still_there {
+                    let moved = take(frame, Kind::Node4);
+                    let all = children(frame, slot);
+                    store::write_inner(frame, moved, &all);
+                    set_link(frame, link, moved);
+                    release(frame, slot, Kind::Node4);
+                }
+            }
+            given
+        }),
+        with_put("a put that gives a grown Node48 places in byte order", |frame, key, value| {
+            let grows = end_of_way(frame, key).is_some_and(|step| step.kind == Kind::Node16);
+            let given = Second.put(frame, key, value);
+            if given == DONE && grows {
+                let steps = store::walk(frame, &walked(key));
+                let node = steps[steps.len() - 2];
+                if node.kind == Kind::Node48 {
+                    let all = children(frame, node.slot);
+                    store::write_inner(frame, node.slot, &all);
+                }
+            }
+            given
+        }),
+        with_put("a put that exchanges the bodies of freed slots", |frame, key, value| {
+            let given = Second.put(frame, key, value);
+            if given == DONE {
+                let reading = check::read(frame).expect("the lengths agree");
+                if let [one, two, ..] = reading.lists[Kind::Leaf.number()][..] {
+                    let ((first, next), (second, after)) =
+                        (get_entry(frame, one), get_entry(frame, two));
+                    set_entry(frame, one, second, next);
+                    set_entry(frame, two, first, after);
+                }
+            }
+            given
+        }),
+        with_put("a put that takes a new extent for the same length", |frame, key, value| {
+            let found = Second.look_up(frame, key);
+            let size = extent_bytes(key.len(), value.len());
+            let same = found.0 == DONE && found.2 == value.len() as u64;
+            if same && get32(frame, AT_B) + size <= frame.len() {
+                let step = end_of_way(frame, key).expect("the key is there");
+                let extent = store::write_extent(frame, key, value);
+                store::write_leaf(frame, step.slot, extent, key.len(), value.len());
+                set32(frame, AT_X, get32(frame, AT_X) + size);
+                return REPLACED;
+            }
+            Second.put(frame, key, value)
+        }),
+        with_put("a put that clears the padding of other extents", |frame, key, value| {
+            let given = Second.put(frame, key, value);
+            if given == DONE {
+                let reading = check::read(frame).expect("the lengths agree");
+                for (slot, extent) in &reading.extents {
+                    let leaf = store::leaf_fields(frame, *slot);
+                    let end = leaf.extent + leaf.key_length + leaf.value_length;
+                    frame[end..extent.end].fill(0);
+                }
+            }
+            given
+        }),
+        with_put("a put that writes past the frame's end", |frame, key, value| {
+            // As a C function could: the comparer looks at memory anew.
+            let end = frame.as_mut_ptr().wrapping_add(frame.len());
+            let given = Second.put(frame, key, value);
+            if given == DONE {
+                unsafe { end.write_volatile(0) };
+            }
+            given
+        }),
+        with_put("a put that changes the value it is lent", |frame, key, value| {
+            let given = Second.put(frame, key, value);
+            if given == REPLACED && !value.is_empty() {
+                // As a C function could: the comparer looks at memory anew.
+                let first = value.as_ptr().cast_mut();
+                unsafe { first.write_volatile(first.read_volatile() ^ 1) };
+            }
+            given
+        }),
+    ]
+}
+
+fn highest_place(frame: &mut [u8], key: &[u8], value: &[u8]) -> u32 {
+    let step = end_of_way(frame, key);
+    let given = Second.put(frame, key, value);
+    let Some(Step { kind: Kind::Node48, slot, depth, .. }) = step else {
+        return given;
+    };
+    let still_there = check::read(frame).is_some_and(|r| r.live.contains_key(&slot));
+    if given == DONE && still_there {
+        let body = body_at(frame, slot);
+        let index = body + NODE48_INDEX + usize::from(walked(key)[depth]);
+        let place = |number: u8| body + Kind::Node48.child_at(usize::from(number) - 1);
+        let highest = (1..=Kind::Node48.most_children() as u8)
+            .rfind(|number| get32(frame, place(*number)) == 0);
+        if let Some(highest) = highest {
+            let lowest = frame[index];
+            let child = get32(frame, place(lowest));
+            set32(frame, place(lowest), 0);
+            set32(frame, place(highest), child);
+            frame[index] = highest;
+        }
+    }
+    given
+}
+
+pub fn erases() -> Vec<Altered> {
+    vec![
+        with_erase("an erase that only says 0", |frame, key| {
+            Second.erase(&mut frame.to_vec(), key)
+        }),
+        with_erase("an erase that shrinks at 4, 16 and 48", |frame, key| {
+            let given = Second.erase(frame, key);
+            let Some(Step { kind, slot, link, .. }) = end_of_way(frame, key) else {
+                return given;
+            };
+            if let (DONE, Some(smaller)) = (given, kind.smaller()) {
+                let left = children(frame, slot);
+                let room = get16(frame, list_head_at(smaller.number())) != 0;
+                if room && left.len() == smaller.most_children() {
+                    let shrunk = take(frame, smaller);
+                    store::write_inner(frame, shrunk, &left);
+                    set_link(frame, link, shrunk);
+                    release(frame, slot, kind);
+                }
+            }
+            given
+        }),
+        with_erase("an erase that needs no Prefix", |frame, key| {
+            let given = Second.erase(frame, key);
+            if given == NO_ROOM {
+                let string = walked(key);
+                let steps = store::walk(frame, &string);
+                let (node, leaf) = (steps[steps.len() - 2], steps[steps.len() - 1]);
+                let fields = store::leaf_fields(frame, leaf.slot);
+                store::remove_child(frame, node.slot, string[leaf.depth - 1]);
+                release(frame, leaf.slot, Kind::Leaf);
+                let size = extent_bytes(fields.key_length, fields.value_length);
+                set32(frame, AT_X, get32(frame, AT_X) + size);
+                set32(frame, AT_R, get32(frame, AT_R) - 1);
+                return DONE;
+            }
+            given
+        }),
+        with_erase("an erase that says 8 where there is no room", |frame, key| {
+            match Second.erase(frame, key) {
+                NO_ROOM => ABSENT,
+                given => given,
+            }
+        }),
+        with_erase("an erase of the only record that leaves its bytes", |frame, key| {
+            let before = frame.to_vec();
+            let given = Second.erase(frame, key);
+            if given == DONE && get32(frame, AT_R) == 0 {
+                let b = get32(frame, AT_B);
+                frame[b..].copy_from_slice(&before[b..]);
+            }
+            given
+        }),
+        with_erase("an erase that wipes what was freed before", |frame, key| {
+            let given = Second.erase(frame, key);
+            if given == DONE {
+                let reading = check::read(frame).expect("the lengths agree");
+                for slot in &reading.lists[Kind::Leaf.number()] {
+                    let body = body_at(frame, *slot);
+                    frame[body..body + Kind::Leaf.body_bytes()].fill(0);
+                }
+            }
+            given
+        }),
+        with_erase("an erase that turns a list it does not touch", |frame, key| {
+            let given = Second.erase(frame, key);
+            if given == DONE && get32(frame, AT_R) > 0 {
+                let reading = check::read(frame).expect("the lengths agree");
+                turn_list(frame, Kind::EmptyRoot, &reading.lists[Kind::EmptyRoot.number()]);
+            }
+            given
+        }),
+        with_erase("an erase that closes the gap in a Node48", |frame, key| {
+            let given = Second.erase(frame, key);
+            if let (DONE, Some(step)) = (given, end_of_way(frame, key)) {
+                if step.kind == Kind::Node48 {
+                    let left = children(frame, step.slot);
+                    store::write_inner(frame, step.slot, &left);
+                }
+            }
+            given
+        }),
+        with_erase("an erase that joins Prefixes in the lower body", joins_in_the_lower),
+        with_erase("an erase that wants room though it needs none", |frame, key| {
+            let full = check::check(frame) == DONE && get32(frame, AT_B) == frame.len();
+            match Second.erase(&mut frame.to_vec(), key) {
+                DONE if full => NO_ROOM,
+                _ => Second.erase(frame, key),
+            }
+        }),
+        with_erase("an erase that says 6 before 8", |frame, key| match Second.erase(frame, key) {
+            ABSENT if get32(frame, AT_B) == frame.len() => NO_ROOM,
+            given => given,
+        }),
+        with_erase("an erase that retires no extent", |frame, key| {
+            let before = frame.to_vec();
+            let given = Second.erase(frame, key);
+            if given == DONE && get32(frame, AT_R) > 0 {
+                set32(frame, AT_X, get32(&before, AT_X));
+            }
+            given
+        }),
+    ]
+}
+
+/// Exchanges the freed lower Prefix and the joined upper one.
+fn joins_in_the_lower(frame: &mut [u8], key: &[u8]) -> u32 {
+    let was = check::read(frame);
+    let given = Second.erase(frame, key);
+    if given != DONE || get32(frame, AT_R) == 0 {
+        return given;
+    }
+    let (was, is) = (was.expect("a good frame"), check::read(frame).expect("a good frame"));
+    let head = get16(frame, list_head_at(Kind::Prefix.number()));
+    let Some(Step { kind: Kind::Prefix, slot: upper, link, .. }) = end_of_way(frame, key) else {
+        return given;
+    };
+    if was.live.get(&head) == Some(&Kind::Prefix) && is.live.contains_key(&upper) {
+        let lower = take(frame, Kind::Prefix);
+        let (bytes, below) = (store::prefix_bytes(frame, upper), store::prefix_child(frame, upper));
+        store::write_prefix(frame, lower, &bytes, below);
+        set_link(frame, link, lower);
+        release(frame, upper, Kind::Prefix);
+    }
+    given
+}
+
+pub fn packs() -> Vec<Altered> {
+    vec![
+        with_pack("a pack with one fixed image", |frame, out| {
+            let given = Second.pack(frame, out);
+            if given == DONE {
+                Second.format(out, get32(frame, AT_F), get32(frame, AT_N));
+            }
+            given
+        }),
+        with_pack("a pack that copies the frame", |frame, out| {
+            let given = Second.pack(frame, out);
+            if given == DONE {
+                out.copy_from_slice(frame);
+            }
+            given
+        }),
+        with_pack("a pack that keeps a Node16 with four children", |frame, out| {
+            let given = Second.pack(frame, out);
+            if given == DONE && get32(frame, AT_R) > 0 {
+                out[AT_ENTRIES..].fill(0);
+                set32(out, AT_U, 0);
+                set32(out, AT_B, get32(out, AT_D));
+                let root = pack_keeping_node16(frame, get16(frame, AT_ROOT), out);
+                set16(out, AT_ROOT, root);
+            }
+            given
+        }),
+        with_pack("a pack that leaves padding", |frame, out| {
+            let given = Second.pack(frame, out);
+            if given == DONE {
+                let reading = check::read(out).expect("the lengths agree");
+                for (slot, extent) in &reading.extents {
+                    let leaf = store::leaf_fields(out, *slot);
+                    let end = leaf.extent + leaf.key_length + leaf.value_length;
+                    out[end..extent.end].fill(1);
+                }
+            }
+            given
+        }),
+        with_pack("a pack that looks at its output before the frame", |frame, out| {
+            match Second.pack(frame, out) {
+                NOT_GOOD if frame.len() != out.len() => OUTPUT_LENGTH,
+                given => given,
+            }
+        }),
+        with_pack("a pack that carries X over", |frame, out| {
+            let given = Second.pack(frame, out);
+            if given == DONE {
+                set32(out, AT_X, get32(frame, AT_X));
+            }
+            given
+        }),
+        with_pack("a pack that clears an output it refuses", |frame, out| {
+            let given = Second.pack(frame, out);
+            if given == OUTPUT_LENGTH {
+                out.fill(0);
+            }
+            given
+        }),
+    ]
+}
+
+fn pack_keeping_node16(frame: &[u8], slot: usize, out: &mut [u8]) -> usize {
+    match store::slot_kind(frame, slot) {
+        Kind::Leaf => {
+            let leaf = store::leaf_fields(frame, slot);
+            let extent = &frame[leaf.extent..][..leaf.key_length + leaf.value_length];
+            let (key, value) = extent.split_at(leaf.key_length);
+            store::add_leaf(out, key, value)
+        }
+        Kind::Prefix => {
+            let packed = take(out, Kind::Prefix);
+            let below = pack_keeping_node16(frame, store::prefix_child(frame, slot), out);
+            store::write_prefix(out, packed, &store::prefix_bytes(frame, slot), below);
+            packed
+        }
+        kind => {
+            let all = children(frame, slot);
+            let smallest = Kind::smallest_for(all.len());
+            let packed = take(out, if kind == Kind::Node16 { kind } else { smallest });
+            let moved: Vec<(u8, usize)> = all
+                .into_iter()
+                .map(|(byte, child)| (byte, pack_keeping_node16(frame, child, out)))
+                .collect();
+            store::write_inner(out, packed, &moved);
+            packed
+        }
+    }
+}
+
+const GARBAGE: u8 = 0xDD;
+
+/// Differs from the second store in every way that document 01 leaves open.
+pub fn right_but_different() -> Altered {
+    Altered {
+        put: Box::new(|frame, key, value| {
+            let before = frame.to_vec();
+            let given = Second.put(frame, key, value);
+            if given == DONE || given == REPLACED {
+                lower_keeps_the_body(&before, frame, key);
+                use_freedoms(&before, frame);
+            }
+            given
+        }),
+        erase: Box::new(|frame, key| {
+            let before = frame.to_vec();
+            let given = Second.erase(frame, key);
+            if given == DONE && get32(frame, AT_R) > 0 {
+                use_freedoms(&before, frame);
+            }
+            given
+        }),
+        ..Altered::named("a right store that uses every freedom")
+    }
+}
+
+/// Links the slots of a list the other way round.
+fn turn_list(frame: &mut [u8], kind: Kind, list: &[usize]) {
+    let mut next = 0;
+    for slot in list {
+        let offset = body_at(frame, *slot);
+        set_entry(frame, *slot, offset, next);
+        next = *slot;
+    }
+    set16(frame, list_head_at(kind.number()), next);
+}
+
+/// Touched lists the other way round; garbage in just freed bodies, in just
+/// retired extents and in the padding of new ones.
+fn use_freedoms(before: &[u8], frame: &mut [u8]) {
+    let was = check::read(before).expect("the lengths agree");
+    let is = check::read(frame).expect("the lengths agree");
+    for kind in Kind::ALL {
+        let (old, new) = (&was.lists[kind.number()], &is.lists[kind.number()]);
+        for slot in new.iter().filter(|slot| !old.contains(slot)) {
+            let body = body_at(frame, *slot);
+            frame[body..body + kind.body_bytes()].fill(GARBAGE);
+        }
+        if old != new {
+            turn_list(frame, kind, new);
+        }
+    }
+    for (slot, extent) in &was.extents {
+        if is.extents.get(slot) != Some(extent) {
+            frame[extent.clone()].fill(GARBAGE);
+        }
+    }
+    for (slot, extent) in &is.extents {
+        if was.extents.get(slot) != Some(extent) {
+            let leaf = store::leaf_fields(frame, *slot);
+            let end = leaf.extent + leaf.key_length + leaf.value_length;
+            frame[end..extent.end].fill(GARBAGE);
+        }
+    }
+}
+
+/// After a Prefix was cut in two, lets the part after keep the old body.
+fn lower_keeps_the_body(before: &[u8], frame: &mut [u8], key: &[u8]) {
+    let string = walked(key);
+    let Some(Step { kind: Kind::Prefix, slot, link, depth }) = end_of_way(before, key) else {
+        return;
+    };
+    let bytes = store::prefix_bytes(before, slot);
+    let below = store::prefix_child(before, slot);
+    let cut = shared(&string[depth..], &bytes);
+    if cut == 0 || cut + 1 == bytes.len() {
+        return;
+    }
+    let node = store::prefix_child(frame, slot);
+    let mut parts = children(frame, node);
+    let part = parts.iter_mut().find(|part| part.0 == bytes[cut]).expect("the part after");
+    let other = std::mem::replace(&mut part.1, slot);
+    store::write_prefix(frame, other, &bytes[..cut], node);
+    store::write_prefix(frame, slot, &bytes[cut + 1..], below);
+    store::write_inner(frame, node, &parts);
+    set_link(frame, link, other);
+}

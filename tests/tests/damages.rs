@@ -1,0 +1,53 @@
+//! Every named damage gives its number, and breaks the rule it is aimed at.
+
+use second_store::check::{check, read, Rule};
+use second_store::damage::{all, undamaged, Aim};
+use std::collections::BTreeSet;
+
+#[test]
+fn frames_before_damage_are_good() {
+    for frame in undamaged() {
+        let reading = read(&frame).expect("the lengths agree");
+        assert!(reading.broken.is_empty(), "breaks {:?}", reading.broken);
+    }
+}
+
+#[test]
+fn each_damage_breaks_its_rule() {
+    let mut wrong = Vec::new();
+    for damage in all() {
+        assert_eq!(check(&damage.bytes), damage.number(), "{}", damage.name);
+        let broken = read(&damage.bytes).map(|reading| reading.broken);
+        let as_aimed = match (damage.aim, &broken) {
+            (Aim::Lengths, None) => true,
+            (Aim::Alone(rule), Some(broken)) => *broken == BTreeSet::from([rule]),
+            (Aim::Among(rule), Some(broken)) => broken.contains(&rule) && broken.len() > 1,
+            _ => false,
+        };
+        if !as_aimed {
+            wrong.push(format!("{}: {:?} but {broken:?}", damage.name, damage.aim));
+        }
+    }
+    assert!(wrong.is_empty(), "{}", wrong.join("\n"));
+}
+
+#[test]
+fn there_are_a_hundred_damages_with_distinct_names() {
+    let damages = all();
+    let names: BTreeSet<&str> = damages.iter().map(|damage| damage.name.as_str()).collect();
+    assert_eq!(names.len(), damages.len());
+    assert!(names.len() >= 100, "{} damages", names.len());
+}
+
+#[test]
+fn each_rule_is_broken_alone_by_some_damage() {
+    let alone: BTreeSet<Rule> = all()
+        .iter()
+        .filter_map(|damage| match damage.aim {
+            Aim::Alone(rule) => Some(rule),
+            _ => None,
+        })
+        .collect();
+    let missing: Vec<Rule> = Rule::ALL.into_iter().filter(|rule| !alone.contains(rule)).collect();
+    assert!(missing.is_empty(), "{missing:?}");
+}

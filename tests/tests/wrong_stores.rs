@@ -1,0 +1,60 @@
+//! The comparison catches every deliberately wrong store, and lets pass one
+//! that differs only where document 01 leaves it free.
+
+use second_store::run::{all_stages, Effort};
+use second_store::wrong::{self, Altered};
+
+const FIXED: Effort = Effort { seed: 1, rounds: 1 };
+
+fn all_caught(stores: Vec<Altered>, at_least: usize) {
+    assert!(stores.len() >= at_least, "only {} wrong stores", stores.len());
+    let mut missed = Vec::new();
+    for store in &stores {
+        match all_stages(store, FIXED) {
+            Ok(_) => missed.push(&store.name),
+            Err(difference) => {
+                let told = difference.to_string();
+                println!("{}: {}", store.name, told.lines().next().unwrap_or_default());
+            }
+        }
+    }
+    assert!(missed.is_empty(), "not caught: {missed:#?}");
+}
+
+#[test]
+fn wrong_checks_are_caught() {
+    all_caught(wrong::checks(), 42);
+}
+
+#[test]
+fn wrong_formats_are_caught() {
+    all_caught(wrong::formats(), 4);
+}
+
+#[test]
+fn wrong_look_ups_are_caught() {
+    all_caught(wrong::look_ups(), 6);
+}
+
+#[test]
+fn wrong_puts_are_caught() {
+    all_caught(wrong::puts(), 23);
+}
+
+#[test]
+fn wrong_erases_are_caught() {
+    all_caught(wrong::erases(), 12);
+}
+
+#[test]
+fn wrong_packs_are_caught() {
+    all_caught(wrong::packs(), 7);
+}
+
+#[test]
+fn a_store_that_uses_every_freedom_passes() {
+    let effort = Effort::from_environment();
+    if let Err(difference) = all_stages(&wrong::right_but_different(), effort) {
+        panic!("{difference}");
+    }
+}
