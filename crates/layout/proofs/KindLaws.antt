@@ -13,15 +13,15 @@ use Rattle.layout.specs.Kind.Inner.{node4, node16, node48, node256}
 
 -- ---- a test of every kind from one on
 
-abbrev both : Bool → Bool → Bool
+abbrev pub both : Bool → Bool → Bool
 both true b = b
 both false b = false
 
-both-left : (a b : Bool) → T (both a b) → T a
+pub both-left : (a b : Bool) → T (both a b) → T a
 both-left true b t = tt
 both-left false b t = t
 
-both-right : (a b : Bool) → T (both a b) → T b
+pub both-right : (a b : Bool) → T (both a b) → T b
 both-right true b t = t
 both-right false b t = absurd t
 

@@ -7,8 +7,7 @@ use mathlib.Core.Option.{Option, none, some}
 use lib.ListN.{length, drop, getD}
 use lib.Dec.{ltb, eqb}
 use Rattle.layout.specs.Place.{dataStart}
-use Rattle.layout.specs.Kind.{bodySize, most, Inner}
-use Rattle.layout.specs.Kind.Inner.{node4, node16, node48, node256}
+use Rattle.layout.specs.Kind.{bodySize, most}
 use Rattle.model.specs.Strings.{pick, same, shared}
 use Rattle.model.specs.Edition.{Edition, Legal, Lawful}
 use Rattle.model.specs.Tree.{Art, Kids, count, has, up8, extentOf, Change, findTree, putTree, putKids, Left}
@@ -28,12 +27,6 @@ Eight n = (q : ℕ) × (n ≡ q * 8)
 pub eight-add : (m n : ℕ) → Eight m → Eight n → Eight (m + n)
 eight-add m n h g = (h .0 + g .0, rw (h .1, g .1) (omega arith))
 
-pub eight-body : {kind : ℕ} → Inner kind → Eight (bodySize kind)
-eight-body node4 = (3, refl)
-eight-body node16 = (11, refl)
-eight-body node48 = (57, refl)
-eight-body node256 = (129, refl)
-
 pub eight-bodies : (f : ℕ → ℕ) → Eight (total (map (λ k. f k * bodySize k) kinds))
 eight-bodies f = (f 1 * 2 + f 2 * 16 + f 3 * 16 + f 4 * 3 + f 5 * 11 + f 6 * 57 + f 7 * 129 + f 8, go (f 0) (f 1) (f 2) (f 3) (f 4) (f 5) (f 6) (f 7) (f 8))
   where
@@ -48,16 +41,6 @@ pub eight-extent : (k v : List ℕ) → Eight (extentOf k v)
 eight-extent k v = ((length k + length v + 7) / 8, refl)
 
 module _ {E : Edition} (L : Lawful E) where
-  mutual
-    pub eight-size : (a : Art) (path : List ℕ) → Well E a path → Eight (size a)
-    eight-size (leaf k v) path h = eight-add 16 (up8 (length k + length v)) (2, refl) ((length k + length v + 7) / 8, refl)
-    eight-size (prefix p a) path h = eight-add 128 (size a) (16, refl) (eight-size a (path ++ p) (h .1))
-    eight-size (node kind ks) path h = eight-add (bodySize kind) (sizeKids ks) (eight-body (h .0 .sort)) (eight-size-kids ks path 0 (h .1))
-
-    eight-size-kids : (ks : Kids) (path : List ℕ) (lo : ℕ) → WellKids E ks path lo → Eight (sizeKids ks)
-    eight-size-kids nil path lo h = (0, refl)
-    eight-size-kids (kid c j a ks) path lo h = eight-add (size a) (sizeKids ks) (eight-size a (path ++ c ∷ []) (h .2)) (eight-size-kids ks path (suc c) (h .3))
-
   mutual
     pub eight-put : (a : Art) (d : ℕ) (k v : List ℕ) → Eight (putTree E a d k v .extent)
     eight-put (leaf k' v') d k v = bool-cases (same k k')

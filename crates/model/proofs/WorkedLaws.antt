@@ -8,7 +8,7 @@ use lib.ListN.{length}
 use lib.Dec.{T, leb, eqb, leb→le, eqb→eq}
 use Rattle.layout.specs.Number.{le}
 use Rattle.layout.specs.Place.{atB, atU, atX, entryAt, dataStart}
-use Rattle.model.specs.Strings.{pick}
+use Rattle.layout.proofs.KindLaws.{both, both-left, both-right}
 use Rattle.model.specs.Edition.{Edition, edition1}
 use Rattle.model.specs.State.{State, Done, done, formatted}
 use Rattle.model.specs.Records.{recordsOf}
@@ -30,18 +30,6 @@ abbrev pub end : Row → Done
 end r = run edition1 (done 0 (formatted (r .F) (r .N))) (r .calls)
 
 -- ---- one test for a row
-
-abbrev both : Bool → Bool → Bool
-both true b = b
-both false b = false
-
-both-left : (a b : Bool) → T (both a b) → T a
-both-left true b t = tt
-both-left false b t = t
-
-both-right : (a b : Bool) → T (both a b) → T b
-both-right true b t = t
-both-right false b t = absurd t
 
 abbrev fits : Row → Bool
 fits r =
