@@ -227,5 +227,5 @@ pub record Stands (E : Edition) (f : List ℕ) (st : State) : Type 0 where
   pub counted : nums .R ≡ sum leafy (rootItems root)
   pub state : st ≡ stateOf nums lists root
 
-pub Good : Edition → List ℕ → Type 0
+abbrev pub Good : Edition → List ℕ → Type 0
 Good E f = (st : State) × Stands E f st

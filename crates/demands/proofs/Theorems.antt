@@ -1,0 +1,138 @@
+-- The three demands, met by whatever keeps the promises of edition 1, and the wrong stores that this shuts out. Assumes nothing.
+use Prim.Native.Nat.{ℕ, _≤_}
+use native.Mathlib.Omega.{arith}
+use mathlib.Core.Path.{_≡_, refl, sym, ap, _∙_}
+use mathlib.Core.List.{List, [], _∷_}
+use mathlib.Core.Option.{some}
+use lib.ListN.{length}
+use lib.Dec.{ltb, eqb, lit<, lit≤}
+use Rattle.model.specs.Strings.{hasZero}
+use Rattle.model.specs.Edition.{edition1, Legal, LegalValue}
+use Rattle.model.specs.Tree.Art.{leaf}
+use Rattle.model.specs.Records.{Record}
+use Rattle.model.specs.State.{State, formatted}
+use Rattle.model.specs.Image.{image}
+use Rattle.model.specs.Frame.{Stands, FrameLength, SlotCapacity}
+use Rattle.model.specs.Promise.{LengthOk}
+use Rattle.model.specs.Call.{Call, put, onCall, Called}
+use Rattle.model.proofs.StringLaws.{bool-cases, clash}
+use Rattle.model.proofs.Edition1.{lawful1}
+use Rattle.model.proofs.FormatLaws.{empty-stands}
+use Rattle.model.proofs.ImageLaws.{imageState}
+use Rattle.model.proofs.PackStands.{image-of-stands}
+use Rattle.model.proofs.StandsGood.{stands-heads}
+use Rattle.model.proofs.WorkedLaws.{called-stands}
+use Rattle.demands.specs.Words.{NotRefused, Holds}
+use Rattle.demands.specs.Demands.{Demand1, Demand2, Demand3}
+use Rattle.demands.specs.WrongStores.{Counters, ShutOut}
+use Rattle.demands.proofs.Refusals.{demand1}
+use Rattle.demands.proofs.Sets.{demand2}
+use Rattle.demands.proofs.Orders.{demand3}
+
+faults1 : (k : List ℕ) → edition1 .keyFault k ≤ 7
+faults1 k = bool-cases (eqb (length k) 0)
+    (λ t. rw t (lit≤ tt))
+    (λ t. bool-cases (ltb 112 (length k)) (λ u. rw (t, u) (lit≤ tt)) (λ u. bool-cases (hasZero k) (λ w. rw (t, u, w) (lit≤ tt)) (λ w. rw (t, u, w) (lit≤ tt))))
+
+pub two : Demand2 edition1
+two = demand2 lawful1 faults1
+
+pub three : Demand3 edition1
+three = demand3 lawful1 faults1
+
+pub demands : Demand1 × Demand2 edition1 × Demand3 edition1
+demands = (demand1, two, three)
+
+-- ---- two good frames of F 1,024 and N 8: W1, and the packed image of a=1
+
+abbrev a : List ℕ
+a = 97 ∷ []
+
+abbrev b : List ℕ
+b = 98 ∷ []
+
+abbrev v : List ℕ
+v = 49 ∷ []
+
+abbrev a1 : List Record
+a1 = record { key = a; value = v } ∷ []
+
+abbrev state0 : State
+state0 = formatted 1024 8
+
+abbrev state1 : State
+state1 = imageState 1024 8 (some (leaf a v))
+
+legal-a : Legal edition1 a
+legal-a = record { passes = refl; bytes = (lit< tt, tt) }
+
+legal-b : Legal edition1 b
+legal-b = record { passes = refl; bytes = (lit< tt, tt) }
+
+legal-v : LegalValue v
+legal-v = record { passes = lit≤ tt; bytes = (lit< tt, tt) }
+
+length1024 : FrameLength 1024
+length1024 = (refl, lit≤ tt, lit≤ tt)
+
+slots8 : SlotCapacity 8
+slots8 = (refl, lit≤ tt, lit≤ tt)
+
+empty : (f : List ℕ) × Stands edition1 f state0
+empty = (image edition1 1024 8 [], empty-stands edition1 1024 8 (lawful1 .fields .number) length1024 slots8 (lit≤ tt))
+
+holding : (f : List ℕ) × Stands edition1 f state1
+holding = (
+  image edition1 1024 8 a1,
+  image-of-stands lawful1 1024 8 a1 (tt, tt) (legal-a, legal-v, tt) (record { limits = length1024; cap = slots8; room = lit≤ tt; slotsFit = lit≤ tt; bytesFit = lit≤ tt }),
+)
+
+holds0 : Holds edition1 (empty .0) []
+holds0 = record { state = state0; stands = empty .1; set = refl }
+
+holds1 : Holds edition1 (holding .0) a1
+holds1 = record { state = state1; stands = holding .1; set = refl }
+
+not0 : (n : ℕ) → n ≡ 0 → NotRefused n
+not0 n e r = omega arith
+
+-- ---- the wrong stores
+
+settled : (f : List ℕ) (c : Call) (n : ℕ) (f' : List ℕ) (s : State) → Stands edition1 f s → Called edition1 f c n f'
+    → let t = onCall edition1 s c .state in Counters f' (t .U) (t .B) (t .R) (t .X)
+settled f c n f' s w p =
+    let H = stands-heads edition1 f' (onCall edition1 s c .state) (called-stands edition1 f c n f' s w p .1) in
+    record { slots = H .givenAt; bytes = H .bumpAt; records = H .recordsAt; dead = H .deadAt }
+
+pub shut-out : ShutOut
+shut-out = record {
+  allTwo = λ h.
+      let f = empty .0 in let H = stands-heads edition1 f state0 (empty .1) in
+      let ok : LengthOk f = (rw (H .size) length1024, H .stored ∙ sym (H .size)) in
+      let z = h f ok .good0 (state0, empty .1) in omega arith;
+  allSix = λ h.
+      let p = h (empty .0) a v (state0, empty .1) legal-a legal-v in
+      let z : _≡_ {A = ℕ} 6 0 = p .1 .answer state0 (empty .1) in omega arith;
+  allEight = λ h.
+      let p = h (holding .0) a (state1, holding .1) legal-a in
+      let z = two .lookUp (holding .0) a _ a1 legal-a p holds1 .absent8 .0 refl in clash (cc);
+  holdsNothing = λ h.
+      let p = h (empty .0) a v (state0, empty .1) legal-a legal-v in
+      let q = two .change (empty .0) (put a v) (p .0) (p .1) [] (legal-a .bytes, legal-v .bytes) (p .2) holds0 (not0 (p .0) (p .2 .answer state0 (empty .1))) in
+      let z = two .one (p .1) [] a1 (p .3) (q .0) in clash (cc);
+  onlyFirst = λ h.
+      let p = h (holding .0) b v (record { key = a; value = v }) [] holds1 legal-b legal-v in
+      let q = two .change (holding .0) (put b v) 0 (holding .0) a1 (legal-b .bytes, legal-v .bytes) p holds1 (not0 0 refl) in
+      let z : _≡_ {A = ℕ} 1 2 = ap length (two .one (holding .0) a1 _ holds1 (q .0)) in omega arith;
+  fixedImage = λ h.
+      let f = empty .0 in let g = holding .0 in
+      let H = stands-heads edition1 f state0 (empty .1) in let K = stands-heads edition1 g state1 (holding .1) in
+      let len : length f ≡ length g = H .size ∙ sym (K .size) in
+      let cap = H .slotsAt ∙ sym (K .slotsAt) in
+      let p = h .1 f f (state0, empty .1) refl in let q = h .1 g g (state1, holding .1) refl in
+      let z = three .images f g f _ g _ 0 0 [] a1 len cap holds0 holds1 p q (not0 0 refl) (not0 0 refl) .0 (rw (len, cap)) in clash (cc);
+  invents = λ h.
+      let p = h (empty .0) (empty .1) in
+      p .3 (settled (empty .0) (put a v) (p .0) (p .1) state0 (empty .1) (p .2));
+  settled = settled;
+}

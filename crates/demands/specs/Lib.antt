@@ -1,0 +1,3 @@
+pub mod Words
+pub mod Demands
+pub mod WrongStores

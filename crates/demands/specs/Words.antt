@@ -1,0 +1,116 @@
+-- The words of the three demands: refusals and their order, no room, the set of records that a frame holds, a change at one key only.
+use Prim.Native.Nat.{ℕ, _+_, _-_, _<_, _≤_}
+use mathlib.Core.Path.{_≡_}
+use mathlib.Core.List.{List, [], _∷_}
+use mathlib.Core.Option.{Option, none, some}
+use mathlib.Core.Logic.{_↔_, _⊎_, _≢_}
+use lib.ListN.{length}
+use Rattle.layout.specs.Number.{byteAt, le}
+use Rattle.layout.specs.Place.{atN}
+use Rattle.model.specs.Strings.{All, Byte}
+use Rattle.model.specs.Edition.{Edition, edition1}
+use Rattle.model.specs.Tree.{Art, Change}
+use Rattle.model.specs.Records.{Record, recordsOf, lookup}
+use Rattle.model.specs.State.{State, freshSlots, freshBytes, putChange, eraseChange}
+use Rattle.model.specs.Frame.{Stands, Good}
+use Rattle.model.specs.Promise.{LengthOk, FormatOk}
+use Rattle.model.specs.Call.{Call, put, erase}
+
+-- ---- refusals
+
+-- "1 to 7 are refusals; 0, 8 and 9 are not."
+abbrev pub Refusal : ℕ → Type 0
+Refusal n = (1 ≤ n) × (n ≤ 7)
+
+abbrev pub NotRefused : ℕ → Type 0
+NotRefused n = Refusal n → ⊥
+
+-- a refusal's number, and when it applies
+pub record Ground : Type 1 where
+  pub number : ℕ
+  pub applies : Type 0
+
+abbrev pub OneOf : ℕ → List ℕ → Type 0
+OneOf n [] = ⊥
+OneOf n (m ∷ ms) = (n ≡ m) ⊎ OneOf n ms
+
+-- "The first refusal that applies in the order .. is given; 0, 8 and 9 only if none applies": grounds in their order, and the answers that
+-- the call has besides. The first ground's number is given exactly if it applies; if it does not, the others decide in the same way.
+abbrev pub FirstOf : List Ground → List ℕ → ℕ → Type 0
+FirstOf [] answers n = OneOf n answers
+FirstOf (g ∷ gs) answers n = ((n ≡ g .number) ↔ g .applies) × ((g .applies → ⊥) → FirstOf gs answers n)
+
+-- "F or N against the limits (D + 8 above F among them), or the slice length"
+abbrev pub wrongLimits : List ℕ → ℕ → ℕ → Ground
+wrongLimits f len cap = record { number = 1; applies = FormatOk f len cap → ⊥ }
+
+-- "for an existing frame: the slice's length against F's limits, or against the stored F"
+abbrev pub wrongLength : List ℕ → Ground
+wrongLength f = record { number = 1; applies = LengthOk f → ⊥ }
+
+-- "not a good frame"
+abbrev pub notGood : List ℕ → Ground
+notGood f = record { number = 2; applies = Good edition1 f → ⊥ }
+
+-- "key length 0 or above 112"
+abbrev pub keyLength : List ℕ → Ground
+keyLength k = record { number = 3; applies = (length k ≡ 0) ⊎ (112 < length k) }
+
+-- "key holds a byte 0"
+abbrev pub keyZero : List ℕ → Ground
+keyZero k = record { number = 4; applies = (i : ℕ) × (i < length k) × (byteAt k i ≡ 0) }
+
+-- "value above 65,535 bytes"
+abbrev pub valueLong : List ℕ → Ground
+valueLong v = record { number = 5; applies = 65535 < length v }
+
+-- "pack: the output is not F long"
+abbrev pub outputLength : List ℕ → List ℕ → Ground
+outputLength f o = record { number = 7; applies = length o ≢ length f }
+
+-- ---- no room
+
+-- "No room is given exactly if the fresh slots needed exceed N - U, or the fresh bodies and the extent exceed F - B": of a change, which
+-- says what bodies and what extent a call takes. (A body is fresh if its kind's list has none left.)
+abbrev pub NoRoom : {A : Type 0} → State → Change A → Type 0
+NoRoom s c = (s .N - s .U < freshSlots s (c .takes)) ⊎ (s .F - s .B < freshBytes s (c .takes) + c .extent)
+
+abbrev pub PutFull : Edition → State → List ℕ → List ℕ → Type 0
+PutFull E s k v = NoRoom s (putChange E s k v)
+
+-- of an erase that is more than "leaves the frame as format leaves it": the key is there, and it is not the only one
+abbrev pub NoRoomIn : Edition → State → Option Art → List ℕ → Type 0
+NoRoomIn E s none k = ⊥
+NoRoomIn E s (some a) k = NoRoom s (eraseChange E a k)
+
+abbrev pub EraseFull : Edition → State → List ℕ → Type 0
+EraseFull E s k = (lookup k (recordsOf (s .tree)) ≢ none) × (2 ≤ s .R) × NoRoomIn E s (s .tree) k
+
+-- "no room"
+abbrev pub putFull : List ℕ → List ℕ → List ℕ → Ground
+putFull f k v = record { number = 6; applies = (s : State) × Stands edition1 f s × PutFull edition1 s k v }
+
+abbrev pub eraseFull : List ℕ → List ℕ → Ground
+eraseFull f k = record { number = 6; applies = (s : State) × Stands edition1 f s × EraseFull edition1 s k }
+
+-- ---- the set of records
+
+-- f is a good frame and stands for these records, in key order
+pub record Holds (E : Edition) (f : List ℕ) (rs : List Record) : Type 0 where
+  pub state : State
+  pub stands : Stands E f state
+  pub set : recordsOf (state .tree) ≡ rs
+
+-- the slot capacity N that a frame stores
+abbrev pub slotsOf : List ℕ → ℕ
+slotsOf f = le 4 f atN
+
+-- from the one set to the other only the key k has changed: it has the value o now, or none
+pub record OnlyAt (k : List ℕ) (o : Option (List ℕ)) (rs rs' : List Record) : Type 0 where
+  pub own : lookup k rs' ≡ o
+  pub others : (l : List ℕ) → l ≢ k → lookup l rs' ≡ lookup l rs
+
+-- the key and the value of a call are strings of bytes
+abbrev pub OfBytes : Call → Type 0
+OfBytes (put k v) = All Byte k × All Byte v
+OfBytes (erase k) = All Byte k

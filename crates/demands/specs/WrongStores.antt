@@ -1,0 +1,60 @@
+-- "Promises have to shut these out": document 01's list of wrong stores, each as what it would have to prove of its calls. No store can.
+use Prim.Native.Nat.{ℕ}
+use mathlib.Core.Path.{_≡_}
+use mathlib.Core.List.{List, [], _∷_}
+use lib.ListN.{length}
+use Rattle.layout.specs.Number.{le}
+use Rattle.layout.specs.Place.{atB, atU, atR, atX}
+use Rattle.model.specs.Edition.{edition1, Legal, LegalValue}
+use Rattle.model.specs.Records.{Record}
+use Rattle.model.specs.State.{State, formatted}
+use Rattle.model.specs.Frame.{Stands, Good}
+use Rattle.model.specs.Promise.{LengthOk, CheckPromise, notFound, LookUpPromise, PutPromise, PackPromise}
+use Rattle.model.specs.Call.{Call, onCall, Called}
+use Rattle.demands.specs.Words.{Holds, slotsOf}
+
+-- "a check that answers 2 to everything (demand 2's first sentence, W1)": to everything of the right length
+abbrev pub AllTwo : Type 0
+AllTwo = (f : List ℕ) → LengthOk f → CheckPromise edition1 f 2
+
+-- "a store that answers 6 to everything (the room rule in demand 2)"
+abbrev pub AllSix : Type 0
+AllSix = (f k v : List ℕ) → Good edition1 f → Legal edition1 k → LegalValue v → (f' : List ℕ) × PutPromise edition1 f k v 6 f'
+
+-- "one that always says 8 or holds nothing (look-up, demand 2)"
+abbrev pub AllEight : Type 0
+AllEight = (f k : List ℕ) → Good edition1 f → Legal edition1 k → LookUpPromise edition1 f k (notFound 8)
+
+abbrev pub HoldsNothing : Type 0
+HoldsNothing = (f k v : List ℕ) → Good edition1 f → Legal edition1 k → LegalValue v → (n : ℕ) × (f' : List ℕ) × PutPromise edition1 f k v n f' × Holds edition1 f' []
+
+-- "a put that writes only the first record and afterwards only says 0 (the set after each put)"
+abbrev pub OnlyFirst : Type 0
+OnlyFirst = (f k v : List ℕ) (r : Record) (rs : List Record) → Holds edition1 f (r ∷ rs) → Legal edition1 k → LegalValue v → PutPromise edition1 f k v 0 f
+
+-- "a packer that writes one fixed image (reading back; demand 3 alone would let it pass)": one for each F and N
+abbrev pub FixedImage : Type 0
+FixedImage = (m : ℕ → ℕ → List ℕ) × ((f o : List ℕ) → Good edition1 f → length o ≡ length f → PackPromise edition1 f o 0 (m (length f) (slotsOf f)))
+
+-- the counters that a frame stores
+pub record Counters (f : List ℕ) (U B R X : ℕ) : Type 0 where
+  pub slots : le 4 f atU ≡ U
+  pub bytes : le 4 f atB ≡ B
+  pub records : le 4 f atR ≡ R
+  pub dead : le 4 f atX ≡ X
+
+-- "one that invents U, B, R or X (the check and the needs above)": a=1 put into the fresh frame of W1 leaves other counters than those of W2
+abbrev pub Invents : Type 0
+Invents = (f : List ℕ) → Stands edition1 f (formatted 1024 8) → (n : ℕ) × (f' : List ℕ) × PutPromise edition1 f (97 ∷ []) (49 ∷ []) n f' × (Counters f' 2 128 1 0 → ⊥)
+
+pub record ShutOut : Type 0 where
+  pub allTwo : AllTwo → ⊥
+  pub allSix : AllSix → ⊥
+  pub allEight : AllEight → ⊥
+  pub holdsNothing : HoldsNothing → ⊥
+  pub onlyFirst : OnlyFirst → ⊥
+  pub fixedImage : FixedImage → ⊥
+  pub invents : Invents → ⊥
+  -- and of every put and erase: the counters are those that the needs give
+  pub settled : (f : List ℕ) (c : Call) (n : ℕ) (f' : List ℕ) (s : State) → Stands edition1 f s → Called edition1 f c n f'
+      → let t = onCall edition1 s c .state in Counters f' (t .U) (t .B) (t .R) (t .X)

@@ -1,0 +1,4 @@
+pub mod InnerLaws
+pub mod DispatchLaws
+pub mod CarryLaws
+pub mod PlaceLaws

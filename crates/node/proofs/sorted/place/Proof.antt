@@ -1,0 +1,55 @@
+-- No byte passed is b. Assumes nothing.
+use mathlib.Core.Path.{_≡_}
+use borrow.Author.Count.{below-more}
+use Rattle.layout.specs.Number.{byteAt}
+use Rattle.node.proofs.SortedLaws.{place-row}
+use Prim.Native.Nat.{ℕ, _+_, _-_, _<_, _≤_}
+use native.Mathlib.Omega.{arith}
+use borrow.Author.Needs.{needs}
+use Rattle.node.proofs.sorted.place.Statement.{statement}
+use Rattle.node.proofs.sorted.place.Tie as tie
+
+abbrev Inv-loop : tie.InvT-loop
+Inv-loop f at n b i₀ i = (i ≤ n) × ((k : ℕ) → k < i → byteAt f (at + k) ≡ b → ⊥)
+
+abbrev μ-loop : tie.MeasureT-loop
+μ-loop f at n b i₀ i = n - i
+
+loop-holds : tie.Need-loop-holds Inv-loop μ-loop
+loop-holds c = search needs
+
+add-if1 : tie.Need-add-if1 Inv-loop μ-loop
+add-if1 c = search needs
+
+shared-slice-read-if1 : tie.Need-shared-slice-read-if1 Inv-loop μ-loop
+shared-slice-read-if1 c = search needs
+
+returns : tie.Need-returns Inv-loop μ-loop
+returns c = (search needs, λ ks R e. place-row ks R e (search needs) (c .before .before .before .loop .inv .1) (λ l. c .if1 .taken))
+
+add-i : tie.Need-add-i Inv-loop μ-loop
+add-i c = search needs
+
+loop-less : tie.Need-loop-less Inv-loop μ-loop
+loop-less c = search needs
+
+loop-again : tie.Need-loop-again Inv-loop μ-loop
+loop-again c = (search needs, below-more _ _ (c .before .before .before .loop .inv .1) (c .if1 .left))
+
+returns-2 : tie.Need-returns-2 Inv-loop μ-loop
+returns-2 c = (search needs, λ ks R e. place-row ks R e (search needs) (c .before .loop .inv .1) (λ l. absurd (omega arith)))
+
+pub place-spec : {M : Type 1} → statement M
+place-spec =
+    tie.close
+    (tie.spec
+    Inv-loop
+    μ-loop
+    loop-holds
+    add-if1
+    shared-slice-read-if1
+    returns
+    add-i
+    loop-less
+    loop-again
+    returns-2)

@@ -1,0 +1,12 @@
+// Bytes moved within a frame, and the two inner kinds that keep their bytes in ascending order.
+pub mod moves;
+pub mod sorted;
+
+// Bytes of a child.
+pub const CHILD_SIZE: usize = 4;
+
+// A child with its byte; where a search finds none, byte 256 and slot 0.
+pub struct Child {
+    pub byte: usize,
+    pub slot: usize,
+}

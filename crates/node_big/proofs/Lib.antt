@@ -1,0 +1,3 @@
+pub mod Pigeons
+pub mod Laws48
+pub mod Laws256

@@ -1,0 +1,40 @@
+-- Child and count written. Assumes nothing.
+use native.Mathlib.Omega.{arith}
+use Rattle.node.proofs.MoveLaws.{only-none}
+use Rattle.node_big.proofs.Laws256.{wrote256}
+use borrow.Author.Needs.{needs}
+use Rattle.node_big.proofs.node256.write.Statement.{statement}
+use Rattle.node_big.proofs.node256.write.Tie as tie
+
+add-set-child : tie.Need-add-set-child
+add-set-child c = search needs
+
+mul-set-child : tie.Need-mul-set-child
+mul-set-child c = search needs
+
+add-set-child-2 : tie.Need-add-set-child-2
+add-set-child-2 c = search needs
+
+set-child-requires : tie.Need-set-child-requires
+set-child-requires c κs = search needs
+
+set-count-requires : tie.Need-set-count-requires
+set-count-requires c κs = search needs
+
+same-length : tie.Need-same-length
+same-length c = search needs
+
+returns : tie.Need-returns
+returns c = wrote256 _ _ _ _ (omega arith) (omega arith) (omega arith) (omega arith) (only-none _ _ _) (c .before .before .before .before .before .before .set-child .ensures) (c .before .before .set-count .ensures)
+
+pub write-spec : {M : Type 1} → statement M
+write-spec =
+    tie.close
+    (tie.spec
+    add-set-child
+    mul-set-child
+    add-set-child-2
+    set-child-requires
+    set-count-requires
+    same-length
+    returns)

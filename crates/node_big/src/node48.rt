@@ -1,0 +1,120 @@
+// Node48: the index entry of a byte names the place of its child, 1 to 48, or is 0.
+use fields::body::Node;
+use fields::body::Node48;
+use layout::number;
+use node::CHILD_SIZE;
+use node::Child;
+ghost use mathlib.Core.Path.{_≡_};
+ghost use mathlib.Core.List.{List};
+ghost use mathlib.Core.Option.{none, some};
+ghost use Prim.Native.Nat.{ℕ, _+_, _-_, _*_, _≤_, _<_};
+ghost use lib.ListN.{length, set};
+ghost use Rattle.layout.specs.Number.{byteAt, put};
+ghost use Rattle.layout.specs.Place.{node48Index, node48Children};
+ghost use Rattle.model.specs.Body.{Node48At, lookKid};
+ghost use Rattle.node.specs.Kids.{orZero, insertKid, removeKid, nextKid};
+ghost use Rattle.node.specs.Moved.{Only};
+ghost use Rattle.node_big.specs.Indexed.{Lowest, In48, Open48, Has48, Wrote48};
+
+// The child of byte b, 0 where there is none.
+pub fn find(f: &[u8], o: usize, b: u8) -> usize
+    requires { ⌜ In48 (now f) o ⌝ }
+    ensures { λ r. ⌜ ((ks : List (ℕ × ℕ)) → Node48At (now (f .entry)) o ks → r ≡ orZero (lookKid b ks)) ⌝ }
+{
+    let p = number::read1(f, o + Node48::INDEX + b as usize);
+    if p == 0 {
+        return 0;
+    }
+    Node::child(f, o + Node48::CHILDREN + CHILD_SIZE * (p - 1))
+}
+
+// Where the child of byte b stands.
+pub fn link(f: &[u8], o: usize, b: u8) -> usize
+    requires { ⌜ Has48 (now f) o b ⌝ }
+    ensures { λ r. ⌜ r ≡ o + node48Children + 4 * (byteAt (now (f .entry)) (o + node48Index + b) - 1) ⌝ }
+{
+    let p = number::read1(f, o + Node48::INDEX + b as usize);
+    o + Node48::CHILDREN + CHILD_SIZE * (p - 1)
+}
+
+// The first child whose byte is `from` or more.
+pub fn next(f: &[u8], o: usize, from: usize) -> Child
+    requires { ⌜ In48 (now f) o × (from ≤ 256) ⌝ }
+    ensures { λ r. ⌜ ((ks : List (ℕ × ℕ)) → Node48At (now (f .entry)) o ks → (r .byte ≡ nextKid from ks .0) × (r .slot ≡ nextKid from ks .1)) ⌝ }
+{
+    let mut b = from;
+    while b < 256 {
+        let p = number::read1(f, o + Node48::INDEX + b);
+        if 0 < p {
+            let s = Node::child(f, o + Node48::CHILDREN + CHILD_SIZE * (p - 1));
+            return Child { byte: b, slot: s };
+        }
+        b += 1;
+    }
+    Child { byte: 256, slot: 0 }
+}
+
+// The lowest place from 1 that no entry of the index at `at` names, or 49.
+pub fn lowest(f: &[u8], at: usize) -> usize
+    requires { ⌜ at + 256 ≤ length (now f) ⌝ }
+    ensures { λ r. ⌜ Lowest (now (f .entry)) at r ⌝ }
+{
+    let mut place: u8 = 1;
+    let found = 'places: loop {
+        if 49 <= place {
+            break 'places place;
+        }
+        for i in 0..256 {
+            if f[at + i] == place {
+                place += 1;
+                continue 'places;
+            }
+        }
+        break 'places place;
+    };
+    found as usize
+}
+
+// The entry of byte b is x, the child at place p is slot, and n children are in use.
+fn write(f: &mut [u8], o: usize, b: u8, x: u8, p: usize, slot: usize, n: usize)
+    requires { ⌜ (o + 456 ≤ length (now f)) × (1 ≤ p) × (p ≤ 48) × (slot < 4294967296) × (n < 65536) ⌝ }
+    ensures { λ _. ⌜ Wrote48 (now (f .entry)) (now (f .exit)) o b x p slot n ⌝ }
+{
+    number::write1(f, o + Node48::INDEX + b as usize, x);
+    Node::set_child(f, o + Node48::CHILDREN + CHILD_SIZE * (p - 1), slot);
+    Node::set_count(f, o, n);
+}
+
+// A child more, at the lowest empty place.
+pub fn add(f: &mut [u8], o: usize, b: u8, slot: usize)
+    requires { ⌜ Open48 (now f) o × (slot < 4294967296) ⌝ }
+    ensures { λ _. ⌜ Only (now (f .entry)) (now (f .exit)) o (o + 456)
+        × ((ks : List (ℕ × ℕ)) → Node48At (now (f .entry)) o ks → lookKid b ks ≡ none → Node48At (now (f .exit)) o (insertKid b slot ks))
+        × Lowest (now (f .entry)) (o + node48Index) (byteAt (now (f .exit)) (o + node48Index + b))
+        × ((d : ℕ) → d < 256 → (d ≡ b → ⊥) → byteAt (now (f .exit)) (o + node48Index + d) ≡ byteAt (now (f .entry)) (o + node48Index + d)) ⌝ }
+{
+    let n = Node::count(f, o);
+    let p = lowest(f, o + Node48::INDEX);
+    write(f, o, b, p as u8, p, slot, n + 1);
+}
+
+// A child less: its entry and its place are empty.
+pub fn remove(f: &mut [u8], o: usize, b: u8)
+    requires { ⌜ Has48 (now f) o b ⌝ }
+    ensures { λ _. ⌜ Only (now (f .entry)) (now (f .exit)) o (o + 456)
+        × ((ks : List (ℕ × ℕ)) → Node48At (now (f .entry)) o ks → Node48At (now (f .exit)) o (removeKid b ks))
+        × ((d : ℕ) → d < 256 → (d ≡ b → ⊥) → byteAt (now (f .exit)) (o + node48Index + d) ≡ byteAt (now (f .entry)) (o + node48Index + d)) ⌝ }
+{
+    let n = Node::count(f, o);
+    let p = number::read1(f, o + Node48::INDEX + b as usize);
+    write(f, o, b, 0, p, 0, n - 1);
+}
+
+// Byte b and its child at place i + 1, which was empty. The count is left.
+pub fn append(f: &mut [u8], o: usize, i: usize, b: u8, slot: usize)
+    requires { ⌜ (o + 456 ≤ length (now f)) × (i < 48) ⌝ }
+    ensures { λ _. ⌜ now (f .exit) ≡ put 4 (set (now (f .entry)) (o + node48Index + b) (i + 1)) (o + node48Children + 4 * i) slot ⌝ }
+{
+    number::write1(f, o + Node48::INDEX + b as usize, (i + 1) as u8);
+    Node::set_child(f, o + Node48::CHILDREN + CHILD_SIZE * i, slot);
+}

@@ -1,0 +1,5 @@
+pub mod HeapLaws
+pub mod StepLaws
+pub mod CodeLaws
+pub mod FitLaws
+pub mod BookLaws

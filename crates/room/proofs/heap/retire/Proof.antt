@@ -1,0 +1,26 @@
+-- `retire` adds to X. Assumes nothing.
+use native.Mathlib.Omega.{arith}
+use Rattle.room.proofs.CodeLaws.{retire-ok, retire-law}
+use borrow.Author.Needs.{needs}
+use Rattle.room.proofs.heap.retire.Statement.{statement}
+use Rattle.room.proofs.heap.retire.Tie as tie
+
+dead-bytes-requires : tie.Need-dead-bytes-requires
+dead-bytes-requires c κs = search needs
+
+add-set-dead-bytes : tie.Need-add-set-dead-bytes
+add-set-dead-bytes c = omega (arith, retire-ok (c .before .before .before .before .pre))
+
+set-dead-bytes-requires : tie.Need-set-dead-bytes-requires
+set-dead-bytes-requires c κs = search needs
+
+same-length : tie.Need-same-length
+same-length c = search needs
+
+returns : tie.Need-returns
+returns c h o rest P own = retire-law P o _ rest own (c .before .before .before .before .dead-bytes .ensures .0) (c .before .before .set-dead-bytes .ensures)
+
+pub retire-spec : {M : Type 1} → statement M
+retire-spec =
+    tie.close
+    (tie.spec dead-bytes-requires add-set-dead-bytes set-dead-bytes-requires same-length returns)

@@ -1,0 +1,4 @@
+pub mod View
+pub mod Step
+pub mod Fit
+pub mod Book
