@@ -17,7 +17,7 @@ use Rattle.model.specs.Image.{imageOf, image}
 use Rattle.model.specs.Frame.{Stands, Good}
 use Rattle.model.specs.Promise.{FormatPromise, CheckPromise, Found, notFound, LookUpPromise, ValuePromise, PutPromise, ErasePromise, PackPromise}
 use Rattle.model.specs.Call.{Call, keyOf, edited, given, Called}
-use Rattle.model.proofs.PackedWords.{InWords}
+use Rattle.model.specs.Words.{InWords}
 use Rattle.demands.specs.Words.{Refusal, NotRefused, FirstOf, wrongLimits, wrongLength, notGood, keyLength, keyZero, valueLong, outputLength, PutFull, EraseFull, putFull, eraseFull, Holds, slotsOf, OnlyAt, OfBytes}
 
 -- "1. Lend any bytes as frame, key and value. Every public call ends, refuses by document 01's numbers without asking the caller to have

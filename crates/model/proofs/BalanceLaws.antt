@@ -11,7 +11,7 @@ use borrow.Author.Tests.{ne-eqb}
 use Rattle.layout.specs.Kind.{Prefix, Node4, bodySize, most, shrinkMark, kindUp, kindDown}
 use Rattle.model.specs.Strings.{pick, same, shared}
 use Rattle.model.specs.Edition.{Edition, Legal, Lawful}
-use Rattle.model.specs.Tree.{Art, Kids, count, has, join, placeIn, carried, asPrefix, fork, Change, over, idle, newKey, prefixIf, putLeaf, cutPrefix, addChild, putTree, putKids, Left, LeftKids, lessOne, loneChild, underPrefix, close, closeUnder, afterKids, consKid, fromChild, eraseTree, eraseKids}
+use Rattle.model.specs.Tree.{Art, Kids, count, has, join, placeIn, carried, asPrefix, fork, Change, over, idle, newKey, prefixIf, putLeaf, cutPrefix, addChild, putTree, putKids, Left, LeftKids, lessOne, loneChild, underPrefix, close, closeUnder, afterKids, consKid, fromChild, eraseTree, eraseKids, isInner}
 use Rattle.model.specs.Tree.Art.{leaf, prefix, node}
 use Rattle.model.specs.Tree.Kids.{nil, kid}
 use Rattle.model.specs.Tree.Left.{gone, one, kept}
@@ -19,7 +19,7 @@ use Rattle.model.specs.Tree.LeftKids.{fewer, still}
 use Rattle.model.specs.State.{total, after, eraseChange}
 use Rattle.model.specs.Image.{slots, slotsKids, size, sizeKids}
 use Rattle.model.proofs.StringLaws.{bool-cases, eqb-cases, clash, shared-left, same-true}
-use Rattle.model.proofs.Well.{isInner, NodeW, Well, WellKids}
+use Rattle.model.proofs.Well.{NodeW, Well, WellKids}
 use Rattle.model.proofs.WellLaws.{Walk, walk-start, walk-byte, walk-skip, walk-step, two, walk-on, node-inside, inner-inside}
 use Rattle.model.proofs.FindLaws.{AtPrefix, at-prefix}
 use Rattle.model.proofs.FindLaws.AtPrefix.{along, aside}

@@ -14,7 +14,7 @@ use Rattle.layout.specs.Kind.{Node4, Node16, Node48, fewest, most, shrinkMark, 
 use Rattle.layout.specs.Kind.Inner.{node4, node16, node48, node256}
 use Rattle.model.specs.Strings.{same, shared}
 use Rattle.model.specs.Edition.{Edition, Legal, Lawful}
-use Rattle.model.specs.Tree.{Art, Kids, count, taken, carried, Change, over, idle, findTree, findKids, Left, LeftKids, lessOne, loneChild, underPrefix, close, closeUnder, afterKids, consKid, fromChild, eraseTree, eraseKids}
+use Rattle.model.specs.Tree.{Art, Kids, count, taken, carried, Change, over, idle, findTree, findKids, Left, LeftKids, lessOne, loneChild, underPrefix, close, closeUnder, afterKids, consKid, fromChild, eraseTree, eraseKids, isInner}
 use Rattle.model.specs.Tree.Art.{leaf, prefix, node}
 use Rattle.model.specs.Tree.Kids.{nil, kid}
 use Rattle.model.specs.Tree.Left.{gone, one, kept}
@@ -23,7 +23,7 @@ use Rattle.model.specs.Records.{records, recordsKids, lookup, remove, Al
 use Rattle.model.specs.State.{eraseChange}
 use Rattle.model.proofs.StringLaws.{bool-cases, eqb-cases, clash}
 use Rattle.model.proofs.SetLaws.{all-keys-map, Other, remove-append, remove-other}
-use Rattle.model.proofs.Well.{isInner, Distinct, Zeros, PrefixW, NodeW, Well, WellKids}
+use Rattle.model.proofs.Well.{Distinct, Zeros, PrefixW, NodeW, Well, WellKids}
 use Rattle.model.proofs.WellLaws.{starts-less, Walk, walk-start, walk-byte, walk-skip, walk-step, walk-starts, two, walk-on, ahead-kids, node-inside, inner-inside}
 use Rattle.model.proofs.FindLaws.{AtPrefix, other-kid, at-prefix, other-below, find-is}
 use Rattle.model.proofs.FindLaws.AtPrefix.{along, aside}

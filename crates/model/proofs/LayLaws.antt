@@ -11,13 +11,13 @@ use lib.Dec.{eqb}
 use borrow.Author.Tests.{eqb-false}
 use Rattle.layout.specs.Kind.{Leaf, Prefix, Node48, bodySize}
 use Rattle.model.specs.Edition.{Edition}
-use Rattle.model.specs.Tree.{Art, Kids, count, extentOf, numbered, unnumbered, carried}
+use Rattle.model.specs.Tree.{Art, Kids, count, extentOf, numbered, unnumbered, carried, isInner}
 use Rattle.model.specs.Records.{records, recordsKids}
 use Rattle.model.specs.Image.{slots, slotsKids, size, sizeKids, bytesOf, childSlots, smallest, packed, packedKids}
 use Rattle.model.specs.Item.{Item, inside, onSlot, cover, bulk, sum, Sound}
 use Rattle.model.specs.Body.{Asc}
 use Rattle.model.specs.Frame.{Lay, LayKids, slotOf, IsNode, art, artKids, items, itemsAll, pairs, listItems, freed}
-use Rattle.model.proofs.Well.{WellKids, isInner}
+use Rattle.model.proofs.Well.{WellKids}
 use Rattle.model.proofs.StringLaws.{bool-cases}
 use Rattle.model.proofs.ItemLaws.{in-yes, in-under, in-over, in-where, sum-app}
 use Rattle.model.proofs.StandsGood.{size-items, length-pairs}

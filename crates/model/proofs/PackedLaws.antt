@@ -13,19 +13,20 @@ use lib.Dec.{lit≤}
 use Rattle.layout.specs.Kind.{bodySize, fewest, most, Inner}
 use Rattle.layout.specs.Kind.Inner.{node4, node16, node48, node256}
 use Rattle.model.specs.Edition.{Edition, Legal, LegalValue, Lawful}
-use Rattle.model.specs.Tree.{Art, Kids, count, carried}
+use Rattle.model.specs.Tree.{Art, Kids, count, carried, isInner}
 use Rattle.model.specs.Tree.Art.{leaf, prefix, node}
 use Rattle.model.specs.Tree.Kids.{nil, kid}
 use Rattle.model.specs.Records.{Record, records, recordsKids, recordsOf, lookup, AllKeys, Ascending}
 use Rattle.model.specs.Image.{smallest, packed, packedKids, packedTree, putAll, treeOf, slots, slotsKids, size, sizeKids}
 use Rattle.model.proofs.StringLaws.{leb-cases}
 use Rattle.model.proofs.SetLaws.{all-keys-map, all-keys-left, all-keys-right, upsert-front, lookup-all}
-use Rattle.model.proofs.Well.{isInner, Starts, NodeW, Well, WellKids}
+use Rattle.model.proofs.Well.{Starts, NodeW, Well, WellKids}
 use Rattle.model.proofs.GoodState.{TreeOk}
 use Rattle.model.proofs.WellLaws.{two, under, under-kids, ascending}
 use Rattle.model.proofs.KidsLaws.{unnumbered-carried, carried-unnumbered, carried-records, carried-count, carried-slots, carried-size, carried-placed, carried-well, count-room}
 use Rattle.model.proofs.PutLaws.{put-in-ok}
-use Rattle.model.proofs.PackedWords.{Begins, Packs, Runs, InWords, runs-carried, packs-one}
+use Rattle.model.specs.Words.{Begins, Packs, Runs, InWords}
+use Rattle.model.proofs.PackedWords.{runs-carried, packs-one}
 
 -- ---- the packed tree has the same records and slots; the smallest kind holds as many as there are, and its body is no larger
 

@@ -15,14 +15,14 @@ use Rattle.layout.specs.Kind.{Node4, Node48, most, kindUp}
 use Rattle.layout.specs.Kind.Inner.{node4}
 use Rattle.model.specs.Strings.{same, Byte}
 use Rattle.model.specs.Edition.{Edition, Legal, LegalValue, Lawful}
-use Rattle.model.specs.Tree.{Art, Kids, count, has, taken, placeIn, carried, asPrefix, fork, Change, over, putLeaf, cutPrefix, addChild, putTree, putKids}
+use Rattle.model.specs.Tree.{Art, Kids, count, has, taken, placeIn, carried, asPrefix, fork, Change, over, putLeaf, cutPrefix, addChild, putTree, putKids, isInner}
 use Rattle.model.specs.Tree.Art.{leaf, prefix, node}
 use Rattle.model.specs.Tree.Kids.{nil, kid}
 use Rattle.model.specs.Records.{Record, records, recordsKids, recordsOf, lookup, upsert, absent, Ahead}
 use Rattle.model.specs.State.{putIn}
 use Rattle.model.proofs.StringLaws.{bool-cases, eqb-cases, ltb-cases, clash, all-right, shared-at, Parted, same-false}
 use Rattle.model.proofs.SetLaws.{all-keys-map, Other, lookup-none, lookup-after, lookup-before, upsert-after, upsert-before}
-use Rattle.model.proofs.Well.{isInner, Distinct, Zeros, Placed, Starts, PrefixW, NodeW, Well, WellKids}
+use Rattle.model.proofs.Well.{Distinct, Zeros, Placed, Starts, PrefixW, NodeW, Well, WellKids}
 use Rattle.model.proofs.GoodState.{TreeOk}
 use Rattle.model.proofs.WellLaws.{Walk, walk-start, walk-rest, walk-as, walk-byte, walk-skip, walk-step, walk-starts, inside-short, inside-bytes, parted-from, walk-on, walk-lt, ahead-kids, node-inside, inner-inside}
 use Rattle.model.proofs.FindLaws.{AtPrefix, other-kid, other-kids, at-prefix, other-below}

@@ -18,7 +18,7 @@ use Rattle.layout.proofs.NumberLaws.{le-lt}
 use Rattle.layout.proofs.KindLaws.{range-inner}
 use Rattle.model.specs.Strings.{pick, All, Byte}
 use Rattle.model.specs.Edition.{Edition}
-use Rattle.model.specs.Tree.{count, taken}
+use Rattle.model.specs.Tree.{count, taken, isInner}
 use Rattle.model.specs.Records.{records, recordsKids, recordsOf}
 use Rattle.model.specs.State.{State, kinds}
 use Rattle.model.specs.Image.{slots, slotsKids, size, sizeKids}
@@ -27,7 +27,7 @@ use Rattle.model.specs.Body.{Text, PrefixAt, Node48At, InnerAt, Asc, loo
 use Rattle.model.specs.Frame.{Lay, LayKids, Root, bare, tree, slotOf, IsNode, art, artKids, items, itemsAll, pairs, Places, NodeOf, LeafOf, Tree, Trees, RootAt, rootArt, rootItems, Numbers, FrameLength, SlotCapacity, listItems, freed, viewOf, stateOf, Heap, Stands}
 use Rattle.model.specs.Frame.Lay.{leaf, prefix, node}
 use Rattle.model.specs.Frame.LayKids.{nil, kid}
-use Rattle.model.proofs.Well.{Well, WellKids, LeafW, PrefixW, NodeW, isInner, Distinct, Zeros, Placed}
+use Rattle.model.proofs.Well.{Well, WellKids, LeafW, PrefixW, NodeW, Distinct, Zeros, Placed}
 use Rattle.model.proofs.GoodState.{TreeOk, treeSlots, treeSize, weigh, freeOf, GoodState}
 use Rattle.model.proofs.StringLaws.{clash, all-left, all-right}
 use Rattle.model.proofs.ItemLaws.{in-yes, in-under, in-over, sum-app, sum-cons, sum-add, sum-as}

@@ -8,14 +8,9 @@ use lib.Dec.{eqb}
 use Rattle.layout.specs.Kind.{Inner, Node48, fewest, most}
 use Rattle.model.specs.Strings.{pick, All, Byte}
 use Rattle.model.specs.Edition.{Edition, Legal, LegalValue}
-use Rattle.model.specs.Tree.{Art, Kids, count, taken}
+use Rattle.model.specs.Tree.{Art, Kids, isInner, count, taken}
 use Rattle.model.specs.Tree.Art.{leaf, prefix, node}
 use Rattle.model.specs.Tree.Kids.{nil, kid}
-
-abbrev pub isInner : Art → Bool
-isInner (leaf k v) = false
-isInner (prefix p a) = false
-isInner (node kind ks) = true
 
 -- the places of a Node48's children: 1 to 48, no two alike
 abbrev pub Distinct : Kids → Type 0

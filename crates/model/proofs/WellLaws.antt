@@ -12,7 +12,7 @@ use Rattle.layout.specs.Kind.{fewest, Inner}
 use Rattle.layout.specs.Kind.Inner.{node4, node16, node48, node256}
 use Rattle.model.specs.Strings.{All, Byte}
 use Rattle.model.specs.Edition.{Edition, Legal, Lawful}
-use Rattle.model.specs.Tree.{Art, Kids, count}
+use Rattle.model.specs.Tree.{Art, Kids, count, isInner}
 use Rattle.model.specs.Tree.Art.{leaf, prefix, node}
 use Rattle.model.specs.Tree.Kids.{nil, kid}
 use Rattle.model.specs.Tree.Left.{one}
@@ -20,7 +20,7 @@ use Rattle.model.specs.Records.{records, recordsKids, AllKeys, Ascending
 use Rattle.model.proofs.StringLaws.{clash, all-left, all-right, Meets, meets, Parted, before-ahead}
 use Rattle.model.proofs.StringLaws.Meets.{whole, part, ends}
 use Rattle.model.proofs.SetLaws.{all-keys-map, all-keys-append, ascending-append}
-use Rattle.model.proofs.Well.{isInner, Starts, NodeW, Well, WellKids}
+use Rattle.model.proofs.Well.{Starts, NodeW, Well, WellKids}
 
 -- ---- a path that leads on: some legal walked string goes further
 

@@ -44,7 +44,7 @@ abbrev pub putAll : Edition → List Record → Option Art
 putAll E [] = none
 putAll E (r ∷ rs) = some (putIn E (putAll E rs) (r .key) (r .value) .now)
 
--- the tree of a set of records. (`packed-words` of proofs/ shows of it, in document 01's words: one record is a Leaf; more share
+-- the tree of a set of records. (specs/Words has it in document 01's words: one record is a Leaf; more share
 -- a longest beginning and part at a node of the smallest kind.)
 abbrev pub treeOf : Edition → List Record → Option Art
 treeOf E rs = packedTree (putAll E rs)

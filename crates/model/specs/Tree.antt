@@ -24,6 +24,11 @@ mutual
     -- the child's byte, its place (of a Node48, 1 to 48; else 0), the child, and the children at higher bytes
     kid : ℕ → ℕ → Art → Kids → Kids
 
+abbrev pub isInner : Art → Bool
+isInner (leaf k v) = false
+isInner (prefix p a) = false
+isInner (node kind ks) = true
+
 -- the children in use
 abbrev pub count : Kids → ℕ
 count nil = 0
