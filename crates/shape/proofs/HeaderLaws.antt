@@ -1,0 +1,69 @@
+-- The header's test, exit by exit: what a good header has passed, and that one that passed all is good. Assumes nothing.
+use Prim.Native.Nat.{ℕ, _+_, _*_}
+use mathlib.Core.Path.{_≡_, refl}
+use mathlib.Core.List.{List}
+use mathlib.Core.Bool.{Bool, false}
+use native.Mathlib.Omega.{arith}
+use lib.ListN.{length}
+use Rattle.layout.specs.Number.{le}
+use Rattle.layout.specs.Place.{atEdition, atN, atD, atB, atU, atSpare, headerSize}
+use Rattle.model.specs.Frame.{Numbers, Header}
+use Rattle.shape.specs.Decides.{Decides}
+use Rattle.shape.specs.Shape.{Blank, LengthFits, NumbersFit, numbersOf, HeaderTold}
+use Rattle.shape.proofs.DecideLaws.{clash}
+
+-- the fields read
+pub record HeaderRead (f : List ℕ) (n d b u : ℕ) : Type 0 where
+  pub slots : n ≡ le 4 f atN
+  pub start : d ≡ le 4 f atD
+  pub next : b ≡ le 4 f atB
+  pub given : u ≡ le 4 f atU
+
+-- a header has no numbers but those of its fields
+pub only-numbers : (f : List ℕ) (h : Numbers) → Header f h → h ≡ numbersOf f
+only-numbers f h H = rw (H .edition, H .stored, H .slotsAt, H .bumpAt, H .givenAt, H .recordsAt, H .deadAt, H .rootAt) refl
+
+module _ (f : List ℕ) where
+  pub header-denied : ((h : Numbers) → Header f h → h .edition ≡ 1 → ⊥) → HeaderTold f false
+  header-denied n = record { holds = λ e. clash (cc); fails = λ e. n }
+
+  pub header-edition : (h : Numbers) → Header f h → h .edition ≡ 1 → le 4 f atEdition ≡ 1
+  header-edition h H e = cc
+
+  module _ (n d b u : ℕ) (R : HeaderRead f n d b u) where
+    pub header-numbers : (h : Numbers) → Header f h → NumbersFit (length f) n d b u
+    header-numbers h H =
+        let p : n ≡ h .N = cc in
+        let q : b ≡ h .B = cc in
+        record { slotCap = rw p (H .slotCap); dataIs = omega arith; bumpIn = rw (p, q, H .size) (H .bumpIn); givenIn = omega arith }
+
+    pub header-above : (h : Numbers) → Header f h → Blank f (64 + 4 * u) d
+    header-above h H a x y = H .above a (omega arith) (omega arith)
+
+    pub header-end : {r : Bool} → LengthFits f → le 4 f atEdition ≡ 1 → NumbersFit (length f) n d b u → Blank f atSpare headerSize
+        → Decides (Blank f (64 + 4 * u) d) r → HeaderTold f r
+    header-end L e N s D =
+        record {
+          holds = λ t. (
+            record {
+              size = omega arith;
+              limits = omega arith;
+              edition = cc;
+              stored = cc;
+              slotsAt = cc;
+              slotCap = rw (R .slots) at (N .slotCap);
+              dataAt = omega arith;
+              bumpAt = cc;
+              bumpIn = rw (R .slots, R .next, ← L .stored) at (N .bumpIn);
+              givenAt = cc;
+              givenIn = omega arith;
+              recordsAt = cc;
+              deadAt = cc;
+              rootAt = cc;
+              spare = s;
+              above = λ a x y. D .holds t a (omega arith) (omega arith);
+            },
+            e,
+          );
+          fails = λ t h H q. D .fails t (header-above h H);
+        }

@@ -1,0 +1,6 @@
+pub mod DecideLaws
+pub mod ZeroLaws
+pub mod BytesLaws
+pub mod HeaderLaws
+pub mod PrefixLaws
+pub mod LeafLaws

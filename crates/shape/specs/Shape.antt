@@ -1,0 +1,95 @@
+-- What the tests of single things decide: "A good frame", as far as it speaks of one header, one Leaf, one Prefix.
+use Prim.Native.Nat.{ℕ, _+_, _<_, _≤_, _%_}
+use mathlib.Core.Path.{_≡_}
+use mathlib.Core.List.{List}
+use mathlib.Core.Bool.{Bool, true, false}
+use lib.ListN.{length, getD}
+use Rattle.layout.specs.Number.{le, byteAt}
+use Rattle.layout.specs.Place.{atEdition, atF, atN, atB, atU, atR, atX, atRoot, dataStart}
+use Rattle.model.specs.Edition.{edition1}
+use Rattle.model.specs.Tree.{extentOf}
+use Rattle.model.specs.Body.{PrefixAt}
+use Rattle.model.specs.Frame.{Numbers, FrameLength, SlotCapacity, Header, LeafOf}
+
+-- every byte of a range is 0, and none is
+abbrev pub Blank : List ℕ → ℕ → ℕ → Type 0
+Blank f from to = (a : ℕ) → from ≤ a → a < to → byteAt f a ≡ 0
+
+abbrev pub Clean : List ℕ → ℕ → ℕ → Type 0
+Clean f from to = (a : ℕ) → from ≤ a → a < to → byteAt f a ≡ 0 → ⊥
+
+-- ---- the header
+
+-- refusal 1: "the slice's length against F's limits, or against the stored F"
+pub record LengthFits (f : List ℕ) : Type 0 where
+  pub limits : FrameLength (length f)
+  pub stored : le 4 f atF ≡ length f
+
+-- N, D, B and U of a frame of F bytes
+pub record NumbersFit (F N D B U : ℕ) : Type 0 where
+  pub slotCap : SlotCapacity N
+  pub dataIs : D ≡ dataStart N
+  pub bumpIn : (B % 8 ≡ 0) × (dataStart N + 8 ≤ B) × (B ≤ F)
+  pub givenIn : (1 ≤ U) × (U ≤ N)
+
+-- what the header's fields hold
+abbrev pub numbersOf : List ℕ → Numbers
+numbersOf f =
+    record {
+      edition = le 4 f atEdition;
+      F = le 4 f atF;
+      N = le 4 f atN;
+      B = le 4 f atB;
+      U = le 4 f atU;
+      R = le 4 f atR;
+      X = le 4 f atX;
+      root = le 2 f atRoot;
+    }
+
+-- the header is a good one of edition 1, and its numbers are what its fields hold; or it is none, whatever the numbers
+pub record HeaderTold (f : List ℕ) (r : Bool) : Type 0 where
+  pub holds : r ≡ true → Header f (numbersOf f) × (le 4 f atEdition ≡ 1)
+  pub fails : r ≡ false → (h : Numbers) → Header f h → h .edition ≡ 1 → ⊥
+
+-- ---- a Prefix
+
+pub record PrefixHere (f : List ℕ) (o : ℕ) : Type 0 where
+  pub bytes : List ℕ
+  pub child : ℕ
+  pub is : PrefixAt f o bytes child
+
+-- ---- a Leaf
+
+-- an extent of a number of bytes at e, with a key of k, lies between d and b
+pub record ExtentFits (e k size d b : ℕ) : Type 0 where
+  pub eights : e % 8 ≡ 0
+  pub low : d ≤ e
+  pub high : e + size ≤ b
+  pub some : 1 ≤ k
+  pub most : k ≤ 112
+
+-- the n bytes from e are the first n of a path, and none is 0
+pub record Along (f : List ℕ) (e : ℕ) (path : List ℕ) (n : ℕ) : Type 0 where
+  pub same : (i : ℕ) → i < n → byteAt f (e + i) ≡ getD path i 0
+  pub clean : Clean f e (e + n)
+
+-- the walked string of the k bytes from e begins with the first depth bytes of a path
+pub record KeyHere (f : List ℕ) (e k : ℕ) (path : List ℕ) (depth : ℕ) : Type 0 where
+  pub short : depth ≤ k + 1
+  pub clean : Clean f e (e + k)
+  pub same : (i : ℕ) → i < depth → i < k → byteAt f (e + i) ≡ getD path i 0
+  pub end : k < depth → getD path k 0 ≡ 0
+
+-- a Leaf to which the path leads, with an extent of the size at e, between d and b
+pub record LeafHere (f path : List ℕ) (o d b e size : ℕ) : Type 0 where
+  pub key : List ℕ
+  pub value : List ℕ
+  pub is : LeafOf edition1 f path o e key value
+  pub long : size ≡ extentOf key value
+  pub low : d ≤ e
+  pub high : e + size ≤ b
+
+-- such a Leaf stands at o, with the extent told; or none does, whatever the extent
+pub record LeafTold (f path : List ℕ) (o d b : ℕ) (good : Bool) (extent size : ℕ) : Type 0 where
+  pub holds : good ≡ true → LeafHere f path o d b extent size
+  pub fails : good ≡ false → (e n : ℕ) → LeafHere f path o d b e n → ⊥

@@ -1,0 +1,85 @@
+// The frame's length and its header.
+use crate::zero;
+use fields::header::Header;
+use layout::entry::Entry;
+ghost use Rattle.shape.specs.Decides.{Decides};
+ghost use Rattle.shape.specs.Shape.{LengthFits, NumbersFit, HeaderTold};
+
+// F, a multiple of 8
+const LEAST_LENGTH: usize = 1024;
+
+const MOST_LENGTH: usize = 524288;
+
+// N, even
+const LEAST_SLOTS: usize = 8;
+
+const MOST_SLOTS: usize = 10240;
+
+// The slice's length keeps the limits and is the stored F; if not, refusal 1. A short slice is not read.
+pub fn length_good(f: &[u8]) -> bool
+    ensures { λ r. ⌜ Decides (LengthFits (now (f .entry))) r ⌝ }
+{
+    let n = f.len();
+    if n < LEAST_LENGTH {
+        return false;
+    }
+    if n > MOST_LENGTH {
+        return false;
+    }
+    if n % 8 != 0 {
+        return false;
+    }
+    Header::frame_length(f) == n
+}
+
+// N, D, B and U keep their limits in a frame of the length.
+fn numbers_fit(length: usize, n: usize, d: usize, b: usize, u: usize) -> bool
+    ensures { λ r. ⌜ Decides (NumbersFit length n d b u) r ⌝ }
+{
+    if n < LEAST_SLOTS {
+        return false;
+    }
+    if n > MOST_SLOTS {
+        return false;
+    }
+    if n % 2 != 0 {
+        return false;
+    }
+    if d != Header::SIZE + Entry::SIZE * n {
+        return false;
+    }
+    if b < d + 8 {
+        return false;
+    }
+    if b > length {
+        return false;
+    }
+    if b % 8 != 0 {
+        return false;
+    }
+    if u < 1 {
+        return false;
+    }
+    u <= n
+}
+
+// The header is a good one of edition 1, and the entries above U are zero. The slice's length has been passed.
+pub fn header_good(f: &[u8]) -> bool
+    requires { ⌜ LengthFits (now f) ⌝ }
+    ensures { λ r. ⌜ HeaderTold (now (f .entry)) r ⌝ }
+{
+    if Header::edition(f) != Header::EDITION {
+        return false;
+    }
+    let n = Header::slot_capacity(f);
+    let d = Header::data_start(f);
+    let b = Header::next_byte(f);
+    let u = Header::slots_given(f);
+    if !numbers_fit(f.len(), n, d, b, u) {
+        return false;
+    }
+    if !zero::zero_range(f, Header::AT_SPARE, Header::SIZE) {
+        return false;
+    }
+    zero::zero_range(f, Header::SIZE + Entry::SIZE * u, d)
+}

@@ -1,0 +1,105 @@
+// A Leaf's body and its extent, against the path that leads to it.
+use crate::zero;
+use fields::body::Leaf;
+ghost use Prim.Native.Nat.{_+_, _≤_, _<_};
+ghost use lib.ListN.{length, take};
+ghost use Rattle.shape.specs.Decides.{Decides};
+ghost use Rattle.shape.specs.Shape.{ExtentFits, Along, KeyHere, LeafTold};
+
+// the most bytes that a key has
+const KEY_MOST: usize = 112;
+
+// The answer, and of a good Leaf where its extent lies and how many bytes it has, rounded up.
+pub struct LeafFound {
+    pub good: bool,
+    pub extent: usize,
+    pub size: usize,
+}
+
+// The extent lies between d and b at a multiple of 8, and the key has 1 to 112 bytes.
+fn extent_fits(e: usize, k: usize, size: usize, d: usize, b: usize) -> bool
+    requires { ⌜ (e < 4294967296) × (size < 4294967296) ⌝ }
+    ensures { λ r. ⌜ Decides (ExtentFits e k size d b) r ⌝ }
+{
+    if k < 1 {
+        return false;
+    }
+    if k > KEY_MOST {
+        return false;
+    }
+    if e % 8 != 0 {
+        return false;
+    }
+    if e < d {
+        return false;
+    }
+    e + size <= b
+}
+
+// The n bytes at e are those of the path, and none is 0.
+fn along(f: &[u8], e: usize, path: &[u8], n: usize) -> bool
+    requires { ⌜ (e + n ≤ length (now f)) × (n ≤ length (now path)) ⌝ }
+    ensures { λ r. ⌜ Decides (Along (now (f .entry)) e (now (path .entry)) n) r ⌝ }
+{
+    let mut i = 0;
+    while i < n {
+        let c = f[e + i];
+        if c == 0 {
+            return false;
+        }
+        if c != path[i] {
+            return false;
+        }
+        i += 1;
+    }
+    true
+}
+
+// The k bytes at e are a legal key of that length, and its walked string, a byte 0 at its end, begins with the path.
+fn key_good(f: &[u8], e: usize, k: usize, path: &[u8], depth: usize) -> bool
+    requires { ⌜ (e + k ≤ length (now f)) × (depth ≤ length (now path)) ⌝ }
+    ensures { λ r. ⌜ Decides (KeyHere (now (f .entry)) e k (now (path .entry)) depth) r ⌝ }
+{
+    if depth <= k {
+        if !along(f, e, path, depth) {
+            return false;
+        }
+        return zero::no_zero(f, e + depth, e + k);
+    }
+    if depth != k + 1 {
+        return false;
+    }
+    if path[k] != 0 {
+        return false;
+    }
+    along(f, e, path, k)
+}
+
+// The body at o is a Leaf's whose extent lies between d and b, and the path leads to it.
+pub fn leaf_good(f: &[u8], o: usize, path: &[u8], depth: usize, d: usize, b: usize) -> LeafFound
+    requires { ⌜ (o + 16 ≤ length (now f)) × (depth ≤ length (now path)) × (b ≤ length (now f)) ⌝ }
+    ensures { λ r. ⌜ LeafTold (now (f .entry)) (take depth (now (path .entry))) o d b (r .good) (r .extent) (r .size) ⌝ }
+{
+    let none = LeafFound {
+        good: false,
+        extent: 0,
+        size: 0,
+    };
+    let e = Leaf::extent(f, o);
+    let k = Leaf::key_length(f, o);
+    let size = (k + Leaf::value_length(f, o) + 7) / 8 * 8;
+    if !extent_fits(e, k, size, d, b) {
+        return none;
+    }
+    if !zero::zero_eight(f, o + Leaf::ZERO) {
+        return none;
+    }
+    if !key_good(f, e, k, path, depth) {
+        return none;
+    }
+    LeafFound {
+        good: true,
+        extent: e,
+        size: size,
+    }
+}

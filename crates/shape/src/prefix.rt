@@ -1,0 +1,29 @@
+// A Prefix's body.
+use crate::zero;
+use fields::body::Prefix;
+use layout::number;
+ghost use Prim.Native.Nat.{_+_, _≤_};
+ghost use lib.ListN.{length};
+ghost use Rattle.shape.specs.Decides.{Decides};
+ghost use Rattle.shape.specs.Shape.{PrefixHere};
+
+// It has 1 to 112 bytes, and the rest is zero.
+pub fn prefix_good(f: &[u8], o: usize) -> bool
+    requires { ⌜ o + 128 ≤ length (now f) ⌝ }
+    ensures { λ r. ⌜ Decides (PrefixHere (now (f .entry)) o) r ⌝ }
+{
+    let n = Prefix::length(f, o);
+    if n < 1 {
+        return false;
+    }
+    if n > Prefix::MOST {
+        return false;
+    }
+    if number::read2(f, o + Prefix::ZERO) != 0 {
+        return false;
+    }
+    if !zero::zero_eight(f, o + (Prefix::ZERO + 2)) {
+        return false;
+    }
+    zero::zero_range(f, o + Prefix::BYTES + n, o + Prefix::SIZE)
+}

@@ -1,0 +1,4 @@
+pub mod KidsLaws
+pub mod SortedLaws
+pub mod IndexedLaws
+pub mod InnerLaws

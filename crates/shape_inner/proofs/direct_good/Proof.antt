@@ -1,0 +1,82 @@
+-- `direct_good` decides how many children a Node256 has. Assumes nothing.
+use Prim.Native.Nat.{_-_, _≤_}
+use mathlib.Core.Path.{sym, _∙_}
+use native.Mathlib.Omega.{arith}
+use borrow.Author.Needs.{needs}
+use Rattle.shape.proofs.DecideLaws.{by-eq}
+use Rattle.shape_inner.specs.Inner.{child256}
+use Rattle.shape_inner.proofs.KidsLaws.{Counted, counted-end, direct-skip, direct-more}
+use Rattle.shape_inner.proofs.direct_good.Statement.{statement}
+use Rattle.shape_inner.proofs.direct_good.Tie as tie
+
+abbrev Inv-loop : tie.InvT-loop
+Inv-loop f o n used₀ b₀ used b = (used ≤ b) × (b ≤ 256) × Counted (child256 f o) b used
+
+abbrev μ-loop : tie.MeasureT-loop
+μ-loop f o n used₀ b₀ used b = 256 - b
+
+loop-holds : tie.Need-loop-holds Inv-loop μ-loop
+loop-holds c = search needs
+
+add-read4 : tie.Need-add-read4 Inv-loop μ-loop
+add-read4 c = search needs
+
+mul-read4 : tie.Need-mul-read4 Inv-loop μ-loop
+mul-read4 c = search needs
+
+add-read4-2 : tie.Need-add-read4-2 Inv-loop μ-loop
+add-read4-2 c = search needs
+
+read4-requires : tie.Need-read4-requires Inv-loop μ-loop
+read4-requires c κs = search needs
+
+add-b : tie.Need-add-b Inv-loop μ-loop
+add-b c = search needs
+
+loop-less : tie.Need-loop-less Inv-loop μ-loop
+loop-less c = search needs
+
+loop-again : tie.Need-loop-again Inv-loop μ-loop
+loop-again c = let l = c .before .before .before in
+    let a = l .before .before .args in
+    (omega arith, omega arith, direct-skip (a .f .now) (a .o) (l .loop .b) (l .loop .used) (omega arith) (omega arith) (l .loop .inv .2))
+
+add-used : tie.Need-add-used Inv-loop μ-loop
+add-used c = search needs
+
+add-b-2 : tie.Need-add-b-2 Inv-loop μ-loop
+add-b-2 c = search needs
+
+loop-less-2 : tie.Need-loop-less-2 Inv-loop μ-loop
+loop-less-2 c = search needs
+
+loop-again-2 : tie.Need-loop-again-2 Inv-loop μ-loop
+loop-again-2 c = let l = c .before .before .before in
+    let a = l .before .before .args in
+    (omega arith, omega arith, direct-more (a .f .now) (a .o) (l .loop .b) (l .loop .used) (omega arith) (λ e. c .if1 .left (omega arith)) (l .loop .inv .2))
+
+returns : tie.Need-returns Inv-loop μ-loop
+returns c = let l = c .before in
+    let a = l .before .before .args in
+    let e = counted-end (child256 (a .f .now) (a .o)) (l .loop .b) (l .loop .used) (omega arith) (l .loop .inv .2) in
+    by-eq (l .loop .used) (a .n) (λ q. sym e ∙ q) (λ q. e ∙ q)
+
+pub direct-good-spec : {M : Type 1} → statement M
+direct-good-spec =
+    tie.close
+    (tie.spec
+    Inv-loop
+    μ-loop
+    loop-holds
+    add-read4
+    mul-read4
+    add-read4-2
+    read4-requires
+    add-b
+    loop-less
+    loop-again
+    add-used
+    add-b-2
+    loop-less-2
+    loop-again-2
+    returns)

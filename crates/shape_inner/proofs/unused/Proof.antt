@@ -1,0 +1,87 @@
+-- `unused` decides that the places from n on are zero. Assumes nothing.
+use Prim.Native.Nat.{_+_, _-_, _≤_}
+use mathlib.Core.Path.{_≡_}
+use native.Mathlib.Omega.{arith}
+use borrow.Author.Needs.{needs}
+use Rattle.layout.proofs.NumberLaws.{le1}
+use Rattle.shape.proofs.DecideLaws.{granted, denied}
+use Rattle.shape_inner.specs.Inner.{Unused}
+use Rattle.shape_inner.proofs.SortedLaws.{unused-none, unused-more}
+use Rattle.shape_inner.proofs.unused.Statement.{statement}
+use Rattle.shape_inner.proofs.unused.Tie as tie
+
+abbrev Inv-loop : tie.InvT-loop
+Inv-loop f at cap n i₀ i = (n ≤ i) × (i ≤ cap) × Unused f at cap n i
+
+abbrev μ-loop : tie.MeasureT-loop
+μ-loop f at cap n i₀ i = cap - i
+
+loop-holds : tie.Need-loop-holds Inv-loop μ-loop
+loop-holds c = let a = c .before .args in (omega arith, omega arith, unused-none (a .f .now) (a .at) (a .cap) (a .n))
+
+add-read1 : tie.Need-add-read1 Inv-loop μ-loop
+add-read1 c = search needs
+
+read1-requires : tie.Need-read1-requires Inv-loop μ-loop
+read1-requires c κs = search needs
+
+returns : tie.Need-returns Inv-loop μ-loop
+returns c = let l = c .before .before .before in
+    let a = l .before .before .args in
+    denied (λ U. c .if1 .taken (omega (arith, le1 (a .f .now) (a .at + l .loop .i), U .bytes (l .loop .i) (omega arith) (omega arith))))
+
+add-read4 : tie.Need-add-read4 Inv-loop μ-loop
+add-read4 c = search needs
+
+mul-read4 : tie.Need-mul-read4 Inv-loop μ-loop
+mul-read4 c = search needs
+
+add-read4-2 : tie.Need-add-read4-2 Inv-loop μ-loop
+add-read4-2 c = search needs
+
+read4-requires : tie.Need-read4-requires Inv-loop μ-loop
+read4-requires c κs = search needs
+
+returns-2 : tie.Need-returns-2 Inv-loop μ-loop
+returns-2 c = let l = c .before .before .before .before .before in
+    let a = l .before .before .args in
+    denied (λ U. c .if2 .taken (omega (arith, U .children (l .loop .i) (omega arith) (omega arith))))
+
+add-i : tie.Need-add-i Inv-loop μ-loop
+add-i c = search needs
+
+loop-less : tie.Need-loop-less Inv-loop μ-loop
+loop-less c = search needs
+
+loop-again : tie.Need-loop-again Inv-loop μ-loop
+loop-again c = let l = c .before .before .before .before .before in
+    let a = l .before .before .args in (
+      omega arith,
+      omega arith,
+      unused-more (a .f .now) (a .at) (a .cap) (a .n) (l .loop .i) (l .loop .inv .2) (omega (arith, le1 (a .f .now) (a .at + l .loop .i))) (omega arith),
+    )
+
+returns-3 : tie.Need-returns-3 Inv-loop μ-loop
+returns-3 c = let l = c .before in
+    let e : l .loop .i ≡ l .before .before .args .cap = omega arith in
+    granted (rw e at (l .loop .inv .2))
+
+pub unused-spec : {M : Type 1} → statement M
+unused-spec =
+    tie.close
+    (tie.spec
+    Inv-loop
+    μ-loop
+    loop-holds
+    add-read1
+    read1-requires
+    returns
+    add-read4
+    mul-read4
+    add-read4-2
+    read4-requires
+    returns-2
+    add-i
+    loop-less
+    loop-again
+    returns-3)

@@ -1,0 +1,46 @@
+-- What is written is the image of no records. Assumes nothing.
+use Rattle.store.proofs.FormatLaws.{laid-out}
+use borrow.Author.Needs.{needs}
+use Rattle.store.proofs.format.lay_out.Statement.{statement}
+use Rattle.store.proofs.format.lay_out.Tie as tie
+
+mul-start : tie.Need-mul-start
+mul-start c = search needs
+
+add-start : tie.Need-add-start
+add-start c = search needs
+
+clear-requires : tie.Need-clear-requires
+clear-requires c κs = search needs
+
+add-t6 : tie.Need-add-t6
+add-t6 c = search needs
+
+write-requires : tie.Need-write-requires
+write-requires c κs = search needs
+
+write-requires-2 : tie.Need-write-requires-2
+write-requires-2 c κs = search needs
+
+same-length : tie.Need-same-length
+same-length c = search needs
+
+returns : tie.Need-returns
+returns c =
+    let wrote = c .before .before in
+    let cleared = wrote .before .before .before .before .before .before .before .before in
+    let start = cleared .before .before .before in
+    cc (laid-out _ _ _ (start .pre) (cleared .clear .ensures))
+
+pub lay-out-spec : {M : Type 1} → statement M
+lay-out-spec =
+    tie.close
+    (tie.spec
+    mul-start
+    add-start
+    clear-requires
+    add-t6
+    write-requires
+    write-requires-2
+    same-length
+    returns)

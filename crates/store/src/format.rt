@@ -1,0 +1,90 @@
+// Format: "zeroes the frame, then sets slot 1 to an EmptyRoot at D".
+use answers::Format;
+use answers::Refusal;
+use fields::header::Header;
+use layout::entry::Entry;
+use layout::kind::Kind;
+use node::moves;
+ghost use mathlib.Core.Path.{_≡_};
+ghost use mathlib.Core.List.{[]};
+ghost use Prim.Native.Nat.{_+_, _≤_};
+ghost use lib.ListN.{length};
+ghost use Rattle.layout.specs.Place.{dataStart};
+ghost use Rattle.answers.specs.Number.{formatNumber};
+ghost use Rattle.model.specs.Edition.{edition1};
+ghost use Rattle.model.specs.Image.{image};
+ghost use Rattle.model.specs.Frame.{FrameLength, SlotCapacity};
+ghost use Rattle.model.specs.Promise.{FormatPromise};
+ghost use Rattle.shape.specs.Decides.{Decides};
+ghost use Rattle.store.specs.Limits.{Limits};
+
+const LEAST_LENGTH: usize = 1024;
+
+const MOST_LENGTH: usize = 524288;
+
+const LEAST_CAPACITY: usize = 8;
+
+const MOST_CAPACITY: usize = 10240;
+
+// "F or N against the limits (D + 8 above F among them)"
+fn limits_hold(length: usize, capacity: usize) -> bool
+    ensures { λ r. ⌜ Decides (Limits length capacity) r ⌝ }
+{
+    if length % 8 != 0 {
+        return false;
+    }
+    if length < LEAST_LENGTH {
+        return false;
+    }
+    if length > MOST_LENGTH {
+        return false;
+    }
+    if capacity % 2 != 0 {
+        return false;
+    }
+    if capacity < LEAST_CAPACITY {
+        return false;
+    }
+    if capacity > MOST_CAPACITY {
+        return false;
+    }
+    if Header::SIZE + Entry::SIZE * capacity + 8 > length {
+        return false;
+    }
+    true
+}
+
+// The frame as format leaves it; erase of the only record leaves it so too.
+pub fn lay_out(frame: &mut [u8], capacity: usize)
+    requires { ⌜ Limits (length (now frame)) capacity ⌝ }
+    ensures { λ _. ⌜ now (frame .exit) ≡ image edition1 (length (now (frame .entry))) capacity [] ⌝ }
+{
+    let start = Header::SIZE + Entry::SIZE * capacity;
+    let bytes = frame.len();
+    moves::clear(frame, 0, bytes);
+    let header = Header {
+        frame_length: bytes,
+        slot_capacity: capacity,
+        data_start: start,
+        next_byte: start + 8,
+        slots_given: 1,
+        records: 0,
+        dead_bytes: 0,
+        root: 1,
+    };
+    header.write(frame);
+    Entry::write(frame, 1, Kind::EMPTY_ROOT, start);
+}
+
+pub fn format(frame: &mut [u8], length: usize, capacity: usize) -> Format
+    ensures { λ r. ⌜ FormatPromise edition1 (now (frame .entry)) length capacity (formatNumber r) (now (frame .exit)) ⌝ }
+{
+    if frame.len() != length {
+        return Format::Refused(Refusal::Length);
+    }
+    if !limits_hold(length, capacity) {
+        return Format::Refused(Refusal::Length);
+    }
+    lay_out(frame, capacity);
+    Format::Done
+}

@@ -1,0 +1,2 @@
+// The public calls on one lent frame. None of them asks anything of its caller.
+pub mod format;
