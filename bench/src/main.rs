@@ -1,0 +1,86 @@
+//! The proved store beside the plain one: times, or with `stack` the stack.
+
+use std::fmt::Display;
+use store_bench::calls::{plain, proved, Call, Lent};
+use store_bench::deepest::{deep_trees, DeepTree};
+use store_bench::measure::measure;
+use store_bench::plain::layout::MOST_SLOTS;
+use store_bench::stack::bytes_used;
+use store_bench::workload::{workload, Fill, FRAMES};
+
+fn main() {
+    let arguments: Vec<String> = std::env::args().skip(1).collect();
+    match arguments.iter().map(String::as_str).collect::<Vec<_>>()[..] {
+        [] => times(),
+        ["stack"] => stacks(),
+        _ => {
+            eprintln!("no argument: times; `stack`: the stack that each call uses");
+            std::process::exit(2);
+        }
+    }
+}
+
+/// `-` stands for what a call that is not exported yet would give.
+fn shown(figure: Option<impl Display>) -> String {
+    figure.map_or("-".to_string(), |figure| figure.to_string())
+}
+
+fn times() {
+    println!(
+        "{:<18} {:>7} {:<6} {:>6} {:>10} {:>10} {:>6} {:>10} {:>11}",
+        "call", "F", "fill", "slots", "ns plain", "ns proved", "ratio", "plain/slot", "proved/slot"
+    );
+    for (f, n) in FRAMES {
+        for fill in Fill::ALL {
+            let workload = workload(f, n, fill);
+            let slots = workload.slots();
+            for task in &workload.tasks {
+                let measured = measure(&workload, task);
+                let (time, proved) = (measured.plain, measured.proved);
+                let by_slot = |time: f64| format!("{:.1}", time / slots as f64);
+                println!(
+                    "{:<18} {:>7} {:<6} {:>6} {:>10.0} {:>10} {:>6} {:>10} {:>11}",
+                    task.name,
+                    f,
+                    fill.name(),
+                    slots,
+                    time,
+                    shown(proved.as_ref().map(|it| format!("{:.0}", it.time))),
+                    shown(proved.as_ref().map(|it| format!("{:.2}", it.ratio))),
+                    by_slot(time),
+                    shown(proved.as_ref().map(|it| by_slot(it.time))),
+                );
+            }
+        }
+    }
+}
+
+fn stacks() {
+    println!("{:<16} {:<8} {:>12} {:>12}", "way through", "call", "bytes plain", "bytes proved");
+    for tree in deep_trees() {
+        for call in Call::ALL {
+            let (mut frame, mut out) = (tree.frame.clone(), vec![0; tree.frame.len()]);
+            let mut used = |function| {
+                frame.copy_from_slice(&tree.frame);
+                let mut lent = lent(&tree, call, &mut frame, &mut out);
+                bytes_used(function, &mut lent)
+            };
+            let (number, plain_bytes) = used(plain(call));
+            let proved = proved(call).map(used);
+            assert!(proved.is_none_or(|it| it.0 == number), "{} answers differ", call.name());
+            println!(
+                "{:<16} {:<8} {:>12} {:>12}",
+                tree.name,
+                call.name(),
+                plain_bytes,
+                shown(proved.map(|it| it.1)),
+            );
+        }
+    }
+}
+
+/// The deepest key, except for put, which adds a new one beside it.
+fn lent<'a>(tree: &'a DeepTree, call: Call, frame: &'a mut [u8], out: &'a mut [u8]) -> Lent<'a> {
+    let key = if call == Call::Put { &tree.absent } else { &tree.present };
+    Lent { frame, out, key, value: b"", n: MOST_SLOTS, found: [0; 2] }
+}

@@ -1,0 +1,117 @@
+//! Both stores timed in alternation, on the same inputs.
+//!
+//! A sample is a batch of calls. Each round takes one sample of each store,
+//! right after one another and in changing order, so that both meet the same
+//! disturbances. Frames are restored before a sample, outside its time.
+
+use crate::calls::{plain, proved, Function, Lent};
+use crate::workload::{Task, Workload};
+use std::hint::black_box;
+use std::time::{Duration, Instant};
+
+/// Medians, in nanoseconds a call.
+pub struct Measured {
+    pub plain: f64,
+    pub proved: Option<Proved>,
+}
+
+pub struct Proved {
+    pub time: f64,
+    /// The median of the rounds' own ratios, proved to plain.
+    pub ratio: f64,
+}
+
+const ROUNDS: usize = 301;
+const UNCOUNTED_ROUNDS: usize = 10;
+/// A batch of calls that leave the frame as it is takes about this long.
+const BATCH_TIME: Duration = Duration::from_micros(25);
+const LARGEST_BATCH: u32 = 1_000;
+/// Restored copies of the frame for one batch together have about this size.
+const COPIES_BYTES: usize = 16_384;
+
+pub fn measure(workload: &Workload, task: &Task) -> Measured {
+    let mut sampler = Sampler::new(workload, task);
+    let plain = plain(task.call);
+    let proved = proved(task.call);
+    let (mut plain_times, mut proved_times, mut ratios) = (Vec::new(), Vec::new(), Vec::new());
+    for round in 0..UNCOUNTED_ROUNDS + ROUNDS {
+        let proved_first = round % 2 == 1;
+        let mut proved_time = proved.filter(|_| proved_first).map(|it| sampler.sample(it, round));
+        let plain_time = sampler.sample(plain, round);
+        if !proved_first {
+            proved_time = proved.map(|it| sampler.sample(it, round));
+        }
+        if round >= UNCOUNTED_ROUNDS {
+            plain_times.push(plain_time);
+            proved_times.extend(proved_time);
+            ratios.extend(proved_time.map(|it| it / plain_time));
+        }
+    }
+    let time = median(proved_times);
+    let ratio = median(ratios);
+    Measured {
+        plain: median(plain_times).expect("there are rounds"),
+        proved: time.zip(ratio).map(|(time, ratio)| Proved { time, ratio }),
+    }
+}
+
+fn median(mut values: Vec<f64>) -> Option<f64> {
+    values.sort_by(f64::total_cmp);
+    values.get(values.len() / 2).copied()
+}
+
+struct Sampler<'a> {
+    workload: &'a Workload,
+    task: &'a Task,
+    /// One frame for each call of a batch that changes it, else one for all.
+    frames: Vec<Vec<u8>>,
+    out: Vec<u8>,
+    batch: usize,
+}
+
+impl<'a> Sampler<'a> {
+    fn new(workload: &'a Workload, task: &'a Task) -> Sampler<'a> {
+        let f = workload.frame.len();
+        let copies = if task.call.changes_frame() { (COPIES_BYTES / f).max(1) } else { 1 };
+        let frames = vec![workload.frame.clone(); copies];
+        let mut sampler = Sampler { workload, task, frames, out: vec![0; f], batch: copies };
+        if !task.call.changes_frame() {
+            let one_call = sampler.sample(plain(task.call), 0).max(1.0);
+            let calls = BATCH_TIME.as_nanos() as f64 / one_call;
+            sampler.batch = calls.clamp(1.0, f64::from(LARGEST_BATCH)) as usize;
+        }
+        sampler
+    }
+
+    /// Nanoseconds a call, over one batch.
+    fn sample(&mut self, function: Function, round: usize) -> f64 {
+        if self.task.call.changes_frame() {
+            for frame in &mut self.frames {
+                frame.copy_from_slice(&self.workload.frame);
+            }
+        }
+        let Task { name, number, inputs, .. } = self.task;
+        let mut as_expected = true;
+        let mut inputs_left = &inputs[round * self.batch % inputs.len()..];
+        let mut frame = 0;
+        let start = Instant::now();
+        for _ in 0..self.batch {
+            let [input, left @ ..] = inputs_left else { unreachable!("never left empty") };
+            inputs_left = if left.is_empty() { inputs } else { left };
+            let mut lent = Lent {
+                frame: &mut self.frames[frame],
+                out: &mut self.out,
+                key: &input.key,
+                value: &input.value,
+                n: self.workload.n,
+                found: [0; 2],
+            };
+            as_expected &= function(black_box(&mut lent)) == *number;
+            black_box(&mut lent);
+            frame = if frame + 1 == self.frames.len() { 0 } else { frame + 1 };
+        }
+        let time = start.elapsed();
+        assert!(as_expected, "{name} gives another number than {number}");
+        time.as_nanos() as f64 / self.batch as f64
+    }
+}

@@ -1,0 +1,64 @@
+//! The plain store: document 01 in Rust without proofs, written for speed.
+//!
+//! The six public calls over a lent frame. Each call on an existing frame
+//! begins with the whole check (refusals 1 and 2) and then works in place,
+//! without a heap.
+
+mod change;
+mod check;
+pub mod layout;
+mod pack;
+mod walk;
+
+pub use change::{erase, put};
+pub use check::check;
+pub use pack::pack;
+
+use layout::number::*;
+use layout::*;
+
+pub fn format(frame: &mut [u8], f: usize, n: usize) -> u32 {
+    if !frame_length_allowed(f) || !slot_capacity_allowed(n) || frame.len() != f {
+        return LENGTHS;
+    }
+    let d = data_start(n);
+    if d + EMPTY_ROOT_BYTES > f {
+        return LENGTHS;
+    }
+    frame.fill(0);
+    for (at, field) in [
+        (AT_EDITION, EDITION),
+        (AT_F, f),
+        (AT_N, n),
+        (AT_D, d),
+        (AT_B, d + EMPTY_ROOT_BYTES),
+        (AT_U, 1),
+    ] {
+        set32(frame, at, field);
+    }
+    set16(frame, AT_ROOT, 1);
+    set_entry(frame, 1, d, EMPTY_ROOT);
+    DONE
+}
+
+/// The number, and the place and length of the value.
+pub fn look_up(frame: &[u8], key: &[u8]) -> (u32, u64, u64) {
+    match refusal(frame, key) {
+        DONE => {}
+        refused => return (refused, 0, 0),
+    }
+    let end = walk::walk(frame, key).end;
+    match walk::present(frame, &end, key) {
+        None => (ABSENT, 0, 0),
+        Some(leaf) => (DONE, (leaf.extent + key.len()) as u64, leaf.value_length as u64),
+    }
+}
+
+/// Refusals 1 to 4, in their order.
+fn refusal(frame: &[u8], key: &[u8]) -> u32 {
+    match check(frame) {
+        DONE if !(1..=LONGEST_KEY).contains(&key.len()) => KEY_LENGTH,
+        DONE if key.contains(&END_BYTE) => KEY_HOLDS_ZERO,
+        checked => checked,
+    }
+}

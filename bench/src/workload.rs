@@ -1,0 +1,169 @@
+//! The frames that are measured, and the calls that are made on them.
+//!
+//! Records look like the settings of small devices: line profiles, subscriber
+//! settings and pieces of firmware. Everything follows from fixed seeds.
+
+use crate::calls::{self, Call, Lent};
+use crate::plain;
+use crate::plain::layout::number::{ABSENT, DONE, NO_ROOM, REPLACED};
+use crate::plain::layout::{get32, AT_U, MOST_SLOTS};
+use crate::random::Random;
+
+/// Frame lengths with their slot capacities.
+pub const FRAMES: [(usize, usize); 3] = [(1_024, 16), (16_384, 300), (524_288, MOST_SLOTS)];
+
+#[derive(Clone, Copy, PartialEq, Eq, Debug)]
+pub enum Fill {
+    /// A tenth of the records that a full frame holds, at least two.
+    Sparse,
+    /// Records put until 6, less a few, so that there is room for each call.
+    Full,
+}
+
+impl Fill {
+    pub const ALL: [Fill; 2] = [Fill::Sparse, Fill::Full];
+
+    pub fn name(self) -> &'static str {
+        match self {
+            Fill::Sparse => "sparse",
+            Fill::Full => "full",
+        }
+    }
+
+    fn records(self, most: usize) -> usize {
+        match self {
+            Fill::Sparse => (most / 10).max(2),
+            Fill::Full => most - (most / 50).max(1),
+        }
+    }
+}
+
+pub struct Record {
+    pub key: Vec<u8>,
+    pub value: Vec<u8>,
+}
+
+/// A call with the inputs it is measured on; each of them gives `number`.
+pub struct Task {
+    pub name: &'static str,
+    pub call: Call,
+    pub number: u32,
+    pub inputs: Vec<Record>,
+}
+
+pub struct Workload {
+    pub frame: Vec<u8>,
+    pub n: usize,
+    pub tasks: Vec<Task>,
+}
+
+impl Workload {
+    /// Slots ever given out.
+    pub fn slots(&self) -> usize {
+        get32(&self.frame, AT_U)
+    }
+}
+
+const SEED: u64 = 1;
+/// Different inputs of one task; they are used in turn.
+const MOST_INPUTS: usize = 64;
+const LONGEST_NEW_VALUE: usize = 48;
+
+pub fn workload(f: usize, n: usize, fill: Fill) -> Workload {
+    let mut random = Random::new(SEED);
+    let mut records = all_records(&mut random);
+    let most = puts_until_no_room(&mut formatted(f, n), &records);
+    let most = most.expect("there are more records than any frame holds");
+    let absent = records.split_off(fill.records(most));
+    let mut frame = formatted(f, n);
+    let refused = puts_until_no_room(&mut frame, &records);
+    assert_eq!(refused, None, "fewer records than a full frame's have room");
+    let tasks = tasks(&frame, n, &records, &absent);
+    Workload { frame, n, tasks }
+}
+
+fn formatted(f: usize, n: usize) -> Vec<u8> {
+    let mut frame = vec![0; f];
+    assert_eq!(plain::format(&mut frame, f, n), DONE, "F {f} and N {n} are within the limits");
+    frame
+}
+
+/// Puts one record after the other; gives how many were put before a 6.
+fn puts_until_no_room(frame: &mut [u8], records: &[Record]) -> Option<usize> {
+    records.iter().position(|it| plain::put(frame, &it.key, &it.value) == NO_ROOM)
+}
+
+/// More records than the largest frame holds, with distinct keys, shuffled.
+fn all_records(random: &mut Random) -> Vec<Record> {
+    let groups: [(&str, usize, &[&str]); 3] = [
+        ("line", 480, &["rate", "profile", "vlan", "state", "loop.length", "margin"]),
+        ("subscriber", 640, &["name", "plan", "since", "credit", "voice.number"]),
+        ("firmware", 200, &["part", "sum", "size", "signature", "version", "boot"]),
+    ];
+    let mut records = Vec::new();
+    for (group, members, fields) in groups {
+        for member in 0..members {
+            for field in fields {
+                let length = random.below(LONGEST_NEW_VALUE);
+                let key = format!("{group}/{member}/{field}").into_bytes();
+                records.push(Record { key, value: random.bytes(length) });
+            }
+        }
+    }
+    random.shuffle(&mut records);
+    records
+}
+
+fn tasks(frame: &[u8], n: usize, present: &[Record], absent: &[Record]) -> Vec<Task> {
+    let keys = |from: &[Record]| -> Vec<Record> {
+        from.iter().map(|it| Record { key: it.key.clone(), value: Vec::new() }).collect()
+    };
+    let with = |from: &[Record], value: fn(&[u8]) -> Vec<u8>| -> Vec<Record> {
+        from.iter().map(|it| Record { key: it.key.clone(), value: value(&it.value) }).collect()
+    };
+    let same: fn(&[u8]) -> Vec<u8> = |value| value.to_vec();
+    let same_length: fn(&[u8]) -> Vec<u8> = |value| value.iter().map(|byte| !byte).collect();
+    let other_length: fn(&[u8]) -> Vec<u8> = |value| vec![b'+'; value.len() % 16 + 1];
+    let nothing = || vec![Record { key: Vec::new(), value: Vec::new() }];
+    let tasks = [
+        ("format", Call::Format, DONE, nothing()),
+        ("check", Call::Check, DONE, nothing()),
+        ("look-up, present", Call::LookUp, DONE, keys(present)),
+        ("look-up, absent", Call::LookUp, ABSENT, keys(absent)),
+        ("put, new", Call::Put, DONE, with(absent, same)),
+        ("put, same length", Call::Put, REPLACED, with(present, same_length)),
+        ("put, other length", Call::Put, REPLACED, with(present, other_length)),
+        ("erase", Call::Erase, DONE, keys(present)),
+        ("pack", Call::Pack, DONE, nothing()),
+    ];
+    tasks
+        .into_iter()
+        .map(|(name, call, number, mut inputs)| {
+            keep_giving(frame, n, call, number, &mut inputs);
+            assert!(!inputs.is_empty(), "no input of {name} gives {number}");
+            Task { name, call, number, inputs }
+        })
+        .collect()
+}
+
+/// Keeps inputs that give this number on a copy of the frame, and not too many.
+fn keep_giving(frame: &[u8], n: usize, call: Call, number: u32, inputs: &mut Vec<Record>) {
+    let (mut copy, mut out) = (frame.to_vec(), vec![0; frame.len()]);
+    let mut kept = 0;
+    inputs.retain(|input| {
+        if kept == MOST_INPUTS {
+            return false;
+        }
+        copy.copy_from_slice(frame);
+        let given = calls::plain(call)(&mut Lent {
+            frame: &mut copy,
+            out: &mut out,
+            key: &input.key,
+            value: &input.value,
+            n,
+            found: [0; 2],
+        });
+        kept += usize::from(given == number);
+        given == number
+    });
+}

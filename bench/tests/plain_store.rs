@@ -1,0 +1,45 @@
+//! The plain store held to everything that any store is held to: all answers,
+//! all frames after a call and all packed bytes, against the second store.
+
+use second_store::compare::{Calls, Comparer};
+use second_store::history;
+use second_store::run::{all_stages, Effort};
+use store_bench::plain;
+
+struct Plain;
+
+impl Calls for Plain {
+    fn format(&self, frame: &mut [u8], f: usize, n: usize) -> u32 {
+        plain::format(frame, f, n)
+    }
+    fn check(&self, frame: &[u8]) -> u32 {
+        plain::check(frame)
+    }
+    fn look_up(&self, frame: &[u8], key: &[u8]) -> (u32, u64, u64) {
+        plain::look_up(frame, key)
+    }
+    fn put(&self, frame: &mut [u8], key: &[u8], value: &[u8]) -> u32 {
+        plain::put(frame, key, value)
+    }
+    fn erase(&self, frame: &mut [u8], key: &[u8]) -> u32 {
+        plain::erase(frame, key)
+    }
+    fn pack(&self, frame: &[u8], out: &mut [u8]) -> u32 {
+        plain::pack(frame, out)
+    }
+}
+
+#[test]
+fn plain_calls_agree_and_reach_every_case() {
+    let effort = Effort::from_environment();
+    let tally = all_stages(&Plain, effort).unwrap_or_else(|told| panic!("{told}"));
+    let missed = tally.never_reached();
+    assert!(missed.is_empty(), "{effort:?} never reaches {missed:#?}");
+}
+
+#[test]
+fn plain_check_agrees_on_single_bytes() {
+    let mut comparer = Comparer::new(&Plain);
+    history::single_bytes(&mut comparer, &history::small_frames())
+        .unwrap_or_else(|told| panic!("{told}"));
+}

@@ -1,0 +1,67 @@
+//! What is measured is what the reader is told: good frames by the second
+//! store's check, as full and as deep as they should be.
+
+use second_store::check::{check, read};
+use second_store::decode;
+use second_store::layout::number::{DONE, NO_ROOM};
+use second_store::slotless::Tree;
+use second_store::store;
+use store_bench::calls::Call;
+use store_bench::deepest::deep_trees;
+use store_bench::workload::{workload, Fill, FRAMES};
+
+/// Slots on the longest way from the root.
+fn slots_deep(tree: &Tree) -> usize {
+    1 + match tree {
+        Tree::Leaf { .. } => 0,
+        Tree::Prefix { below, .. } => slots_deep(below),
+        Tree::Inner { children, .. } => {
+            children.values().map(|child| slots_deep(child)).max().unwrap_or(0)
+        }
+    }
+}
+
+#[test]
+fn deep_trees_are_as_deep_as_allowed() {
+    for tree in deep_trees() {
+        let reading = read(&tree.frame).expect("the lengths agree");
+        let state = decode::state(&tree.frame, &reading);
+        let root = state.tree.expect("there are records");
+        assert_eq!(slots_deep(&root), 113, "{}", tree.name);
+        assert_eq!(store::look_up(&tree.frame, &tree.present).0, DONE, "{}", tree.name);
+        assert_eq!(store::put(&mut tree.frame.clone(), &tree.absent, b""), DONE, "{}", tree.name);
+    }
+}
+
+#[test]
+fn workloads_give_the_numbers_they_tell() {
+    for (f, n) in FRAMES {
+        for fill in Fill::ALL {
+            let workload = workload(f, n, fill);
+            assert_eq!(check(&workload.frame), DONE);
+            for task in &workload.tasks {
+                let input = &task.inputs[0];
+                let mut frame = workload.frame.clone();
+                let number = match task.call {
+                    Call::Format => store::format(&mut frame, f, n),
+                    Call::Check => check(&frame),
+                    Call::LookUp => store::look_up(&frame, &input.key).0,
+                    Call::Put => store::put(&mut frame, &input.key, &input.value),
+                    Call::Erase => store::erase(&mut frame, &input.key),
+                    Call::Pack => store::pack(&frame, &mut vec![0; f]),
+                };
+                assert_eq!(number, task.number, "{} of {f} bytes, {fill:?}", task.name);
+            }
+        }
+    }
+}
+
+#[test]
+fn full_frames_have_little_room_left() {
+    for (f, n) in FRAMES {
+        let workload = workload(f, n, Fill::Full);
+        let value = vec![0; f / 16];
+        let number = store::put(&mut workload.frame.clone(), b"one more", &value);
+        assert_eq!(number, NO_ROOM, "{f} bytes");
+    }
+}
