@@ -1,0 +1,13 @@
+pub mod BodyLaws
+pub mod TreeLaws
+pub mod KidsLaws
+pub mod HoleLaws
+pub mod WorkLaws
+pub mod LinkLaws
+pub mod ChangeLaws
+pub mod EditLaws
+pub mod LeadLaws
+pub mod EraseLaws
+pub mod SinceLaws
+pub mod OutsideLaws
+pub mod BookedLaws

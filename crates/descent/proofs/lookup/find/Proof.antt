@@ -1,0 +1,28 @@
+-- `find` gives what the end of the descent says. Assumes nothing.
+use borrow.Author.Needs.{needs}
+use Rattle.descent.proofs.LookLaws.{found-leaf, looked-none, looked-some}
+use Rattle.descent.proofs.lookup.find.Statement.{statement}
+use Rattle.descent.proofs.lookup.find.Tie as tie
+
+descend-requires : tie.Need-descend-requires
+descend-requires c κs = search needs
+
+returns : tie.Need-returns
+returns c = looked-none (c .before .before .descend .ensures) (c .if1 .taken)
+
+extent-requires : tie.Need-extent-requires
+extent-requires c κs = let z = c .before .before .before .before .before .before .pre in found-leaf (z .stands) (c .before .before .before .descend .ensures (z .st) (z .stands)) (c .before .if1 .left) .room
+
+add-from : tie.Need-add-from
+add-from c = search needs
+
+value-length-requires : tie.Need-value-length-requires
+value-length-requires c κs = let z = c .before .before .before .before .before .before .before .pre in found-leaf (z .stands) (c .before .before .before .before .descend .ensures (z .st) (z .stands)) (c .before .before .if1 .left) .room
+
+returns-2 : tie.Need-returns-2
+returns-2 c = looked-some (c .before .before .before .before .before .descend .ensures) (c .before .extent .result) (c .value-length .result) (c .before .before .before .if1 .left) (c .before .extent .ensures .0) (c .value-length .ensures .0)
+
+pub find-spec : {M : Type 1} → statement M
+find-spec =
+    tie.close
+    (tie.spec descend-requires returns extent-requires add-from value-length-requires returns-2)

@@ -1,0 +1,55 @@
+// Look-up: the place and length of a key's value, and the value itself as that part of the frame.
+use crate::spot::Spot;
+use crate::walk;
+use fields::body::Leaf;
+ghost use mathlib.Core.Path.{_≡_};
+ghost use Rattle.model.specs.Edition.{edition1};
+ghost use Rattle.model.specs.State.{State, findIn};
+ghost use Rattle.model.specs.Frame.{Stands};
+ghost use Rattle.descent.specs.Spot.{Standing};
+ghost use Rattle.descent.specs.Lookup.{Looked, orEmpty};
+
+pub struct Held {
+    pub found: bool,
+    // counted from the frame's start
+    pub place: usize,
+    pub length: usize,
+}
+
+// Where a key's value stands in a good frame.
+pub fn find(f: &[u8], key: &[u8]) -> Held
+    requires { ⌜ Standing (now f) ⌝ }
+    ensures { λ r. ⌜ ((st : State) (W : Stands edition1 (now (f .entry)) st) → Looked (now (f .entry)) (now (key .entry)) st (W .root) r) ⌝ }
+{
+    let s = walk::descend(f, key);
+    if s.end != Spot::FOUND {
+        return Held {
+            found: false,
+            place: 0,
+            length: 0,
+        };
+    }
+    let here = s.here;
+    let leaf = here.place;
+    let from = Leaf::extent(f, leaf) + key.len();
+    let long = Leaf::value_length(f, leaf);
+    Held {
+        found: true,
+        place: from,
+        length: long,
+    }
+}
+
+// The value as a part of the frame; for an absent key the empty part at its start.
+pub fn value<'a>(f: &'a [u8], key: &[u8]) -> &'a [u8]
+    requires { ⌜ Standing (now f) ⌝ }
+    ensures { λ r. ⌜ ((st : State) → Stands edition1 (now (f .entry)) st → now r ≡ orEmpty (findIn edition1 (st .tree) (now (key .entry)))) ⌝ }
+{
+    let v = find(f, key);
+    if v.found {
+        let from = v.place;
+        let to = from + v.length;
+        return &f[from..to];
+    }
+    &f[..0]
+}

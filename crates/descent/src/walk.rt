@@ -1,0 +1,97 @@
+// The descent: from the root slot a step at a time, by the key's walked string.
+use crate::key;
+use crate::spot::Spot;
+use fields::body::Leaf;
+use fields::body::Prefix;
+use fields::header::Header;
+use inner::look;
+use layout::entry::Entry;
+use layout::kind::Kind;
+ghost use mathlib.Core.Path.{_≡_};
+ghost use mathlib.Core.List.{List};
+ghost use Prim.Native.Nat.{ℕ};
+ghost use Rattle.model.specs.Edition.{edition1};
+ghost use Rattle.model.specs.State.{State};
+ghost use Rattle.model.specs.Frame.{Stands};
+ghost use Rattle.descent.specs.Spot.{SpotAt, Standing, Going, AtLeaf, AtPrefix, AtNode, Stepped};
+
+// At a Leaf: "Trusting the path without comparing the whole key at the Leaf" is an error.
+fn at_leaf(f: &[u8], key: &[u8], s: Spot, place: usize) -> Spot
+    requires { ⌜ AtLeaf (now f) (now key) s place ⌝ }
+    ensures { λ r. ⌜ Stepped (now (f .entry)) (now (key .entry)) s r ⌝ }
+{
+    let from = Leaf::extent(f, place);
+    let to = from + Leaf::key_length(f, place);
+    let own = &f[from..to];
+    if check::same(own, key) {
+        return s.ended(Spot::FOUND, place, Kind::LEAF, 0);
+    }
+    let depth = s.depth;
+    let q = key::shared_from(key, own, depth);
+    s.ended(Spot::OTHER, place, Kind::LEAF, q)
+}
+
+fn at_prefix(f: &[u8], key: &[u8], s: Spot, place: usize) -> Spot
+    requires { ⌜ AtPrefix (now f) (now key) s place ⌝ }
+    ensures { λ r. ⌜ Stepped (now (f .entry)) (now (key .entry)) s r ⌝ }
+{
+    let n = Prefix::length(f, place);
+    let from = place + Prefix::BYTES;
+    let to = from + n;
+    let depth = s.depth;
+    let q = key::matched(&f[from..to], key, depth);
+    if q < n {
+        return s.ended(Spot::PARTED, place, Kind::PREFIX, q);
+    }
+    let child = Prefix::child(f, place);
+    s.below_prefix(place, n, child)
+}
+
+fn at_node(f: &[u8], key: &[u8], s: Spot, place: usize, kind: usize) -> Spot
+    requires { ⌜ AtNode (now f) (now key) s place kind ⌝ }
+    ensures { λ r. ⌜ Stepped (now (f .entry)) (now (key .entry)) s r ⌝ }
+{
+    let depth = s.depth;
+    let b = key::walked_at(key, depth);
+    let child = look::find(f, place, kind, b);
+    if child == 0 {
+        return s.ended(Spot::MISSING, place, kind, 0);
+    }
+    let link = look::link(f, place, kind, b);
+    s.below_node(place, kind, b, child, link)
+}
+
+// One step: deeper, or to the end.
+fn step(f: &[u8], key: &[u8], s: Spot) -> Spot
+    requires { ⌜ Going (now f) (now key) s ⌝ }
+    ensures { λ r. ⌜ Stepped (now (f .entry)) (now (key .entry)) s r ⌝ }
+{
+    let here = s.here;
+    let e = Entry::read(f, here.slot);
+    if e.high == Kind::LEAF {
+        return at_leaf(f, key, s, e.place);
+    }
+    if e.high == Kind::PREFIX {
+        return at_prefix(f, key, s, e.place);
+    }
+    at_node(f, key, s, e.place, e.high)
+}
+
+// Where the way of a key through a good frame ends.
+pub fn descend(f: &[u8], key: &[u8]) -> Spot
+    requires { ⌜ Standing (now f) ⌝ }
+    ensures { λ r. ⌜ ((st : State) (W : Stands edition1 (now (f .entry)) st) → SpotAt (now (key .entry)) (W .root) r) ⌝ }
+{
+    let slot = Header::root(f);
+    let e = Entry::read(f, slot);
+    let mut s = Spot::start(slot, Header::AT_ROOT);
+    if e.high == Kind::EMPTY_ROOT {
+        return s.ended(Spot::EMPTY, e.place, Kind::EMPTY_ROOT, 0);
+    }
+    loop {
+        s = step(f, key, s);
+        if s.end != Spot::GOING {
+            return s;
+        }
+    }
+}
