@@ -15,6 +15,9 @@ ghost use Rattle.model.specs.Body.{Asc};
 ghost use Rattle.shape.specs.Decides.{Decides};
 ghost use Rattle.shape_inner.specs.Inner.{CountFits, InnerHere, sortedKids, Unused, SortedHere, Unmarked, IndexedHere, kids256};
 
+// Bytes of a child.
+const CHILD_SIZE: usize = 4;
+
 // what follows the count is zero: two bytes, and four more in every kind but Node4
 const ZERO: usize = 2;
 
@@ -51,7 +54,7 @@ fn unused(f: &[u8], at: usize, cap: usize, n: usize) -> bool
         if number::read1(f, at + i) != 0 {
             return false;
         }
-        if number::read4(f, at + cap + Node::CHILD * i) != 0 {
+        if number::read4(f, at + cap + CHILD_SIZE * i) != 0 {
             return false;
         }
         i += 1;
@@ -83,7 +86,7 @@ fn unmarked(f: &[u8], at: usize, seen: &[u8]) -> bool
             p += 1;
             continue;
         }
-        if number::read4(f, at + Node::CHILD * p) != 0 {
+        if number::read4(f, at + CHILD_SIZE * p) != 0 {
             return false;
         }
         p += 1;
@@ -132,7 +135,7 @@ fn direct_good(f: &[u8], o: usize, n: usize) -> bool
     let mut used: usize = 0;
     let mut b = 0;
     while b < 256 {
-        if number::read4(f, o + Node256::CHILDREN + Node::CHILD * b) == 0 {
+        if number::read4(f, o + Node256::CHILDREN + CHILD_SIZE * b) == 0 {
             b += 1;
             continue;
         }

@@ -1,2 +1,3 @@
 // The public calls on one lent frame. None of them asks anything of its caller.
 pub mod format;
+pub mod look;

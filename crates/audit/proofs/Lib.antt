@@ -1,0 +1,4 @@
+pub mod TreeLaws
+pub mod WalkLaws
+pub mod RootLaws
+pub mod WholeLaws

@@ -1,0 +1,57 @@
+-- One law for each answer (RootLaws). Assumes nothing.
+use native.Mathlib.Omega.{arith}
+use borrow.Author.Tests.{not-true, not-false}
+use Rattle.shape.proofs.DecideLaws.{refuted, passed}
+use Rattle.audit.proofs.RootLaws.{zero-blank, blank-zero, empty-body, empty-zero, empty-good}
+use borrow.Author.Needs.{needs}
+use Rattle.audit.proofs.whole.empty.Statement.{statement}
+use Rattle.audit.proofs.whole.empty.Tie as tie
+
+body-requires : tie.Need-body-requires
+body-requires c κs = search needs
+
+refused-requires : tie.Need-refused-requires
+refused-requires c κs = search needs
+
+same-length : tie.Need-same-length
+same-length c = search needs
+
+returns : tie.Need-returns
+returns c = empty-body (c .before .before .before .before .before .body .ensures) (not-true _ (c .before .if1 .taken)) (c .refused .ensures)
+
+zero-eight-requires : tie.Need-zero-eight-requires
+zero-eight-requires c κs = omega (arith, c .before .before .before .before .body .ensures .high (not-false _ (c .if1 .left)), c .before .before .before .before .before .before .before .before .pre .0 .inside)
+
+refused-requires-2 : tie.Need-refused-requires-2
+refused-requires-2 c κs = search needs
+
+same-length-2 : tie.Need-same-length-2
+same-length-2 c = search needs
+
+returns-2 : tie.Need-returns-2
+returns-2 c =
+    let a = c .before .before .before .before .before .before .before .before .before .before .before .args in
+    empty-zero (c .before .before .before .before .before .before .before .body .ensures) (λ Z. refuted (c .before .before .zero-eight .ensures) (c .before .if2 .taken) (blank-zero (a .f .now) (a .o) Z)) (c .refused2 .ensures)
+
+same-length-3 : tie.Need-same-length-3
+same-length-3 c = search needs
+
+returns-3 : tie.Need-returns-3
+returns-3 c =
+    let a = c .before .before .before .before .before .before .before .before .before .before .args in
+    empty-good (c .before .before .before .before .before .before .body .ensures) (not-false _ (c .before .before .if1 .left)) (zero-blank (a .f .now) (a .o) (passed (c .before .zero-eight .ensures) (c .if2 .left)))
+
+pub empty-spec : {M : Type 1} → statement M
+empty-spec =
+    tie.close
+    (tie.spec
+    body-requires
+    refused-requires
+    same-length
+    returns
+    zero-eight-requires
+    refused-requires-2
+    same-length-2
+    returns-2
+    same-length-3
+    returns-3)

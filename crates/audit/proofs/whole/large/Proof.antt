@@ -1,0 +1,18 @@
+-- A map of 1024 words that is zero. Assumes nothing.
+use native.Mathlib.Omega.{arith}
+use Rattle.claims.proofs.UnitLaws.{bit-fresh}
+use borrow.Author.Needs.{needs}
+use Rattle.audit.proofs.whole.large.Statement.{statement}
+use Rattle.audit.proofs.whole.large.Tie as tie
+
+slice-aggregate-over : tie.Need-slice-aggregate-over
+slice-aggregate-over c = search needs
+
+over-requires : tie.Need-over-requires
+over-requires c κs = let h = c .before .before .pre .header in (c .before .before .pre, (omega (arith, h .size, h .limits)), bit-fresh 1024)
+
+returns : tie.Need-returns
+returns c = search needs
+
+pub large-spec : {M : Type 1} → statement M
+large-spec = tie.close (tie.spec slice-aggregate-over over-requires returns)

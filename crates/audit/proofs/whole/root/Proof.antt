@@ -1,0 +1,60 @@
+-- One law for each answer (RootLaws). Assumes nothing.
+use native.Mathlib.Omega.{arith}
+use Rattle.audit.proofs.RootLaws.{root-slot, root-empty, root-tree}
+use borrow.Author.Needs.{needs}
+use Rattle.audit.proofs.whole.root.Statement.{statement}
+use Rattle.audit.proofs.whole.root.Tie as tie
+
+refused-requires : tie.Need-refused-requires
+refused-requires c κs = search needs
+
+returns : tie.Need-returns
+returns c = root-slot (c .refused .ensures) (λ a z. omega (arith, c .before .if1 .taken))
+
+refused-requires-2 : tie.Need-refused-requires-2
+refused-requires-2 c κs = search needs
+
+returns-2 : tie.Need-returns-2
+returns-2 c = root-slot (c .refused2 .ensures) (λ a z. omega (arith, c .before .if2 .taken))
+
+read-requires : tie.Need-read-requires
+read-requires c κs = search needs
+
+empty-requires : tie.Need-empty-requires
+empty-requires c κs = search needs
+
+same-length : tie.Need-same-length
+same-length c = search needs
+
+returns-3 : tie.Need-returns-3
+returns-3 c =
+    root-empty (omega (arith, c .before .before .before .before .before .before .before .before .if1 .left)) (omega (arith, c .before .before .before .before .before .before .before .if2 .left)) (c .before .before .before .before .before .before .read .ensures .0) (c .before .before .before .before .before .before .read .ensures .1) (c .before .before .before .before .if3 .taken) (c .before .before .empty .ensures)
+
+slice-aggregate-visit : tie.Need-slice-aggregate-visit
+slice-aggregate-visit c = search needs
+
+visit-requires : tie.Need-visit-requires
+visit-requires c κs = search needs
+
+same-length-2 : tie.Need-same-length-2
+same-length-2 c = search needs
+
+returns-4 : tie.Need-returns-4
+returns-4 c = root-tree (c .before .before .before .before .before .before .before .before .read .ensures .0) (c .before .before .before .before .before .before .if3 .left) (c .before .before .before .visit .ensures .1)
+
+pub root-spec : {M : Type 1} → statement M
+root-spec =
+    tie.close
+    (tie.spec
+    refused-requires
+    returns
+    refused-requires-2
+    returns-2
+    read-requires
+    empty-requires
+    same-length
+    returns-3
+    slice-aggregate-visit
+    visit-requires
+    same-length-2
+    returns-4)

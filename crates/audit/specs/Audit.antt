@@ -1,0 +1,82 @@
+-- What the check promises: the model's promise of its number, and of a good frame the room that the state has.
+use Prim.Native.Nat.{ℕ, _+_, _≤_}
+use mathlib.Core.Path.{_≡_}
+use mathlib.Core.List.{List, [], _∷_}
+use mathlib.Core.Bool.{Bool, true, false}
+use Rattle.layout.specs.Number.{le, Bytes}
+use Rattle.layout.specs.Place.{atEdition, atD, atB, atU, atR, atX}
+use Rattle.layout.specs.Kind.{EmptyRoot}
+use Rattle.fields.specs.declared.header.Header.{Header}
+use Rattle.model.specs.Edition.{edition1}
+use Rattle.model.specs.State.{State}
+use Rattle.model.specs.Item.{Item, body}
+use Rattle.model.specs.Body.{Zero}
+use Rattle.model.specs.Frame.{Root, RootAt, rootSlot, rootItems, Stands, Good}
+use Rattle.model.specs.Frame as frame
+use Rattle.model.specs.Promise.{CheckPromise}
+use Rattle.answers.specs.declared.Refusal.{Refusal}
+use Rattle.answers.specs.declared.Check.{Check}
+use Rattle.answers.specs.declared.Check.the-variants as verdict
+use Rattle.shape.specs.Shape.{numbersOf}
+use Rattle.census.specs.declared.Sums.{Sums}
+use Rattle.census.specs.Told.{Told}
+
+-- a slice of bytes with a good header of edition 1
+pub record HeaderFits (f : List ℕ) : Type 0 where
+  pub bytes : Bytes f
+  pub header : frame.Header f (numbersOf f)
+  pub edition : le 4 f atEdition ≡ 1
+
+-- the items of the root at slot s
+pub record RootItems (f : List ℕ) (s : ℕ) (xs : List Item) : Type 0 where
+  pub root : Root
+  pub at : RootAt edition1 f root
+  pub slot : rootSlot root ≡ s
+  pub are : rootItems root ≡ xs
+
+-- those of an EmptyRoot at o
+pub record EmptyItems (f : List ℕ) (s o : ℕ) (xs : List Item) : Type 0 where
+  pub zeros : Zero f o 8
+  pub are : body s EmptyRoot o ∷ [] ≡ xs
+
+pub record EmptyTold (f : List ℕ) (o d u b : ℕ) (m : List ℕ) (t : Sums) (m' : List ℕ) (t' : Sums) : Type 0 where
+  pub of : (s : ℕ) → frame.Entry f s EmptyRoot o → 1 ≤ s → s ≤ u → Told (EmptyItems f s o) (EmptyItems f s o) f d u b m t m' t'
+
+-- U slots, R Leaves, and every byte accounted for
+pub record Closed (f : List ℕ) (slots bytes leaves : ℕ) : Type 0 where
+  pub slotsAre : slots ≡ le 4 f atU
+  pub leavesAre : leaves ≡ le 4 f atR
+  pub accounted : le 4 f atD + bytes + le 4 f atX ≡ le 4 f atB
+
+pub record Closes (f : List ℕ) (slots bytes leaves : ℕ) (r : Bool) : Type 0 where
+  pub holds : r ≡ true → Closed f slots bytes leaves
+  pub fails : r ≡ false → Closed f slots bytes leaves → ⊥
+
+-- the frame stands for a state whose lists have these lengths; or for none
+pub record Counted (f free : List ℕ) : Type 0 where
+  pub state : State
+  pub stands : Stands edition1 f state
+  pub counts : free ≡ state .free
+
+pub record WholeTold (f : List ℕ) (good : Bool) (free : List ℕ) : Type 0 where
+  pub holds : good ≡ true → Counted f free
+  pub fails : good ≡ false → Good edition1 f → ⊥
+
+pub record Refused (why : Refusal) (v : Check) : Type 0 where
+  pub is : v ≡ verdict.Refused why
+
+-- the free counts and the header's numbers are the state's
+pub record RoomOf (free : List ℕ) (h : Header) (s : State) (root : Root) : Type 0 where
+  pub counts : free ≡ s .free
+  pub F : h .«frame_length» ≡ s .F
+  pub N : h .«slot_capacity» ≡ s .N
+  pub B : h .«next_byte» ≡ s .B
+  pub U : h .«slots_given» ≡ s .U
+  pub R : h .records ≡ s .R
+  pub X : h .«dead_bytes» ≡ s .X
+  pub slot : h .root ≡ rootSlot root
+
+-- n: the number given
+pub record AuditTold (f : List ℕ) (n : ℕ) (free : List ℕ) (h : Header) : Type 0 where
+  pub promise : CheckPromise edition1 f n
+  pub room : (s : State) (w : Stands edition1 f s) → RoomOf free h s (w .root)

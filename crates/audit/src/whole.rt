@@ -1,0 +1,138 @@
+// The root with all below it, the lists of freed slots, and the sums over both.
+use crate::walk::visit;
+use census::Sums;
+use census::freed::lists;
+use census::refused;
+use census::take;
+use fields::header::Header;
+use layout::entry::Entry;
+use layout::kind::Kind;
+use shape::zero::zero_eight;
+ghost use mathlib.Core.Path.{_≡_};
+ghost use mathlib.Core.List.{[]};
+ghost use Prim.Native.Nat.{_+_, _-_, _*_, _%_, _<_, _≤_};
+ghost use lib.ListN.{length};
+ghost use Rattle.layout.specs.Number.{Bytes};
+ghost use Rattle.claims.specs.Units.{Seen};
+ghost use Rattle.census.specs.Told.{Ground, Limits, Tally, Told};
+ghost use Rattle.audit.specs.Walk.{Under};
+ghost use Rattle.audit.specs.Audit.{HeaderFits, RootItems, EmptyTold, Closes, WholeTold};
+
+pub struct Whole {
+    pub good: bool,
+    // how many slots each list has, by kind
+    pub free: [usize; Kind::TABLE],
+}
+
+// An EmptyRoot whose body lies at o.
+fn empty(f: &[u8], map: &mut [u64], o: usize, d: usize, u: usize, b: usize, t: Sums) -> Sums
+    requires { ⌜ Ground (now f) d u b × Limits d u b (length (now map)) × Tally u 0 t × (o % 8 ≡ 0) × (o < 1048576) ⌝ }
+    ensures { λ r. ⌜ EmptyTold (now (f .entry)) o d u b (now (map .entry)) t (now (map .exit)) r ⌝ }
+{
+    let r = take::body(map, Kind::EMPTY_ROOT, o, d, u, b, t);
+    if !r.good {
+        return refused();
+    }
+    if !zero_eight(f, o) {
+        return refused();
+    }
+    r
+}
+
+// The root slot: "EmptyRoot stands only at the root".
+fn root(f: &[u8], map: &mut [u64], s: usize, d: usize, u: usize, b: usize, t: Sums) -> Sums
+    requires { ⌜ Ground (now f) d u b × Limits d u b (length (now map)) × Tally u 0 t ⌝ }
+    ensures { λ r. ⌜ Told (RootItems (now (f .entry)) s) (RootItems (now (f .entry)) s) (now (f .entry)) d u b (now (map .entry)) t (now (map .exit)) r ⌝ }
+{
+    if s < 1 {
+        return refused();
+    }
+    if u < s {
+        return refused();
+    }
+    let e = Entry::read(f, s);
+    if e.high == Kind::EMPTY_ROOT {
+        return empty(f, map, e.place, d, u, b, t);
+    }
+    let mut path: [u8; 113] = [0; 113];
+    visit(f, map, &mut path, 0, s, d, u, b, t)
+}
+
+// "B - D equals the sizes of all of them plus X", U slots in all, and R Leaves.
+fn closes(f: &[u8], slots: usize, bytes: usize, leaves: usize) -> bool
+    requires { ⌜ (64 ≤ length (now f)) × (bytes < 4294967296 * 4294967296 - 8589934592) ⌝ }
+    ensures { λ r. ⌜ Closes (now (f .entry)) slots bytes leaves r ⌝ }
+{
+    if slots != Header::slots_given(f) {
+        return false;
+    }
+    if leaves != Header::records(f) {
+        return false;
+    }
+    Header::data_start(f) + bytes + Header::dead_bytes(f) == Header::next_byte(f)
+}
+
+// All, with a map of units that is still zero.
+fn over(f: &[u8], map: &mut [u64]) -> Whole
+    requires { ⌜ HeaderFits (now f) × (length (now f) ≤ 512 * length (now map)) × Seen (now map) [] ⌝ }
+    ensures { λ r. ⌜ WholeTold (now (f .entry)) (r .good) (r .free) ⌝ }
+{
+    let d = Header::data_start(f);
+    let u = Header::slots_given(f);
+    let b = Header::next_byte(f);
+    let none: [usize; Kind::TABLE] = [0; Kind::TABLE];
+    let start = Sums {
+        good: true,
+        slots: 0,
+        bytes: 0,
+        leaves: 0,
+    };
+    let r = root(f, map, Header::root(f), d, u, b, start);
+    if !r.good {
+        return Whole {
+            good: false,
+            free: none,
+        };
+    }
+    let l = lists(f, map, d, u, b, r);
+    let sums = l.sums;
+    let free = l.free;
+    if !sums.good {
+        return Whole {
+            good: false,
+            free: none,
+        };
+    }
+    let good = closes(f, sums.slots, sums.bytes, r.leaves);
+    Whole {
+        good: good,
+        free: free,
+    }
+}
+
+fn small(f: &[u8]) -> Whole
+    requires { ⌜ HeaderFits (now f) × (length (now f) ≤ 16384) ⌝ }
+    ensures { λ r. ⌜ WholeTold (now (f .entry)) (r .good) (r .free) ⌝ }
+{
+    let mut map: [u64; 32] = [0; 32];
+    over(f, &mut map)
+}
+
+fn large(f: &[u8]) -> Whole
+    requires { ⌜ HeaderFits (now f) ⌝ }
+    ensures { λ r. ⌜ WholeTold (now (f .entry)) (r .good) (r .free) ⌝ }
+{
+    let mut map: [u64; 1024] = [0; 1024];
+    over(f, &mut map)
+}
+
+// All, with a map on the stack that is no larger than it need be.
+pub fn all(f: &[u8]) -> Whole
+    requires { ⌜ HeaderFits (now f) ⌝ }
+    ensures { λ r. ⌜ WholeTold (now (f .entry)) (r .good) (r .free) ⌝ }
+{
+    if f.len() <= 16384 {
+        return small(f);
+    }
+    large(f)
+}

@@ -1,0 +1,90 @@
+// The lists of freed slots: "the list it is on tells the kind"; the high 15 bits of an entry are the next slot, and 0 ends a list.
+use crate::Sums;
+use crate::refused;
+use crate::take;
+use fields::header::Header;
+use layout::entry::Entry;
+use layout::kind::Kind;
+ghost use mathlib.Core.Path.{_≡_};
+ghost use Prim.Native.Nat.{_+_, _<_, _≤_};
+ghost use lib.ListN.{length};
+ghost use Rattle.census.specs.Told.{Ground, Limits, Tally, Told};
+ghost use Rattle.census.specs.Freed.{ChainItems, ListItems, FreedItems, CountedItems};
+
+pub struct Freed {
+    pub sums: Sums,
+    // how many slots each list has, by kind
+    pub free: [usize; Kind::TABLE],
+}
+
+// The slots from `head` on, bodies of the kind.
+fn chain(
+    f: &[u8],
+    map: &mut [u64],
+    kind: usize,
+    head: usize,
+    d: usize,
+    u: usize,
+    b: usize,
+    t: Sums,
+) -> Sums
+    requires { ⌜ Ground (now f) d u b × Limits d u b (length (now map)) × Tally u 0 t × (1 ≤ kind) × (kind ≤ 8) ⌝ }
+    ensures { λ r. ⌜ Told (ChainItems (now (f .entry)) kind head) (ChainItems (now (f .entry)) kind head) (now (f .entry)) d u b (now (map .entry)) t (now (map .exit)) r ⌝ }
+{
+    let mut s = head;
+    let mut sums = t;
+    while s != 0 {
+        if u < s {
+            return refused();
+        }
+        let e = Entry::read(f, s);
+        let r = take::body(map, kind, e.place, d, u, b, sums);
+        if !r.good {
+            return refused();
+        }
+        sums = r;
+        s = e.high;
+    }
+    sums
+}
+
+// The list of a kind; "list 3 is empty".
+fn list(f: &[u8], map: &mut [u64], kind: usize, d: usize, u: usize, b: usize, t: Sums) -> Sums
+    requires { ⌜ Ground (now f) d u b × Limits d u b (length (now map)) × Tally u 0 t × (1 ≤ kind) × (kind ≤ 8) ⌝ }
+    ensures { λ r. ⌜ Told (ListItems (now (f .entry)) kind) (ListItems (now (f .entry)) kind) (now (f .entry)) d u b (now (map .entry)) t (now (map .exit)) r ⌝ }
+{
+    let head = Header::list_head(f, kind);
+    if kind != Kind::CROSSING {
+        return chain(f, map, kind, head, d, u, b, t);
+    }
+    if head != 0 {
+        return refused();
+    }
+    t
+}
+
+// All eight, and how many slots each has.
+pub fn lists(f: &[u8], map: &mut [u64], d: usize, u: usize, b: usize, t: Sums) -> Freed
+    requires { ⌜ Ground (now f) d u b × Limits d u b (length (now map)) × Tally u 0 t ⌝ }
+    ensures { λ r. ⌜ Told (CountedItems (now (f .entry)) (r .free)) (FreedItems (now (f .entry)) 1) (now (f .entry)) d u b (now (map .entry)) t (now (map .exit)) (r .sums) ⌝ }
+{
+    let mut free: [usize; Kind::TABLE] = [0; Kind::TABLE];
+    let mut sums = t;
+    let mut kind = 1;
+    while kind < Kind::TABLE {
+        let r = list(f, map, kind, d, u, b, sums);
+        if !r.good {
+            return Freed {
+                sums: r,
+                free: free,
+            };
+        }
+        free[kind] = r.slots - sums.slots;
+        sums = r;
+        kind += 1;
+    }
+    Freed {
+        sums: sums,
+        free: free,
+    }
+}

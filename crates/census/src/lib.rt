@@ -1,0 +1,29 @@
+// What the exact check counts on its way: bodies and extents claim their units of the map, each once, and the lists of freed slots are
+// followed. Each function tells its witness, or that no good frame has one (specs/Told.antt).
+pub mod freed;
+pub mod take;
+
+ghost use mathlib.Core.Path.{_≡_};
+ghost use mathlib.Core.Bool.{false};
+
+// What has been counted so far; not good: a refusal, and the counts say nothing.
+pub struct Sums {
+    pub good: bool,
+    // bodies, live and freed
+    pub slots: usize,
+    // sizes of the bodies and of the live extents
+    pub bytes: usize,
+    // live extents
+    pub leaves: usize,
+}
+
+pub fn refused() -> Sums
+    ensures { λ r. ⌜ r .good ≡ false ⌝ }
+{
+    Sums {
+        good: false,
+        slots: 0,
+        bytes: 0,
+        leaves: 0,
+    }
+}
