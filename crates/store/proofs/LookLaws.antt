@@ -4,12 +4,13 @@ use mathlib.Core.Path.{_≡_, refl, ap, sym, _∙_}
 use mathlib.Core.List.{List, []}
 use mathlib.Core.Bool.{Bool, true, false}
 use mathlib.Core.Option.{Option, none, some}
+use native.Mathlib.Decide.{ℕ-discrete}
 use native.Mathlib.Omega.{arith}
 use lib.ListN.{length, take, drop}
-use lib.Dec.{eqb}
+use lib.Dec.{eqb, ltb}
 use borrow.Author.Tests.{eq-eqb, ne-eqb}
 use Rattle.layout.specs.Number.{le}
-use Rattle.model.specs.Strings.{pick}
+use Rattle.model.specs.Strings.{pick, hasZero}
 use Rattle.model.specs.Edition.{edition1}
 use Rattle.model.specs.State.{State, findIn}
 use Rattle.model.specs.Frame.{Root, Stands, Good}
@@ -17,36 +18,37 @@ use Rattle.model.specs.Touch.{Part, findAt}
 use Rattle.model.specs.Promise.{Told, CheckPromise, LookUpPromise, Found, notFound, foundOf, onLookUp}
 use Rattle.descent.specs.declared.lookup.Held.{Held}
 use Rattle.descent.specs.Lookup.{partOf, valueIn, Looked}
+use Rattle.descent.specs.Spot.{Standing}
 
 -- what any number says of a good frame
 pub told-good : (f : List ℕ) (n : ℕ) → Good edition1 f → Told edition1 f n
 told-good f n g =
     let h = g .1 .heap .header in
     record {
-      length1 = λ no. absurd (no (rw (h .size) (h .limits), h .stored ∙ sym (h .size)));
-      bad2 = λ l no. absurd (no g);
+      length1 = λ z. absurd (z (rw (h .size) (h .limits), h .stored ∙ sym (h .size)));
+      bad2 = λ l z. absurd (z g);
       good = λ a b. g;
     }
 
 module _ (f k : List ℕ) where
   -- the check refuses
   pub refused-frame : (n : ℕ) → CheckPromise edition1 f n → (n ≡ 0 → ⊥) → LookUpPromise edition1 f k (notFound n)
-  refused-frame n p no =
+  refused-frame n p ne =
       record {
         told = p .told;
         zeros = λ z. (refl, refl);
-        found = λ s w. absurd (no (p .good0 (s, w)));
-        value = λ s w e. absurd (no (p .good0 (s, w)));
+        found = λ s w. absurd (ne (p .good0 (s, w)));
+        value = λ s w e. absurd (ne (p .good0 (s, w)));
       }
 
   -- the key is refused
   pub refused-key : Good edition1 f → (edition1 .keyFault k ≡ 0 → ⊥) → LookUpPromise edition1 f k (notFound (edition1 .keyFault k))
-  refused-key g no =
+  refused-key g ne =
       record {
         told = told-good f (edition1 .keyFault k) g;
         zeros = λ z. (refl, refl);
-        found = λ s w. key-found (w .root) (edition1 .keyFault k) (findAt edition1 (w .root) k) no;
-        value = λ s w e. absurd (no e);
+        found = λ s w. key-found (w .root) (edition1 .keyFault k) (findAt edition1 (w .root) k) ne;
+        value = λ s w e. absurd (ne e);
       }
     where
       key-found : (r : Root) (n : ℕ) (p : Option Part) → (n ≡ 0 → ⊥) → notFound n ≡ pick (eqb n 0) (foundOf p) (notFound n)
@@ -75,3 +77,53 @@ module _ (f k : List ℕ) where
       in-part : (p : Option Part) → valueIn f p ≡ pick (eqb (foundOf p .number) 0) (some (take (foundOf p .long) (drop (foundOf p .place) f))) none
       in-part none = refl
       in-part (some p) = refl
+
+-- the numbers that the check and a key can give besides 0
+pub check-two : (f : List ℕ) (n : ℕ) → CheckPromise edition1 f n → (n ≡ 0 → ⊥) → (n ≡ 1 → ⊥) → n ≡ 2
+check-two f n p a b = elim (ℕ-discrete n 2) [ yes e ↦ e | no e ↦ absurd (a (p .good0 (p .told .good b e))) ]
+
+abbrev fault : Bool → Bool → Bool → ℕ
+fault x y z = pick x 3 (pick y 3 (pick z 4 0))
+
+four : (x y z : Bool) → (fault x y z ≡ 0 → ⊥) → (fault x y z ≡ 3 → ⊥) → fault x y z ≡ 4
+four true y z a b = absurd (b refl)
+four false true z a b = absurd (b refl)
+four false false true a b = refl
+four false false false a b = absurd (a refl)
+
+pub key-four : (k : List ℕ) → (edition1 .keyFault k ≡ 0 → ⊥) → (edition1 .keyFault k ≡ 3 → ⊥) → edition1 .keyFault k ≡ 4
+key-four k a b = four (eqb (length k) 0) (ltb 112 (length k)) (hasZero k) a b
+
+-- ---- the ends, by the tests that led there: n is the check's number, e the key's fault
+
+module _ (f k : List ℕ) (n m : ℕ) (is : n ≡ m) (P : CheckPromise edition1 f m) where
+  given : CheckPromise edition1 f n
+  given = rw is P
+
+  pub end-one : n ≡ 1 → LookUpPromise edition1 f k (notFound 1)
+  end-one e = refused-frame f k 1 (rw e at given) (λ z. omega arith)
+
+  pub end-two : (n ≡ 0 → ⊥) → (n ≡ 1 → ⊥) → LookUpPromise edition1 f k (notFound 2)
+  end-two a b = let e = check-two f n given a b in refused-frame f k 2 (rw e at given) (λ z. omega arith)
+
+  good : n ≡ 0 → Good edition1 f
+  good e = given .told .good (λ z. omega arith) (λ z. omega arith)
+
+  pub standing : n ≡ 0 → Standing f
+  standing e = let g = good e in record { st = g .0; stands = g .1 }
+
+  pub end-three : n ≡ 0 → (e : ℕ) → e ≡ edition1 .keyFault k → e ≡ 3 → LookUpPromise edition1 f k (notFound 3)
+  end-three z e q h = let x : edition1 .keyFault k ≡ 3 = sym q ∙ h in rw x at (refused-key f k (good z) (λ y. omega (arith, x, y)))
+
+  pub end-four : n ≡ 0 → (e : ℕ) → e ≡ edition1 .keyFault k → (e ≡ 3 → ⊥) → (e ≡ 0 → ⊥) → LookUpPromise edition1 f k (notFound 4)
+  end-four z e q a b =
+      let b' : edition1 .keyFault k ≡ 0 → ⊥ = λ y. b (q ∙ y) in
+      let x = key-four k b' (λ y. a (q ∙ y)) in rw x at (refused-key f k (good z) b')
+
+  pub end-found : n ≡ 0 → (e : ℕ) → e ≡ edition1 .keyFault k → e ≡ 0 → (v : Held) → ((s : State) (w : Stands edition1 f s) → Looked f k s (w .root) v) → v .found ≡ true
+      → LookUpPromise edition1 f k (record { number = 0; place = v .place; long = v .length })
+  end-found z e q h v L t = rw t at (looked-up f k v (good z) (sym q ∙ h) L)
+
+  pub end-absent : n ≡ 0 → (e : ℕ) → e ≡ edition1 .keyFault k → e ≡ 0 → (v : Held) → ((s : State) (w : Stands edition1 f s) → Looked f k s (w .root) v) → v .found ≡ false
+      → LookUpPromise edition1 f k (notFound 8)
+  end-absent z e q h v L t = rw t at (looked-up f k v (good z) (sym q ∙ h) L)
