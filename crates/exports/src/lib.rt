@@ -1,12 +1,37 @@
 // The calls for C and Rust: numbers and slices only. A slice passes as a pointer and a length.
 use answers;
 use store::format;
+use store::look;
 ghost use Rattle.model.specs.Edition.{edition1};
-ghost use Rattle.model.specs.Promise.{FormatPromise};
+ghost use Rattle.model.specs.Promise.{FormatPromise, CheckPromise};
+ghost use Rattle.exports.specs.LookUp.{LookedUp};
 
 #[no_mangle]
 pub extern "C" fn frame_format(frame: &mut [u8], length: usize, capacity: usize) -> u32
     ensures { λ n. ⌜ FormatPromise edition1 (now (frame .entry)) length capacity n (now (frame .exit)) ⌝ }
 {
     answers::format_number(format::format(frame, length, capacity))
+}
+
+#[no_mangle]
+pub extern "C" fn frame_check(frame: &[u8]) -> u32
+    ensures { λ n. ⌜ CheckPromise edition1 (now (frame .entry)) n ⌝ }
+{
+    answers::check_number(look::check(frame))
+}
+
+// Place and length go into the two numbers if there are two, and nothing otherwise.
+#[no_mangle]
+pub extern "C" fn frame_look_up(frame: &[u8], key: &[u8], place_and_length: &mut [u64]) -> u32
+    ensures { λ n. ⌜ LookedUp (now (frame .entry)) (now (key .entry)) (now («place_and_length» .entry)) n (now («place_and_length» .exit)) ⌝ }
+{
+    let found = look::look_up(frame, key);
+    let n = answers::look_up_number(found);
+    let place = look::place_of(found);
+    let length = look::length_of(found);
+    if place_and_length.len() == 2 {
+        place_and_length[0] = place as u64;
+        place_and_length[1] = length as u64;
+    }
+    n
 }

@@ -5,7 +5,7 @@ use answers::Refusal;
 use descent::key;
 use descent::lookup;
 ghost use mathlib.Core.Path.{_≡_};
-ghost use Rattle.answers.specs.Number.{checkNumber};
+ghost use Rattle.answers.specs.Number.{checkNumber, lookUpPlace, lookUpLong};
 ghost use Rattle.model.specs.Edition.{edition1};
 ghost use Rattle.model.specs.Promise.{CheckPromise, LookUpPromise};
 ghost use Rattle.store.specs.Found.{foundIn};
@@ -39,4 +39,25 @@ pub fn look_up(frame: &[u8], key: &[u8]) -> LookUp
         return LookUp::Found(v.place, v.length);
     }
     LookUp::Absent
+}
+
+// The value's place and length that an answer tells, "both 0 with any number but 0".
+pub fn place_of(a: LookUp) -> usize
+    ensures { λ r. ⌜ r ≡ lookUpPlace a ⌝ }
+{
+    match a {
+        LookUp::Found(place, _) => place,
+        LookUp::Absent => 0,
+        LookUp::Refused(_) => 0,
+    }
+}
+
+pub fn length_of(a: LookUp) -> usize
+    ensures { λ r. ⌜ r ≡ lookUpLong a ⌝ }
+{
+    match a {
+        LookUp::Found(_, length) => length,
+        LookUp::Absent => 0,
+        LookUp::Refused(_) => 0,
+    }
 }
