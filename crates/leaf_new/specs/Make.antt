@@ -1,0 +1,50 @@
+-- What a new Leaf, a new record and a new link count on, and what the link leaves.
+use Prim.Native.Nat.{ℕ, _+_, _<_}
+use mathlib.Core.Path.{_≡_}
+use mathlib.Core.List.{List, [], _∷_}
+use lib.ListN.{length}
+use Rattle.layout.specs.Number.{put}
+use Rattle.layout.specs.Place.{atRoot}
+use Rattle.layout.specs.Kind.{Leaf}
+use Rattle.model.specs.Edition.{edition1}
+use Rattle.model.specs.Tree.{extentOf}
+use Rattle.model.specs.Item.{Item}
+use Rattle.model.specs.Frame.{Lay, View, Heap, Begins}
+use Rattle.room.specs.View.{recorded}
+use Rattle.room.specs.Step.{Renumbered}
+use Rattle.room.specs.Book.{RoomFor}
+use Rattle.between.specs.Hole.{Step}
+use Rattle.between.specs.Work.{Work}
+use Rattle.between.specs.Edit.{MadeLeaf}
+
+-- there is room for them
+abbrev pub LeafRoom : View → List ℕ → List ℕ → Type 0
+LeafRoom h k v = RoomFor h (Leaf ∷ []) (extentOf k v)
+
+-- a frame with room for a Leaf and its extent, and a key and a value whose lengths fit their fields
+pub record Makes (f k v : List ℕ) : Type 0 where
+  pub view : View
+  pub heap : Heap f view
+  pub room : LeafRoom view k v
+  pub keyFits : length k < 65536
+  pub valueFits : length v < 65536
+
+-- a Leaf of slot n was made, whatever else the work is and whichever path will lead to the Leaf
+abbrev pub NewLeaf : List ℕ → List ℕ → List ℕ → List ℕ → ℕ → Type 0
+NewLeaf f g k v n =
+    (h : View) (xs : List Step) (s : ℕ) (ts : List (List ℕ × Lay)) (loose : List Item) (path : List ℕ) → Work edition1 f h xs s ts loose → LeafRoom h k v → edition1 .keyFault k ≡ 0 → Begins (edition1 .walked k) path
+    → MadeLeaf edition1 f g h xs s ts loose path n k v
+
+-- a frame whose R can grow
+pub record Counts (f : List ℕ) : Type 0 where
+  pub view : View
+  pub heap : Heap f view
+  pub few : view .nums .R + 1 < 4294967296
+
+-- R is one more
+abbrev pub Counted : List ℕ → List ℕ → Type 0
+Counted f g = (h : View) → Heap f h → Renumbered f g h (recorded h (h .nums .R + 1))
+
+-- the field at `at` names slot n: two bytes at the root slot field, four elsewhere
+abbrev pub Relinked : List ℕ → List ℕ → ℕ → ℕ → Type 0
+Relinked f g at n = (at ≡ atRoot → g ≡ put 2 f atRoot n) × ((at ≡ atRoot → ⊥) → g ≡ put 4 f at n)

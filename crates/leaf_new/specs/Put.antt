@@ -1,0 +1,38 @@
+-- Put at a spot of a good frame: what an edit counts on, and what it leaves.
+use Prim.Native.Nat.{ℕ}
+use mathlib.Core.Path.{_≡_}
+use mathlib.Core.List.{List, _++_}
+use mathlib.Core.Bool.{true}
+use lib.ListN.{length}
+use lib.Dec.{ltb}
+use Rattle.model.specs.Edition.{edition1, Legal, LegalValue}
+use Rattle.model.specs.State.{State, putChange, callPut}
+use Rattle.model.specs.State as state
+use Rattle.model.specs.Frame.{Lay, tree, Stands}
+use Rattle.model.specs.Touch.{Outside, putTouch, findAt, extentAt}
+use Rattle.descent.specs.declared.spot.Spot.{Spot}
+use Rattle.descent.specs.Spot.{Way}
+
+-- a good frame with room for a put of a legal key and value
+pub record PutReady (f k v : List ℕ) : Type 0 where
+  pub st : State
+  pub stands : Stands edition1 f st
+  pub legal : Legal edition1 k
+  pub legalValue : LegalValue v
+  pub room : state.room st (putChange edition1 st k v) ≡ true
+
+-- and the spot where the key's way ends in its tree
+pub record PutAt (f k v : List ℕ) (p : Spot) : Type 0 where
+  pub ready : PutReady f k v
+  pub lay : Lay
+  pub is : ready .stands .root ≡ tree lay
+  pub way : Way k lay p
+
+-- the state after, and what is settled of the bytes: the promise's clause of a put that is done
+abbrev pub Stepped : (f k v f' : List ℕ) (s : State) → Stands edition1 f s → Type 0
+Stepped f k v f' s w =
+    (w' : Stands edition1 f' (callPut edition1 s k v .state)) × (let c = putChange edition1 s k v in
+    Outside f f' (w .root) (w' .root) (w .lists) (w' .lists) (c .takes ++ c .frees) (putTouch edition1 (w .root) k v) (extentAt (length k) (findAt edition1 (w' .root) k)) (ltb 0 (c .extent)))
+
+pub record PutStep (f k v f' : List ℕ) : Type 0 where
+  pub after : (s : State) (w : Stands edition1 f s) → Stepped f k v f' s w

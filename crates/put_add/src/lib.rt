@@ -1,0 +1,65 @@
+// Put of a new key at an inner node without its byte, and in an empty frame: "an inner node without that byte: nothing if not full, else
+// the next kind, and the old body is freed"; "empty frame: EmptyRoot is freed".
+use descent::key;
+use descent::spot::Spot;
+use fields::header::Header;
+use inner::carry;
+use inner::change;
+use layout::entry::Entry;
+use layout::kind;
+use layout::kind::Kind;
+use room::heap;
+ghost use Rattle.leaf_new.specs.Put.{PutStep};
+ghost use Rattle.put_add.specs.Missing.{Open, Full, Vacant};
+ghost use Rattle.put_add.specs.Grown.{Fills, Filled};
+
+// The node is not full: the Leaf is its child.
+pub fn add_child(f: &mut [u8], key: &[u8], value: &[u8], spot: Spot)
+    requires { ⌜ Open (now f) (now key) (now value) spot ⌝ }
+    ensures { λ _. ⌜ PutStep (now (f .entry)) (now (key .entry)) (now (value .entry)) (now (f .exit)) ⌝ }
+{
+    let here = spot.here;
+    let b = key::walked_at(key, spot.depth);
+    let leaf = leaf_new::new_leaf(f, key, value);
+    change::add(f, here.place, here.kind, b, leaf);
+    leaf_new::count_record(f);
+}
+
+// The body of slot n takes the children of the one at `from`, and the Leaf at byte b.
+fn refill(f: &mut [u8], from: usize, kind: usize, n: usize, up: usize, b: u8, leaf: usize)
+    requires { ⌜ Fills (now f) from kind n up leaf ⌝ }
+    ensures { λ _. ⌜ Filled (now (f .entry)) (now (f .exit)) from kind n up b leaf ⌝ }
+{
+    let body = Entry::read(f, n);
+    change::empty(f, body.place, up);
+    carry::carry(f, from, kind, body.place, up);
+    change::add(f, body.place, up, b, leaf);
+}
+
+// The node is full: a body of the next kind takes its place.
+pub fn grow(f: &mut [u8], key: &[u8], value: &[u8], spot: Spot)
+    requires { ⌜ Full (now f) (now key) (now value) spot ⌝ }
+    ensures { λ _. ⌜ PutStep (now (f .entry)) (now (key .entry)) (now (value .entry)) (now (f .exit)) ⌝ }
+{
+    let here = spot.here;
+    let b = key::walked_at(key, spot.depth);
+    let up = kind::kind_up(here.kind);
+    let n = heap::take(f, up);
+    let leaf = leaf_new::new_leaf(f, key, value);
+    refill(f, here.place, here.kind, n, up, b, leaf);
+    leaf_new::relink(f, here.link, n);
+    heap::release(f, here.slot, here.kind);
+    leaf_new::count_record(f);
+}
+
+// The frame is empty: the Leaf is the root.
+pub fn first_record(f: &mut [u8], key: &[u8], value: &[u8])
+    requires { ⌜ Vacant (now f) (now key) (now value) ⌝ }
+    ensures { λ _. ⌜ PutStep (now (f .entry)) (now (key .entry)) (now (value .entry)) (now (f .exit)) ⌝ }
+{
+    let old = Header::root(f);
+    let leaf = leaf_new::new_leaf(f, key, value);
+    leaf_new::relink(f, Header::AT_ROOT, leaf);
+    heap::release(f, old, Kind::EMPTY_ROOT);
+    leaf_new::count_record(f);
+}

@@ -1,0 +1,379 @@
+-- Put of a key that is there: the Leaf in the hole gets another value. Assumes nothing.
+use Prim.Native.Nat.{ℕ, _+_, _-_, _*_, _/_, _%_, _<_, _≤_}
+use mathlib.Core.Path.{_≡_, refl, sym, ap, subst, _∙_}
+use mathlib.Core.List.{List, [], _∷_, _++_}
+use mathlib.Core.Bool.{true, false}
+use mathlib.Core.Option.{some}
+use native.Mathlib.Omega.{arith}
+use native.Mathlib.Decide.{decLt}
+use lib.ListN.{length, getD, length-append, List·getD-append}
+use lib.Seq.{getD-append-add}
+use lib.Dec.{ltb, eqb}
+use borrow.Author.Tests.{eq-eqb, ne-eqb}
+use Rattle.layout.specs.Number.{byteAt, le, Bytes}
+use Rattle.layout.proofs.NumberLaws.{le-lt}
+use Rattle.fields.specs.Body.{putLeafBody}
+use Rattle.layout.specs.Place.{leafExtent, leafKey, leafValue, leafZero}
+use Rattle.layout.specs.Kind.{Leaf}
+use Rattle.model.specs.Edition.{edition1}
+use Rattle.model.specs.Tree.{Art, Change, over, up8, extentOf, putTree}
+use Rattle.model.specs.State.{State, putChange, room}
+use Rattle.model.specs.Item.{Item, body, extent, cover, leafy, sum}
+use Rattle.model.specs.Frame.{Lay, slotOf, art, LeafOf, View, Heap, Root, tree, rootItems, Stands}
+use Rattle.model.specs.Frame.Lay.{leaf}
+use Rattle.model.specs.Touch.{Touch, touch, touchPut}
+use Rattle.model.proofs.StringLaws.{same-refl}
+use Rattle.model.proofs.ItemLaws.{Same, sum-app, sum-cons}
+use Rattle.model.proofs.ItemLaws as item
+use Rattle.node.specs.Moved.{Keeps}
+use Rattle.node.proofs.MoveLaws.{le-keeps}
+use Rattle.room.specs.View.{extended, retired}
+use Rattle.room.specs.Step.{Pasted, Extends, Extended, Retires, Renumbered}
+use Rattle.room.specs.Book.{takenAll, RoomFor, Kinds}
+use Rattle.room.proofs.HeapLaws.{touch-extent, cover-body, cover-extent, lies, Lies}
+use Rattle.room.proofs.BookLaws.{room-last}
+use Rattle.descent.specs.declared.spot.Spot.{Spot}
+use Rattle.between.specs.Hole.{Step, plug, pathOf, stepsItems, holderOf, artIn}
+use Rattle.between.specs.Work.{Suits, forestItems, Work}
+use Rattle.between.specs.Lead.{Leads}
+use Rattle.between.specs.Since.{written, Since, Accounts}
+use Rattle.between.specs.Edit.{LeafWritten, Booked}
+use Rattle.between.proofs.TreeLaws.{sum-none, leaf-sum, body-kept}
+use Rattle.between.proofs.HoleLaws.{suits-any, plug-sum}
+use Rattle.between.proofs.LeadLaws.{leaf-look}
+use Rattle.between.proofs.WorkLaws.{standsView, stands-sum, work-of, work-open, work-close, work-extend, work-turn, work-write, work-paste, work-retire, first-owns, any-write, open-leaf, make-leaf, leafy-leaf}
+use Rattle.between.proofs.EditLaws.{leaf-written}
+use Rattle.between.proofs.ChangeLaws.{changed-only}
+use Rattle.between.proofs.SinceLaws.{stepped-start, since-start, since-also, since-extend, since-write, since-retire}
+use Rattle.between.proofs.OutsideLaws.{among-here}
+use Rattle.between.proofs.BookedLaws.{booked-row, booked-extend, booked-retire}
+use Rattle.leaf_new.specs.Put.{PutStep}
+use Rattle.put_replace.specs.Put.{Present}
+use Rattle.put_replace.proofs.DoneLaws.{any-root, any-room, Edited, change-is, room-is, put-done}
+
+-- ---- key, then value
+
+text-of : (g : List ℕ) (e : ℕ) (k v : List ℕ) → ((a i : ℕ) → i < length k → a ≡ e + i → byteAt g a ≡ getD k i 0) → ((a i : ℕ) → i < length v → a ≡ e + length k + i → byteAt g a ≡ getD v i 0)
+    → (i : ℕ) → i < length (k ++ v) → byteAt g (e + i) ≡ getD (k ++ v) i 0
+text-of g e k v KK VV i h = elim (decLt i (length k)) [
+  | yes p ↦ KK (e + i) i p refl ∙ sym (List·getD-append k v 0 i p)
+  | no p ↦
+      let j = i - length k in
+      let ej : i ≡ length k + j = omega arith in
+      VV (e + i) j (omega (arith, length-append k v)) (omega arith) ∙ sym (ap (λ m. getD (k ++ v) m 0) ej ∙ getD-append-add k v j 0)
+]
+
+up8-is : (n : ℕ) → (n ≤ (n + 7) / 8 * 8) × ((n + 7) / 8 * 8 % 8 ≡ 0)
+up8-is n = (omega arith, omega arith)
+
+-- ---- what put makes of the Leaf
+
+put-same : (d : ℕ) (k v v' : List ℕ) → length v ≡ length v' → putTree edition1 (Art.leaf k v') d k v ≡ record { now = Art.leaf k v; takes = []; frees = []; extent = 0; dead = 0; fresh = false }
+put-same d k v v' e = rw (same-refl k, eq-eqb (length v) (length v') e) refl
+
+pub put-other : (d : ℕ) (k v v' : List ℕ) → (length v ≡ length v' → ⊥) → putTree edition1 (Art.leaf k v') d k v ≡ record { now = Art.leaf k v; takes = []; frees = []; extent = extentOf k v; dead = extentOf k v'; fresh = false }
+put-other d k v v' n = rw (same-refl k, ne-eqb (length v) (length v') n) refl
+
+touch-same : (n o e : ℕ) (k v v' : List ℕ) (h d : ℕ) → length v ≡ length v' → touchPut edition1 (leaf n o e k v') h d k v ≡ touch [] []
+touch-same n o e k v v' h d q = rw (same-refl k, eq-eqb (length v) (length v') q) refl
+
+touch-other : (n o e : ℕ) (k v v' : List ℕ) (h d : ℕ) → (length v ≡ length v' → ⊥) → touchPut edition1 (leaf n o e k v') h d k v ≡ touch (n ∷ []) []
+touch-other n o e k v v' h d q = rw (same-refl k, ne-eqb (length v) (length v') q) refl
+
+-- ---- the hole at the Leaf
+
+module _ {f : List ℕ} {s : State} (w : Stands edition1 f s) (xs : List Step) (n o e : ℕ) (k v' : List ℕ) (er : w .root ≡ tree (plug xs (leaf n o e k v'))) where
+  opened : Work edition1 f (standsView w) xs n ((pathOf xs, leaf n o e k v') ∷ []) [] × Suits xs (leaf n o e k v')
+  opened = work-open xs (leaf n o e k v') [] (work-of w (plug xs (leaf n o e k v')) er) refl
+
+  pub loose : Work edition1 f (standsView w) xs n [] (body n Leaf o ∷ extent e (extentOf k v') ∷ []) × LeafOf edition1 f (pathOf xs) o e k v'
+  loose = open-leaf (pathOf xs) [] [] n o e k v' (opened .0)
+
+  pub leaf-lies : Lies (standsView w) n Leaf o
+  leaf-lies = lies n Leaf o ((extent e (extentOf k v') ∷ []) ++ (stepsItems xs ++ forestItems [])) (w .heap) (first-owns (loose .0)) (omega arith) (omega arith)
+
+  pub leaf-room : o + 16 ≤ length f
+  leaf-room = omega (arith, leaf-lies .ends, w .heap .header .size)
+
+  pub old-room : e + (length k + length v') ≤ length f
+  old-room = loose .1 .at .room
+
+  close : {g : List ℕ} {h : View} (e' : ℕ) (v : List ℕ) → Work edition1 g h xs n ((pathOf xs, leaf n o e' k v) ∷ []) [] → Work edition1 g h [] (slotOf (plug xs (leaf n o e' k v))) (([], plug xs (leaf n o e' k v)) ∷ []) []
+  close e' v W = work-close xs (leaf n o e' k v) [] W refl (suits-any xs (leaf n o e k v') (leaf n o e' k v) (λ z. z) (opened .1))
+
+  -- ---- with the same length
+
+  module _ (g v : List ℕ) (len : length v ≡ length v') (G : Pasted f g (e + length k) (length v) v) where
+    size-is : extentOf k v' ≡ extentOf k v
+    size-is = ap (λ i. up8 (length k + i)) (sym len)
+
+    turned : Work edition1 f (standsView w) xs n [] (extent e (extentOf k v') ∷ body n Leaf o ∷ [])
+    turned = work-turn (loose .0) refl
+
+    pasted : Work edition1 g (standsView w) xs n [] (body n Leaf o ∷ extent e (extentOf k v') ∷ [])
+    pasted = let U = up8-is (length k + length v') .0 in work-turn (work-paste turned (G .only) (omega arith) (omega arith)) refl
+
+    body-keeps : Keeps f g o (o + 16)
+    body-keeps =
+        let x = extent e (extentOf k v') in
+        let rest = (body n Leaf o ∷ []) ++ (stepsItems xs ++ forestItems []) in
+        let U = up8-is (length k + length v') .0 in
+        let R = any-write x rest (turned .heap) (first-owns turned) (G .only) (λ a p q. cover-extent a e (extentOf k v') (omega arith) (omega arith)) in
+        body-kept n Leaf o (R .kept) (λ a. omega (arith, sum-cons (item.touch a) (body n Leaf o) (stepsItems xs ++ forestItems [])))
+
+    leaf-of : LeafOf edition1 g (pathOf xs) o e k v
+    leaf-of =
+        let L = loose .1 in
+        let A = L .at in
+        let K = body-keeps in
+        record {
+          at = record {
+            room = omega (arith, A .room, G .only .size);
+            extent = le-keeps 4 (o + leafExtent) K (omega arith) (omega arith) ∙ A .extent;
+            keyLength = le-keeps 2 (o + leafKey) K (omega arith) (omega arith) ∙ A .keyLength;
+            valueLength = le-keeps 2 (o + leafValue) K (omega arith) (omega arith) ∙ A .valueLength ∙ sym len;
+            zeros = λ i l. K .bytes (o + leafZero + i) (omega arith) (omega arith) ∙ A .zeros i l;
+            text = text-of g e k v (λ a i l q. G .only .below a (omega arith) ∙ ap (byteAt f) q ∙ A .text i (omega (arith, length-append k v')) ∙ List·getD-append k v' 0 i l) (λ a i l q. G .text a i l q);
+          };
+          eights = L .eights;
+          legal = L .legal;
+          begins = L .begins;
+        }
+
+    none-booked : Booked (standsView w) (standsView w) [] [] 0 0 (w .nums .R)
+    unfolding takenAll
+    none-booked = booked-row (standsView w) [] Kinds.nil (w .heap .lists .eight)
+
+    pub overwritten : Bytes g → Edited f g k v w xs (leaf n o e k v')
+    overwritten by =
+        let d = length (pathOf xs) in
+        let x = extent e (extentOf k v) in
+        let U = up8-is (length k + length v) .0 in
+        record {
+          change = record { now = Art.leaf k v; takes = []; frees = []; extent = 0; dead = 0; fresh = false };
+          puts = put-same d k v v' len;
+          lay = leaf n o e k v;
+          artIs = refl;
+          view = standsView w;
+          slot = slotOf (plug xs (leaf n o e k v));
+          work = close e v (make-leaf (pathOf xs) [] [] n o e k v (subst (λ m. Work edition1 g (standsView w) xs n [] (body n Leaf o ∷ extent e m ∷ [])) size-is pasted) leaf-of);
+          slotIs = refl;
+          bytes = by;
+          records = w .nums .R;
+          booked = none-booked;
+          counts = refl;
+          leaves = omega (arith, leafy-leaf n o e k v, leafy-leaf n o e k v');
+          takes = [];
+          rewrites = [];
+          frees = [];
+          place = e;
+          since = record {
+            changed = changed-only (written [] [] [] (x ∷ [])) (G .only) (λ a p q. omega (arith, sum-cons (cover a) x [], cover-extent a e (extentOf k v) (omega arith) (omega arith)));
+            stepped = stepped-start (w .heap);
+          };
+          accounts = subst (λ (t : Touch). Accounts (w .root) t [] [] [] []) (sym (touch-same n o e k v v' (holderOf xs) d len))
+              (record { takes = tt; frees = λ z. refl; kindsIn = tt; slotsIn = tt; freesIn = λ z. omega (arith, sum-none z); rewritesIn = λ z. omega (arith, sum-none z) });
+          look = leaf-look edition1 n o e k v d;
+          fromB = λ q. absurd (let z : _≡_ {A = ℕ} 0 1 = cc in omega arith);
+        }
+
+  -- ---- with another length: a new extent at e', the Leaf's body written anew, the old extent dead
+
+  module _ (f1 f2 v : List ℕ) (e' : ℕ) (diff : length v ≡ length v' → ⊥) (X : Extended f f1 (standsView w) k v e') (Y : LeafWritten f1 f2 o e' (length k) (length v)) where
+    written-work : Work edition1 f2 (extended (standsView w) (extentOf k v)) xs n [] (body n Leaf o ∷ extent e' (extentOf k v) ∷ extent e (extentOf k v') ∷ [])
+    written-work = work-write (work-turn (work-extend (loose .0) X) refl) (omega arith) (omega arith) (Y .only) (omega arith) (omega arith)
+
+    new-leaf-of : LeafOf edition1 f2 (pathOf xs) o e' k v
+    new-leaf-of =
+        let m = extentOf k v in
+        let x = extent e' m in
+        let left = x ∷ extent e (extentOf k v') ∷ [] in
+        let W = work-turn (work-extend (loose .0) X) refl in
+        let rest = left ++ (stepsItems xs ++ forestItems []) in
+        let R = any-write (body n Leaf o) rest (W .heap) (first-owns W) (Y .only) (λ a l u. cover-body a n Leaf o (omega arith) (omega arith)) in
+        let KE : (a : ℕ) → e' ≤ a → a < e' + m → byteAt f2 a ≡ byteAt f1 a = λ a l u.
+        R .kept .keep a (omega (arith, sum-app (item.touch a) left (stepsItems xs ++ forestItems []), sum-cons (item.touch a) x (extent e (extentOf k v') ∷ []), touch-extent a e' m l u)) in
+        let U = up8-is (length k + length v) in
+        let U0 = U .0 in
+        let ee = X .place in
+        let B0 = w .heap .header .bumpIn in
+        let B1 = X .heap .header .bumpIn in
+        let L = loose .1 in
+        record {
+          at = record {
+            room = omega (arith, Y .only .size, X .heap .header .size);
+            extent = Y .extent;
+            keyLength = Y .keyLength;
+            valueLength = Y .valueLength;
+            zeros = Y .zeros;
+            text = text-of f2 e' k v (λ a i l ea. KE a (omega arith) (omega arith) ∙ X .key a i l ea) (λ a i l ea. KE a (omega arith) (omega arith) ∙ X .value a i l ea);
+          };
+          eights = omega arith;
+          legal = L .legal;
+          begins = L .begins;
+        }
+
+    pub renewed-work : Work edition1 f2 (extended (standsView w) (extentOf k v)) xs n ((pathOf xs, leaf n o e' k v) ∷ []) (extent e (extentOf k v') ∷ [])
+    renewed-work = make-leaf (pathOf xs) [] (extent e (extentOf k v') ∷ []) n o e' k v written-work new-leaf-of
+
+    abbrev pub others : List Item
+    others = [] ++ (stepsItems xs ++ forestItems ((pathOf xs, leaf n o e' k v) ∷ []))
+
+    abbrev pub lastView : View
+    lastView = retired (extended (standsView w) (extentOf k v)) (extentOf k v') others
+
+    module _ (f3 : List ℕ) (C : Renumbered f2 f3 (extended (standsView w) (extentOf k v)) lastView) where
+      book : Booked (standsView w) lastView [] [] (extentOf k v) (extentOf k v') (w .nums .R)
+      unfolding takenAll
+      book = booked-retire (booked-extend (booked-row (standsView w) [] Kinds.nil (w .heap .lists .eight)) (extentOf k v) (extentOf k v) (omega arith)) (extentOf k v') (extentOf k v') others (omega arith)
+
+      pub renewed : Bytes f3 → Edited f f3 k v w xs (leaf n o e k v')
+      renewed by =
+          let d = length (pathOf xs) in
+          let b = body n Leaf o in
+          let Z0 = since-also (b ∷ []) (since-start (w .heap)) in
+          let Z1 = since-extend Z0 X in
+          let Z2 = since-write (Y .only) (λ a l u. omega (arith, sum-cons (cover a) b [], cover-body a n Leaf o (omega arith) (omega arith))) Z1 in
+          record {
+            change = record { now = Art.leaf k v; takes = []; frees = []; extent = extentOf k v; dead = extentOf k v'; fresh = false };
+            puts = put-other d k v v' diff;
+            lay = leaf n o e' k v;
+            artIs = refl;
+            view = lastView;
+            slot = slotOf (plug xs (leaf n o e' k v));
+            work = close e' v (work-retire renewed-work C);
+            slotIs = refl;
+            bytes = by;
+            records = w .nums .R;
+            booked = book;
+            counts = refl;
+            leaves = omega (arith, leafy-leaf n o e' k v, leafy-leaf n o e k v');
+            takes = [];
+            rewrites = b ∷ [];
+            frees = [];
+            place = e';
+            since = since-retire e (extentOf k v') (first-owns renewed-work) Z2 C;
+            accounts = subst (λ (t : Touch). Accounts (w .root) t [] [] (b ∷ []) []) (sym (touch-other n o e k v v' (holderOf xs) d diff))
+                (record {
+                  takes = tt;
+                  frees = λ z. refl;
+                  kindsIn = tt;
+                  slotsIn = (among-here n [], tt);
+                  freesIn = λ z. omega (arith, sum-none z);
+                  rewritesIn = λ z. omega (arith, sum-cons z b [], sum-none z, stands-sum w (plug xs (leaf n o e k v')) er z, plug-sum z xs (leaf n o e k v'), leaf-sum z n o e k v');
+                });
+            look = leaf-look edition1 n o e' k v d;
+            fromB = λ q. omega (arith, X .place);
+          }
+
+-- ---- what the calls ask, and what they leave
+
+module _ {f k v : List ℕ} {p : Spot} (P : Present f k v p) where
+  module _ (s : State) (w : Stands edition1 f s) where
+    root-at : w .root ≡ tree (plug (P .put .way .steps) (leaf (p .here .slot) (p .here .place) (P .found .extent) k (P .found .value)))
+    root-at = any-root (P .put) s w ∙ ap (λ (t : Lay). tree (plug (P .put .way .steps) t)) (P .found .is)
+
+    -- the hole at the Leaf
+    here : Work edition1 f (standsView w) (P .put .way .steps) (p .here .slot) [] (body (p .here .slot) Leaf (p .here .place) ∷ extent (P .found .extent) (extentOf k (P .found .value)) ∷ [])
+        × LeafOf edition1 f (pathOf (P .put .way .steps)) (p .here .place) (P .found .extent) k (P .found .value)
+    here = loose w (P .put .way .steps) (p .here .slot) (p .here .place) (P .found .extent) k (P .found .value) root-at
+
+  pub body-room : p .here .place + 16 ≤ length f
+  body-room = leaf-room (P .put .ready .stands) (P .put .way .steps) (p .here .slot) (p .here .place) (P .found .extent) k (P .found .value) (root-at (P .put .ready .st) (P .put .ready .stands))
+
+  module _ {old : ℕ} (eo : old ≡ le 2 f (p .here .place + leafValue)) where
+    old-is : old ≡ length (P .found .value)
+    old-is = eo ∙ here (P .put .ready .st) (P .put .ready .stands) .1 .at .valueLength
+
+    pub lengths : (length k < 65536) × (length v < 65536) × (length k + old ≤ 524288)
+    lengths =
+        let L = here (P .put .ready .st) (P .put .ready .stands) .1 .at in
+        let l = P .put .ready .stands .heap .header .limits in
+        let z = P .put .ready .legalValue .passes in
+        let q = old-is in (
+          omega (arith, le-lt 2 f (p .here .place + leafKey) (P .put .ready .stands .bytes), L .keyLength),
+          omega arith,
+          omega (arith, L .room, P .put .ready .stands .heap .header .size),
+        )
+
+    -- the value has the old length
+    module _ {e : ℕ} (ee : e ≡ le 4 f (p .here .place + leafExtent)) (len : length v ≡ old) where
+      extent-is : e ≡ P .found .extent
+      extent-is = ee ∙ here (P .put .ready .st) (P .put .ready .stands) .1 .at .extent
+
+      pub paste-ok : e + length k + length v ≤ length f
+      paste-ok = let q = old-is in let x = extent-is in omega (arith, here (P .put .ready .st) (P .put .ready .stands) .1 .at .room)
+
+      pub ends-same : {g : List ℕ} → Pasted f g (e + length k) (length v) v → Bytes g → PutStep f k v g
+      ends-same {g} G by =
+          let xs = P .put .way .steps in
+          let n = p .here .slot in
+          let o = p .here .place in
+          let x = P .found .extent in
+          let v' = P .found .value in
+          let G' : Pasted f g (x + length k) (length v) v = subst (λ i. Pasted f g (i + length k) (length v) v) extent-is G in
+          record {
+            after = λ s w.
+                put-done f g k v w xs (leaf n o x k v') (root-at s w) (P .put .way .leads) (overwritten w xs n o x k v' (root-at s w) g v (len ∙ old-is) G' by) (any-room (P .put) s w);
+          }
+
+    -- it has another
+    module _ (diff : length v ≡ old → ⊥) where
+      other-length : length v ≡ length (P .found .value) → ⊥
+      other-length z = diff (z ∙ sym old-is)
+
+      extend-room : (s : State) (w : Stands edition1 f s) → w .nums .B + extentOf k v ≤ w .nums .F
+      extend-room s w =
+          let xs = P .put .way .steps in
+          let c : Change Art = record { now = Art.leaf k v; takes = []; frees = []; extent = extentOf k v; dead = extentOf k (P .found .value); fresh = false } in
+          room-last (standsView w) (extentOf k v)
+          (room-is k v w c xs (change-is k v w xs (leaf (p .here .slot) (p .here .place) (P .found .extent) k (P .found .value)) (root-at s w) (P .put .way .leads) (put-other (length (pathOf xs)) k v (P .found .value) other-length))
+          (any-room (P .put) s w))
+
+      pub extend-ok : Extends f (length k + length v)
+      extend-ok = record { view = standsView (P .put .ready .stands); heap = P .put .ready .stands .heap; room = extend-room (P .put .ready .st) (P .put .ready .stands) }
+
+      module _ {f1 : List ℕ} {e : ℕ} (ext : (h : View) → Heap f h → h .nums .B + up8 (length k + length v) ≤ h .nums .F → Extended f f1 h k v e) where
+        extended-at : (s : State) (w : Stands edition1 f s) → Extended f f1 (standsView w) k v e
+        extended-at s w = ext (standsView w) (w .heap) (extend-room s w)
+
+        pub write-ok : p .here .place + 16 ≤ length f1
+        write-ok = omega (arith, body-room, extended-at (P .put .ready .st) (P .put .ready .stands) .but .size)
+
+        module _ {f2 : List ℕ} (eg : f2 ≡ putLeafBody f1 (p .here .place) e (length k) (length v)) where
+          leaf-at : LeafWritten f1 f2 (p .here .place) e (length k) (length v)
+          leaf-at =
+              let X = extended-at (P .put .ready .st) (P .put .ready .stands) in
+              let b = P .put .ready .stands .heap .header .bumpIn in
+              let l = P .put .ready .stands .heap .header .limits in
+              leaf-written e (length k) (length v) eg write-ok (omega (arith, X .place)) (lengths .0) (lengths .1)
+
+          work-at : (s : State) (w : Stands edition1 f s) → Work edition1 f2 (extended (standsView w) (extentOf k v)) (P .put .way .steps) (p .here .slot)
+              ((pathOf (P .put .way .steps), leaf (p .here .slot) (p .here .place) e k v) ∷ []) (extent (P .found .extent) (extentOf k (P .found .value)) ∷ [])
+          work-at s w = renewed-work w (P .put .way .steps) (p .here .slot) (p .here .place) (P .found .extent) k (P .found .value) (root-at s w) f1 f2 v e other-length (extended-at s w) leaf-at
+
+          module _ {m : ℕ} (em : m ≡ up8 (length k + old)) where
+            size-old : m ≡ extentOf k (P .found .value)
+            size-old = em ∙ ap (λ i. up8 (length k + i)) old-is
+
+            pub retire-ok : Retires f2 m
+            retire-ok =
+                let W = work-at (P .put .ready .st) (P .put .ready .stands) in
+                rw size-old (record { view = extended (standsView (P .put .ready .stands)) (extentOf k v); heap = W .heap; place = P .found .extent; rest = _; owns = first-owns W })
+
+            pub ends-other : {g : List ℕ} → ((h : View) (o : ℕ) (rest : List Item) → Heap f2 h → Same (h .owned) (extent o m ∷ rest) → Renumbered f2 g h (retired h m rest)) → Bytes g → PutStep f k v g
+            ends-other {g} C by =
+                let xs = P .put .way .steps in
+                let n = p .here .slot in
+                let o = p .here .place in
+                let x = P .found .extent in
+                let v' = P .found .value in
+                let C' : (h : View) (o : ℕ) (rest : List Item) → Heap f2 h → Same (h .owned) (extent o (extentOf k v') ∷ rest) → Renumbered f2 g h (retired h (extentOf k v') rest)
+                = subst (λ i. (h : View) (o : ℕ) (rest : List Item) → Heap f2 h → Same (h .owned) (extent o i ∷ rest) → Renumbered f2 g h (retired h i rest)) size-old C in
+                record {
+                  after = λ s w.
+                      let W = work-at s w in
+                      put-done f g k v w xs (leaf n o x k v') (root-at s w) (P .put .way .leads)
+                      (renewed w xs n o x k v' (root-at s w) f1 f2 v e other-length (extended-at s w) leaf-at g (C' (extended (standsView w) (extentOf k v)) x _ (W .heap) (first-owns W)) by)
+                      (any-room (P .put) s w);
+                }
