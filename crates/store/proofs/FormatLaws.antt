@@ -1,127 +1,13 @@
--- The bytes that format writes are the image of no records, and its tests decide the limits. Assumes nothing.
-use Prim.Native.Nat.{ℕ, _+_, _*_, _/_, _<_, _≤_}
-use mathlib.Core.Path.{_≡_, refl, ap, sym, _∙_}
+-- The two ends of format. Assumes nothing.
+use Prim.Native.Nat.{ℕ}
+use mathlib.Core.Path.{_≡_, refl}
 use mathlib.Core.List.{List, []}
-use mathlib.Core.Bool.{Bool, true, false}
-use native.Mathlib.Omega.{arith}
-use native.Mathlib.Decide.{decLe, decLt}
-use lib.ListN.{length, getD, List·getD-eq-default}
-use Rattle.layout.specs.Number.{byteAt, le, put, Bytes}
-use Rattle.layout.specs.Place.{atF, atN, atD, atB, atU, atR, atX, atRoot, entryAt, dataStart}
-use Rattle.layout.specs.Kind.{EmptyRoot}
-use Rattle.layout.specs.Entry.{entryOf}
-use Rattle.layout.proofs.NumberLaws.{le-same, le-put, length-put, bytes-put, getD-put-off}
-use Rattle.layout.proofs.EntryLaws.{entry-lt}
-use Rattle.fields.specs.Header.{headerOf, putHeader, HeaderFits}
-use Rattle.fields.specs.declared.header.Header.{Header}
-use Rattle.fields.proofs.HeaderLaws.{header-put, edition-put, length-putHeader, byte-putHeader}
-use Rattle.node.specs.Moved.{Cleared}
+use lib.ListN.{length}
 use Rattle.model.specs.Edition.{edition1}
 use Rattle.model.specs.Image.{image}
 use Rattle.model.specs.Promise.{FormatOk, FormatPromise}
-use Rattle.model.proofs.Edition1.{lawful1}
-use Rattle.model.proofs.FormatLaws.{Fields, Formatted, format-image}
-use Rattle.store.specs.Limits.{Limits}
-use mathlib.Core.Logic.{inl, inr}
+use Rattle.blank.specs.Limits.{Limits}
 
--- the header that format writes
-abbrev pub freshHeader : ℕ → ℕ → Header
-freshHeader f n = record { «frame_length» = f; «slot_capacity» = n; «data_start» = dataStart n; «next_byte» = dataStart n + 8; «slots_given» = 1; «records» = 0; «dead_bytes» = 0; root = 1 }
-
--- small enough for every field
-fits : (f n : ℕ) → Limits f n → HeaderFits (freshHeader f n)
-fits f n L =
-    let a = L .long in let b = L .slots in
-    record {
-      frame-length = omega arith;
-      slot-capacity = omega arith;
-      data-start = omega arith;
-      next-byte = omega arith;
-      slots-given = omega arith;
-      records = omega arith;
-      dead-bytes = omega arith;
-      root = omega arith;
-    }
-
--- the frame is zeroed, the header written, and slot 1's entry
-module _ (f g : List ℕ) (n : ℕ) (L : Limits (length f) n) (C : Cleared f g 0 (length f)) where
-  abbrev pub headed : List ℕ
-  headed = putHeader g (freshHeader (length f) n)
-
-  abbrev pub laid : List ℕ
-  laid = put 4 headed (entryAt 1) (entryOf EmptyRoot (dataStart n))
-
-  long : length g ≡ length f
-  long = C .rest .size
-
-  zero : (a : ℕ) → byteAt g a ≡ 0
-  zero a = elim (decLt a (length f)) [
-    | yes p ↦ C .zeros a (omega arith) (omega arith)
-    | no p ↦ List·getD-eq-default g 0 (omega (arith, long))
-  ]
-
-  is-header : headerOf headed ≡ freshHeader (length f) n
-  is-header = let a = L .long in header-put g (freshHeader (length f) n) (omega (arith, long)) (fits (length f) n L)
-
-  fields : Fields edition1 (length f) n (dataStart n + 8) 1 0 headed
-  unfolding headerOf
-  fields =
-      let e = is-header in let a = L .long in
-      record {
-        edition = edition-put g (freshHeader (length f) n) (omega (arith, long));
-        stored = ap (λ (x : Header). x .«frame_length») e;
-        slotsAt = ap (λ (x : Header). x .«slot_capacity») e;
-        dataAt = ap (λ (x : Header). x .«data_start») e;
-        bumpAt = ap (λ (x : Header). x .«next_byte») e;
-        givenAt = ap (λ (x : Header). x .«slots_given») e;
-        recordsAt = ap (λ (x : Header). x .records) e;
-        deadAt = ap (λ (x : Header). x .«dead_bytes») e;
-        rootAt = ap (λ (x : Header). x .root) e;
-        zeros = λ a p q. byte-putHeader g (freshHeader (length f) n) a (omega arith) ∙ zero a;
-      }
-
-  -- the entry lies behind the header
-  same : (a : ℕ) → a < 64 → byteAt laid a ≡ byteAt headed a
-  same a l = getD-put-off 4 headed 64 (entryOf EmptyRoot (dataStart n)) a (inl (omega arith))
-
-  field : (w o : ℕ) → o + w ≤ 64 → le w laid o ≡ le w headed o
-  field w o l = le-same w laid headed o (λ a p q. same a (omega arith))
-
-  long-laid : length laid ≡ length f
-  long-laid = length-put 4 headed 64 (entryOf EmptyRoot (dataStart n)) ∙ length-putHeader g (freshHeader (length f) n) ∙ long
-
-  bytes : Bytes laid
-  unfolding putHeader
-  bytes =
-      let z : Bytes g = λ a. (let e = zero a in omega arith) in
-      bytes-put 4 headed 64 (entryOf EmptyRoot (dataStart n))
-      (bytes-put 2 _ 32 _ (bytes-put 4 _ 28 _ (bytes-put 4 _ 24 _ (bytes-put 4 _ 20 _ (bytes-put 4 _ 16 _ (bytes-put 4 _ 12 _ (bytes-put 4 _ 8 _ (bytes-put 4 _ 4 _ (bytes-put 4 g 0 1 z)))))))))
-
-  is-formatted : Formatted edition1 laid n
-  is-formatted =
-      let p = fields in let a = L .long in let b = L .slots in
-      record {
-        fields = record {
-          edition = field 4 0 (omega arith) ∙ p .edition;
-          stored = field 4 4 (omega arith) ∙ p .stored ∙ sym long-laid;
-          slotsAt = field 4 8 (omega arith) ∙ p .slotsAt;
-          dataAt = field 4 12 (omega arith) ∙ p .dataAt;
-          bumpAt = field 4 16 (omega arith) ∙ p .bumpAt;
-          givenAt = field 4 20 (omega arith) ∙ p .givenAt;
-          recordsAt = field 4 24 (omega arith) ∙ p .recordsAt;
-          deadAt = field 4 28 (omega arith) ∙ p .deadAt;
-          rootAt = field 2 32 (omega arith) ∙ p .rootAt;
-          zeros = λ c x y. same c y ∙ p .zeros c x y;
-        };
-        entry = le-put 4 headed 64 (entryOf EmptyRoot (dataStart n)) (omega (arith, length-putHeader g (freshHeader (length f) n), long)) (entry-lt 8 (dataStart n) (omega arith) (omega arith));
-        rest = λ c x. getD-put-off 4 headed 64 (entryOf EmptyRoot (dataStart n)) c (inr (omega arith)) ∙ byte-putHeader g (freshHeader (length f) n) c (omega arith) ∙ zero c;
-      }
-
-  pub laid-out : laid ≡ image edition1 (length f) n []
-  laid-out =
-      rw long-laid at (format-image edition1 laid n (lawful1 .fields .number) bytes (rw long-laid (L .long)) (L .slots) (rw long-laid (L .room)) is-formatted)
-
--- the two ends of the call
 pub refused : (f : List ℕ) (len cap : ℕ) → (FormatOk f len cap → ⊥) → FormatPromise edition1 f len cap 1 f
 refused f len cap n = record { done0 = λ ok. absurd (n ok); limits1 = λ h. (refl, refl) }
 

@@ -3,20 +3,11 @@ use answers::Format;
 use answers::Refusal;
 use fields::header::Header;
 use layout::entry::Entry;
-use layout::kind::Kind;
-use node::moves;
-ghost use mathlib.Core.Path.{_≡_};
-ghost use mathlib.Core.List.{[]};
-ghost use Prim.Native.Nat.{_+_, _≤_};
-ghost use lib.ListN.{length};
-ghost use Rattle.layout.specs.Place.{dataStart};
 ghost use Rattle.answers.specs.Number.{formatNumber};
 ghost use Rattle.model.specs.Edition.{edition1};
-ghost use Rattle.model.specs.Image.{image};
-ghost use Rattle.model.specs.Frame.{FrameLength, SlotCapacity};
 ghost use Rattle.model.specs.Promise.{FormatPromise};
 ghost use Rattle.shape.specs.Decides.{Decides};
-ghost use Rattle.store.specs.Limits.{Limits};
+ghost use Rattle.blank.specs.Limits.{Limits};
 
 const LEAST_LENGTH: usize = 1024;
 
@@ -54,28 +45,6 @@ fn limits_hold(length: usize, capacity: usize) -> bool
     true
 }
 
-// The frame as format leaves it; erase of the only record leaves it so too.
-pub fn lay_out(frame: &mut [u8], capacity: usize)
-    requires { ⌜ Limits (length (now frame)) capacity ⌝ }
-    ensures { λ _. ⌜ now (frame .exit) ≡ image edition1 (length (now (frame .entry))) capacity [] ⌝ }
-{
-    let start = Header::SIZE + Entry::SIZE * capacity;
-    let bytes = frame.len();
-    moves::clear(frame, 0, bytes);
-    let header = Header {
-        frame_length: bytes,
-        slot_capacity: capacity,
-        data_start: start,
-        next_byte: start + 8,
-        slots_given: 1,
-        records: 0,
-        dead_bytes: 0,
-        root: 1,
-    };
-    header.write(frame);
-    Entry::write(frame, 1, Kind::EMPTY_ROOT, start);
-}
-
 pub fn format(frame: &mut [u8], length: usize, capacity: usize) -> Format
     ensures { λ r. ⌜ FormatPromise edition1 (now (frame .entry)) length capacity (formatNumber r) (now (frame .exit)) ⌝ }
 {
@@ -85,6 +54,6 @@ pub fn format(frame: &mut [u8], length: usize, capacity: usize) -> Format
     if !limits_hold(length, capacity) {
         return Format::Refused(Refusal::Length);
     }
-    lay_out(frame, capacity);
+    blank::lay_out(frame, capacity);
     Format::Done
 }

@@ -1,8 +1,8 @@
 -- What is written is the image of no records. Assumes nothing.
-use Rattle.store.proofs.FormatLaws.{laid-out}
+use Rattle.blank.proofs.BlankLaws.{laid-out}
 use borrow.Author.Needs.{needs}
-use Rattle.store.proofs.format.lay_out.Statement.{statement}
-use Rattle.store.proofs.format.lay_out.Tie as tie
+use Rattle.blank.proofs.lay_out.Statement.{statement}
+use Rattle.blank.proofs.lay_out.Tie as tie
 
 mul-start : tie.Need-mul-start
 mul-start c = search needs

@@ -1,0 +1,122 @@
+-- A Leaf of the forest goes: what the calls of `drop_leaf` ask, and what they leave. Assumes nothing.
+use Prim.Native.Nat.{ℕ, _+_, _-_, _<_, _≤_}
+use mathlib.Core.Path.{_≡_, refl, sym, ap, _∙_}
+use mathlib.Core.List.{List, [], _∷_, _++_}
+use native.Mathlib.Omega.{arith}
+use lib.ListN.{length}
+use Rattle.layout.specs.Number.{le}
+use Rattle.layout.specs.Place.{atR, leafKey, leafValue}
+use Rattle.layout.specs.Kind.{Leaf, Kind}
+use Rattle.layout.specs.Entry.{placeOf}
+use Rattle.model.specs.Edition.{edition1}
+use Rattle.model.specs.Tree.{up8, extentOf}
+use Rattle.model.specs.Item.{Item, body, extent}
+use Rattle.model.specs.Frame.{Lay, LeafOf, View, Heap}
+use Rattle.model.specs.Frame.Lay.{leaf}
+use Rattle.model.proofs.ItemLaws.{Same}
+use Rattle.room.specs.View.{released, retired, recorded}
+use Rattle.room.specs.Step.{Frees, Freed, Retires, Renumbered}
+use Rattle.room.proofs.HeapLaws.{lies}
+use Rattle.between.specs.Hole.{Step, stepsItems}
+use Rattle.between.specs.Work.{forestItems, Work}
+use Rattle.between.proofs.WorkLaws.{open-leaf, first-owns, entries-first, work-free, work-retire, work-count}
+use Rattle.between.proofs.BookedLaws.{booked-free, booked-retire, booked-count}
+use Rattle.between.proofs.SinceLaws.{since-free, since-retire, since-count}
+use Rattle.erase_remove.specs.Leaf.{Drops, Dropped}
+
+pub leaf-kind : Kind Leaf
+leaf-kind = (omega arith, omega arith, λ z. omega arith)
+
+module _ {f : List ℕ} {h : View} {xs : List Step} {s : ℕ} (n o : ℕ) (path : List ℕ) (e : ℕ) (k v : List ℕ) (ts : List (List ℕ × Lay)) (loose : List Item)
+    (W : Work edition1 f h xs s ((path, leaf n o e k v) ∷ ts) loose) where
+  abbrev size : ℕ
+  size = extentOf k v
+
+  abbrev W1 : Work edition1 f h xs s ts (body n Leaf o ∷ extent e size ∷ loose)
+  W1 = open-leaf path ts loose n o e k v W .0
+
+  -- its bytes
+  pub leaf-room : (64 ≤ length f) × (o + 16 ≤ length f)
+  leaf-room =
+      let I = lies n Leaf o _ (W1 .heap) (first-owns W1) (omega arith) (omega arith) in
+      let l = W1 .heap .header .limits in
+      (omega (arith, W1 .heap .header .size), omega (arith, I .ends, W1 .heap .header .size))
+
+  pub leaf-size : {a b m : ℕ} → a ≡ le 2 f (o + leafKey) → b ≡ le 2 f (o + leafValue) → m ≡ up8 (a + b) → m ≡ size
+  leaf-size ea eb em =
+      let L = open-leaf path ts loose n o e k v W .1 .at in
+      let ka = ea ∙ L .keyLength in
+      let vb = eb ∙ L .valueLength in
+      em ∙ rw (ka, vb) refl
+
+  abbrev rest1 : List Item
+  rest1 = (extent e size ∷ loose) ++ (stepsItems xs ++ forestItems ts)
+
+  pub leaf-frees : Frees f n Leaf
+  leaf-frees = record { view = h; heap = W1 .heap; kind = leaf-kind; place = o; rest = rest1; owns = first-owns W1 }
+
+  module _ {f1 : List ℕ} (release : (h : View) (o : ℕ) (rest : List Item) → Heap f h → Same (h .owned) (body n Leaf o ∷ rest) → placeOf f n ≡ o → Freed f f1 h n Leaf o rest) where
+    abbrev h1 : View
+    h1 = released h n Leaf o rest1
+
+    F1 : Freed f f1 h n Leaf o rest1
+    F1 = release h o rest1 (W1 .heap) (first-owns W1) (entries-first f n Leaf o (extent e size ∷ loose) (W1 .entries) .0 .placeIs)
+
+    W2 : Work edition1 f1 h1 xs s ts (extent e size ∷ loose)
+    W2 = work-free W1 F1
+
+    abbrev rest2 : List Item
+    rest2 = loose ++ (stepsItems xs ++ forestItems ts)
+
+    pub leaf-retires : {m : ℕ} → m ≡ size → Retires f1 m
+    leaf-retires em = rw em (record { view = h1; heap = W2 .heap; place = e; rest = rest2; owns = first-owns W2 })
+
+    module _ {f2 : List ℕ} {m : ℕ} (em : m ≡ size) (retire : (h : View) (o : ℕ) (rest : List Item) → Heap f1 h → Same (h .owned) (extent o m ∷ rest) → Renumbered f1 f2 h (retired h m rest)) where
+      abbrev h2 : View
+      h2 = retired h1 size rest2
+
+      C2 : Renumbered f1 f2 h1 h2
+      C2 = rw em at (retire h1 e rest2 (W2 .heap) (rw em (first-owns W2)))
+
+      W3 : Work edition1 f2 h2 xs s ts loose
+      W3 = work-retire W2 C2
+
+      pub leaf-records : (64 ≤ length f2) × (le 4 f2 atR ≡ h .nums .R)
+      leaf-records = let l = W3 .heap .header .limits in (omega (arith, W3 .heap .header .size), W3 .heap .header .recordsAt)
+
+      pub leaf-dropped : {f3 : List ℕ} {r : ℕ} → r ≡ le 4 f2 atR → ((h : View) → Heap f2 h → Renumbered f2 f3 h (recorded h (r - 1))) → Dropped f f3 h xs s ts loose n o k v
+      leaf-dropped {f3} {r} er count =
+          let C3 = count h2 (W3 .heap) in
+          record {
+            view = recorded h2 (r - 1);
+            work = work-count W3 (r - 1) C3;
+            since = λ f0 h0 takes rewrites frees extents Z. since-count (since-retire e size (first-owns W2) (since-free leaf-kind (W1 .heap) (first-owns W1) Z F1) C2) C3;
+            booked = λ h0 takes frees x d d' t ed Z. booked-count (booked-retire (booked-free Z n Leaf o rest1 leaf-kind) size d' rest2 ed) (r - 1) (t - 1) (ap (λ i. i - 1) (er ∙ leaf-records .1 ∙ Z .R));
+          }
+
+-- the same of the witness
+module _ {f : List ℕ} {n o : ℕ} (D : Drops f n o) where
+  pub drops-room : (64 ≤ length f) × (o + 16 ≤ length f)
+  drops-room = leaf-room n o (D .path) (D .extent) (D .key) (D .value) (D .trees) (D .loose) (D .work)
+
+  pub drops-frees : Frees f n Leaf
+  drops-frees = leaf-frees n o (D .path) (D .extent) (D .key) (D .value) (D .trees) (D .loose) (D .work)
+
+  module _ {f1 : List ℕ} (release : (h : View) (o : ℕ) (rest : List Item) → Heap f h → Same (h .owned) (body n Leaf o ∷ rest) → placeOf f n ≡ o → Freed f f1 h n Leaf o rest)
+      {a b m : ℕ} (ea : a ≡ le 2 f (o + leafKey)) (eb : b ≡ le 2 f (o + leafValue)) (em : m ≡ up8 (a + b)) where
+    size-is : m ≡ extentOf (D .key) (D .value)
+    size-is = leaf-size n o (D .path) (D .extent) (D .key) (D .value) (D .trees) (D .loose) (D .work) ea eb em
+
+    pub drops-retires : Retires f1 m
+    drops-retires = leaf-retires n o (D .path) (D .extent) (D .key) (D .value) (D .trees) (D .loose) (D .work) release size-is
+
+    pub drops-records : {f2 : List ℕ} → ((h : View) (o : ℕ) (rest : List Item) → Heap f1 h → Same (h .owned) (extent o m ∷ rest) → Renumbered f1 f2 h (retired h m rest)) → 1 ≤ le 4 f2 atR
+    drops-records retire = omega (arith, leaf-records n o (D .path) (D .extent) (D .key) (D .value) (D .trees) (D .loose) (D .work) release size-is retire .1, D .records)
+
+-- and of any work
+pub drop-law : {f f1 f2 f3 : List ℕ} {n o a b m r : ℕ} → ((h : View) (o : ℕ) (rest : List Item) → Heap f h → Same (h .owned) (body n Leaf o ∷ rest) → placeOf f n ≡ o → Freed f f1 h n Leaf o rest)
+    → a ≡ le 2 f (o + leafKey) → b ≡ le 2 f (o + leafValue) → m ≡ up8 (a + b) → ((h : View) (o : ℕ) (rest : List Item) → Heap f1 h → Same (h .owned) (extent o m ∷ rest) → Renumbered f1 f2 h (retired h m rest))
+    → r ≡ le 4 f2 atR → ((h : View) → Heap f2 h → Renumbered f2 f3 h (recorded h (r - 1)))
+    → (h : View) (xs : List Step) (s : ℕ) (path : List ℕ) (e : ℕ) (k v : List ℕ) (ts : List (List ℕ × Lay)) (loose : List Item) → Work edition1 f h xs s ((path, leaf n o e k v) ∷ ts) loose → Dropped f f3 h xs s ts loose n o k v
+drop-law {n = n} {o = o} release ea eb em retire er count h xs s path e k v ts loose W =
+    leaf-dropped n o path e k v ts loose W release (leaf-size n o path e k v ts loose W ea eb em) retire er count
