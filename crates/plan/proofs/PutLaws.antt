@@ -128,6 +128,7 @@ module _ {f k : List ℕ} {st : State} {s : Spot} (W : Stands edition1 f st) (S 
       replaced b v' =
           pick b (record { now = Art.leaf k v; takes = []; frees = []; extent = 0; dead = 0; fresh = false })
           (record { now = Art.leaf k v; takes = []; frees = []; extent = extentOf k v; dead = extentOf k v'; fresh = false })
+
       both : (b : Bool) (v' : List ℕ) → Asks n [] (pick b 0 (extentOf k v)) → AsksFor n (replaced b v')
       both true v' A = A
       both false v' A = A

@@ -1,0 +1,5 @@
+pub mod PrefixLaws
+pub mod DropLaws
+pub mod SiteLaws
+pub mod UpLaws
+pub mod OverLaws

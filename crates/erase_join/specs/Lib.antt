@@ -1,0 +1,4 @@
+pub mod Prefix
+pub mod Drop
+pub mod Erase
+pub mod Lone

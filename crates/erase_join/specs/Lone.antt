@@ -1,0 +1,79 @@
+-- A Node4 of two children, one of them the key's Leaf: the site of a join.
+use Prim.Native.Nat.{ℕ, _+_, _<_}
+use mathlib.Core.Path.{_≡_}
+use mathlib.Core.List.{List, [], _∷_}
+use mathlib.Core.Bool.{true}
+use Rattle.layout.specs.Kind.{Node4}
+use Rattle.model.specs.Edition.{edition1}
+use Rattle.model.specs.Tree.{extentOf}
+use Rattle.model.specs.State.{State, eraseChange}
+use Rattle.model.specs.State as state
+use Rattle.model.specs.Frame.{Lay, LayKids, Root, tree, slotOf, art, Stands}
+use Rattle.model.specs.Frame.Lay.{leaf, prefix, node}
+use Rattle.model.specs.Frame.LayKids.{nil, kid}
+use Rattle.between.specs.Hole.{app, Step, under, among, plug, Link}
+use Rattle.between.specs.Lead.{Leads, NotUnder}
+use Rattle.descent.specs.declared.spot.Body.{Body}
+use Rattle.erase_join.specs.declared.lone.Lone.{Lone}
+
+-- ---- what the child is
+
+abbrev pub IsLeaf : Lay → Type 0
+IsLeaf (leaf s o e k v) = Unit {0}
+IsLeaf (prefix s o p t) = ⊥
+IsLeaf (node s o kind ks) = ⊥
+
+-- a Prefix at this place
+abbrev pub IsPrefix : ℕ → Lay → Type 0
+IsPrefix at (leaf s o e k v) = ⊥
+IsPrefix at (prefix s o p t) = o ≡ at
+IsPrefix at (node s o kind ks) = ⊥
+
+-- ---- the site
+
+-- key k leads in the tree r to a Node4 in the hole xs, which has its Leaf and the child u
+pub record Site (k : List ℕ) (r : Root) (xs : List Step) (l : Lone) (u : Lay) : Type 0 where
+  pub nodeAt : ℕ
+  pub before : LayKids
+  pub byte : ℕ
+  pub place : ℕ
+  pub after : LayKids
+  pub leafAt : ℕ
+  pub extent : ℕ
+  pub value : List ℕ
+  pub rest : List ℕ
+  pub other : ℕ
+  pub whole : r ≡ tree (plug xs (node (l .node) nodeAt Node4 (app before (kid byte place (leaf (l .leaf) leafAt extent k value) after))))
+  pub leads : Leads edition1 k (among (l .node) nodeAt Node4 before byte place after ∷ xs) rest
+  pub left : app before after ≡ kid (l .byte) other u nil
+  pub slotIs : slotOf u ≡ l .child
+  pub size : l .size ≡ extentOf k value
+
+-- the tree there
+abbrev pub pairOf : {k : List ℕ} {r : Root} {xs : List Step} {l : Lone} {u : Lay} → Site k r xs l u → Lay
+pairOf {k} {l = l} P = node (l .node) (P .nodeAt) Node4 (app (P .before) (kid (P .byte) (P .place) (leaf (l .leaf) (P .leafAt) (P .extent) k (P .value)) (P .after)))
+
+-- in a good frame with room for the erase
+pub record Ready (f k : List ℕ) (xs : List Step) (l : Lone) (u : Lay) : Type 0 where
+  pub st : State
+  pub stands : Stands edition1 f st
+  pub site : Site k (stands .root) xs l u
+  pub room : state.room st (eraseChange edition1 (art (plug xs (pairOf site))) k) ≡ true
+
+-- with no Prefix just above
+pub record Bare (P : Lay → Type 0) (f k : List ℕ) (l : Lone) (link : ℕ) : Type 0 where
+  pub steps : List Step
+  pub child : Lay
+  pub is : P child
+  pub ready : Ready f k steps l child
+  pub free : NotUnder steps
+  pub linkIs : Link steps link
+
+-- under the Prefix b
+pub record Capped (P : Lay → Type 0) (f k : List ℕ) (l : Lone) (b : Body) : Type 0 where
+  pub bytes : List ℕ
+  pub up : List Step
+  pub child : Lay
+  pub is : P child
+  pub ready : Ready f k (under (b .slot) (b .place) bytes ∷ up) l child
+  pub linkIs : Link up (b .link)

@@ -1,0 +1,5 @@
+pub mod PartLaws
+pub mod ForkLaws
+pub mod PartedLaws
+pub mod EndLaws
+pub mod SplitLaws

@@ -1,0 +1,137 @@
+-- The bodies that a split writes: a Prefix, a Node4 of two children, and the Node4 with a new Leaf. Assumes nothing.
+use Prim.Native.Nat.{ℕ, _+_, _-_, _*_, _<_, _≤_}
+use mathlib.Core.Path.{_≡_, refl, sym, ap, _∙_}
+use mathlib.Core.List.{List, [], _∷_, _++_}
+use mathlib.Core.Option.{none}
+use native.Mathlib.Omega.{arith}
+use lib.ListN.{length, getD, length-append, List·getD-append}
+use borrow.Author.Tests.{ne-eqb}
+use Rattle.layout.specs.Number.{byteAt, le, put}
+use Rattle.layout.specs.Place.{entryAt, leafExtent, leafKey, prefixChild, prefixLength, prefixZero, prefixBytes, prefixMost}
+use Rattle.layout.specs.Kind.{Leaf, Node4, most}
+use Rattle.layout.specs.Entry.{placeOf}
+use Rattle.layout.proofs.NumberLaws.{le-put}
+use Rattle.model.specs.Edition.{edition1}
+use Rattle.model.specs.Tree.{extentOf}
+use Rattle.model.specs.Item.{Item, body, extent}
+use Rattle.model.specs.Body.{PrefixAt, InnerAt, LeafAt, lookKid}
+use Rattle.model.specs.Frame.{Lay, View, Heap}
+use Rattle.model.proofs.Edition1.{key-passes}
+use Rattle.model.proofs.UniqueLaws.{look-nil}
+use Rattle.node.specs.Kids.{insertKid}
+use Rattle.node.proofs.KidsLaws.{look-insert}
+use Rattle.inner.specs.Inner.{NodeOpen, Emptied, Added}
+use Rattle.node.specs.Moved.{Only, Cleared}
+use Rattle.room.specs.View.{listOf, placeFrom, taken}
+use Rattle.room.specs.Step.{Pasted}
+use Rattle.node.proofs.MoveLaws.{only-put, only-then}
+use Rattle.room.proofs.HeapLaws.{le-below, lies, Lies}
+use Rattle.descent.proofs.KeyLaws.{walked-in, walked-out}
+use Rattle.between.specs.Hole.{Step, stepsItems}
+use Rattle.between.specs.Work.{forestItems, Work}
+use Rattle.between.specs.Edit.{leafView, leafIn, MadeLeaf}
+use Rattle.between.proofs.WorkLaws.{entries-first, first-owns, open-leaf}
+use Rattle.leaf_new.specs.Make.{Makes, NewLeaf}
+use Rattle.put_split.specs.Parts.{PrefixWritten, ForkWritten, LeafHere, Forks, Forked}
+
+-- ---- a Prefix
+
+pub prefix-law : {f f1 f2 f3 g : List ℕ} (o child : ℕ) (p : List ℕ) → o + 128 ≤ length f → 1 ≤ length p → length p ≤ 112 → child < 4294967296 → Cleared f f1 o 128 → f2 ≡ put 4 f1 (o + prefixChild) child
+    → f3 ≡ put 2 f2 (o + prefixLength) (length p) → Pasted f3 g (o + prefixBytes) (length p) p → PrefixWritten f g o p child
+prefix-law {f} {f1} {f2} {f3} {g} o child p room some top fits C e2 e3 G =
+    let O2 : Only f1 f2 (o + prefixChild) (o + prefixChild + 4) = rw e2 (only-put 4 f1 (o + prefixChild) child) in
+    let O3 : Only f2 f3 (o + prefixLength) (o + prefixLength + 2) = rw e3 (only-put 2 f2 (o + prefixLength) (length p)) in
+    let O4 = G .only in
+    let l1 = C .rest .size in
+    let l2 = O2 .size in
+    let l3 = O3 .size in
+    let zero : (a : ℕ) → o + prefixZero ≤ a → a < o + 128 → byteAt f3 a ≡ 0 = λ a l u. O3 .above a (omega arith) ∙ O2 .above a (omega arith) ∙ C .zeros a (omega arith) u in
+    record {
+      only = only-then o (o + 128) (only-then o (o + 128) (only-then o (o + 128) (C .rest) O2 (omega arith) (omega arith) (omega arith) (omega arith)) O3 (omega arith) (omega arith) (omega arith) (omega arith)) O4
+          (omega arith) (omega arith) (omega arith) (omega arith);
+      at = record {
+        room = omega (arith, O4 .size);
+        some = some;
+        most = top;
+        child = le-below 4 (o + prefixChild) O4 (omega arith) ∙ le-below 4 (o + prefixChild) O3 (omega arith) ∙ ap (λ x. le 4 x (o + prefixChild)) e2 ∙ le-put 4 f1 (o + prefixChild) child (omega arith) fits;
+        long = le-below 2 (o + prefixLength) O4 (omega arith) ∙ ap (λ x. le 2 x (o + prefixLength)) e3 ∙ le-put 2 f2 (o + prefixLength) (length p) (omega arith) (omega arith);
+        zeros = λ i l. O4 .below (o + prefixZero + i) (omega arith) ∙ zero (o + prefixZero + i) (omega arith) (omega arith);
+        text = λ i l. G .text (o + prefixBytes + i) i l refl;
+        rest = λ i l. O4 .above (o + prefixBytes + length p + i) (omega arith) ∙ zero (o + prefixBytes + length p + i) (omega arith) (omega arith);
+      };
+    }
+
+-- ---- a Node4 of two children
+
+one-kid : (c y : ℕ) → length (insertKid c y []) ≡ 1
+unfolding insertKid
+one-kid c y = refl
+
+other-kid : (b c y : ℕ) → (b ≡ c → ⊥) → lookKid b (insertKid c y []) ≡ none
+other-kid b c y n = look-insert c y b [] (look-nil c) ∙ rw (ne-eqb c b (λ q. n (sym q))) (look-nil b)
+
+module _ {f f1 f2 : List ℕ} {o c y : ℕ} (E : Emptied f f1 o Node4) (A : Added f1 f2 o Node4 c y) where
+  one-in : InnerAt f2 o Node4 (insertKid c y [])
+  one-in = A .inner [] (E .inner) (look-nil c)
+
+  pub open-one : NodeOpen f2 o Node4
+  open-one = record { kids = insertKid c y []; node = one-in; few = omega (arith, one-kid c y) }
+
+  pub fork-law : {g : List ℕ} {b x : ℕ} → (b ≡ c → ⊥) → Added f2 g o Node4 b x → ForkWritten f g o b x c y
+  fork-law {g} {b} {x} n B =
+      record {
+        only = only-then o (o + 24) (only-then o (o + 24) (E .only) (A .only) (omega arith) (omega arith) (omega arith) (omega arith)) (B .only)
+            (omega arith) (omega arith) (omega arith) (omega arith);
+        inner = B .inner (insertKid c y []) one-in (other-kid b c y n);
+      }
+
+pub open-none : {f f1 : List ℕ} {o : ℕ} → Emptied f f1 o Node4 → NodeOpen f1 o Node4
+open-none E = record { kids = []; node = E .inner; few = omega arith }
+
+-- ---- a byte of the old key
+
+pub byte-in : {f : List ℕ} {o d n e : ℕ} → n ≡ le 2 f (o + leafKey) → e ≡ le 4 f (o + leafExtent) → d < n → (e' : ℕ) (k v : List ℕ) → LeafAt f o e' k v → byteAt f (e + d) ≡ getD (edition1 .walked k) d 0
+byte-in {f} {o} {d} {n} {e} en ee l e' k v L =
+    let q : e ≡ e' = ee ∙ L .extent in
+    let m : d < length k = omega (arith, L .keyLength) in
+    ap (λ x. byteAt f (x + d)) q ∙ L .text d (omega (arith, length-append k v)) ∙ List·getD-append k v 0 d m ∙ walked-in k d m
+
+pub byte-out : {f : List ℕ} {o d n : ℕ} → n ≡ le 2 f (o + leafKey) → n ≤ d → (e' : ℕ) (k v : List ℕ) → LeafAt f o e' k v → 0 ≡ getD (edition1 .walked k) d 0
+byte-out {d = d} en l e' k v L = walked-out k d (omega (arith, L .keyLength))
+
+pub byte-ok : {f : List ℕ} {o d n e : ℕ} → LeafHere f o → n ≡ le 2 f (o + leafKey) → e ≡ le 4 f (o + leafExtent) → d < n → e + d < length f
+byte-ok H en ee l = let L = H .at in omega (arith, L .keyLength, L .extent, L .room)
+
+-- ---- the Node4 with a new Leaf
+
+module _ {f k v : List ℕ} {n : ℕ} (P : Forks f k v n) where
+  pub fork-makes : Makes f k v
+  fork-makes = record { view = P .view; heap = P .work .heap; room = P .room; keyFits = omega (arith, key-passes k (P .legal) .short); valueFits = omega (arith, P .short) }
+
+  module _ {mid : List ℕ} {leaf : ℕ} (M : NewLeaf f mid k v leaf) where
+    made : MadeLeaf edition1 f mid (P .view) (P .steps) (P .top) (P .trees) (body n Node4 (P .place) ∷ P .loose) [] leaf k v
+    made = M (P .view) (P .steps) (P .top) (P .trees) (body n Node4 (P .place) ∷ P .loose) [] (P .work) (P .room) (P .legal) refl
+
+    fork-lies : Lies (leafView (P .view) k v) n Node4 (P .place)
+    fork-lies = lies n Node4 (P .place) _ (made .work .heap) (first-owns (made .work)) (omega arith) (omega arith)
+
+    pub fork-entry : (1 ≤ n) × (entryAt n + 4 ≤ length mid)
+    fork-entry =
+        let H = made .work .heap .header in
+        let b = H .bumpIn in
+        let L = fork-lies in
+        (L .low, omega (arith, L .table, H .size))
+
+    pub fork-room : {o : ℕ} → o ≡ placeOf mid n → o + 24 ≤ length mid
+    fork-room e = omega (arith, entries-first mid n Node4 (P .place) (P .loose) (made .work .entries) .0 .placeIs, fork-lies .ends, made .work .heap .header .size)
+
+    pub leaf-slot : (1 ≤ leaf) × (leaf < 4294967296)
+    leaf-slot =
+        let H = made .work .heap .header in
+        let W = open-leaf [] (P .trees) (body n Node4 (P .place) ∷ P .loose) leaf (placeFrom (P .view) (listOf (P .view) Leaf)) (taken (P .view) Leaf .nums .B) k v (made .work) .0 in
+        let L = lies leaf Leaf (placeFrom (P .view) (listOf (P .view) Leaf)) _ (W .heap) (first-owns W) (omega arith) (omega arith) in
+        let c = H .slotCap in
+        (L .low, omega (arith, L .table))
+
+    pub forked : {g : List ℕ} {o b b' c y : ℕ} → o ≡ placeOf mid n → b ≡ b' → ForkWritten mid g o b leaf c y → Forked f g k v n b' c y
+    forked eo eb W = record { mid = mid; leaf = leaf; made = M; written = rw (← eo, ← eb) W }
