@@ -17,7 +17,10 @@ use Rattle.model.specs.Frame.{Root, Stands, Good}
 use Rattle.model.specs.Touch.{Part, findAt}
 use Rattle.model.specs.Promise.{Told, CheckPromise, LookUpPromise, Found, notFound, foundOf, onLookUp}
 use Rattle.descent.specs.declared.lookup.Held.{Held}
-use Rattle.descent.specs.Lookup.{partOf, valueIn, Looked}
+use Rattle.descent.specs.Lookup.{partOf, valueIn, orEmpty, Looked}
+use Rattle.descent.proofs.LookLaws.{value-stands}
+use Rattle.model.proofs.UniqueLaws.{root-unique, stands-unique}
+use Rattle.store.specs.Found.{ValueAt}
 use Rattle.descent.specs.Spot.{Standing}
 
 -- what any number says of a good frame
@@ -54,17 +57,15 @@ module _ (f k : List ℕ) where
       key-found : (r : Root) (n : ℕ) (p : Option Part) → (n ≡ 0 → ⊥) → notFound n ≡ pick (eqb n 0) (foundOf p) (notFound n)
       key-found r n p z = rw (ne-eqb n 0 z)
 
-  -- looked up
-  abbrev pub answerOf : Held → Found
-  answerOf v = foundOf (partOf v)
-
-  pub looked-up : (v : Held) → Good edition1 f → edition1 .keyFault k ≡ 0 → ((s : State) (w : Stands edition1 f s) → Looked f k s (w .root) v) → LookUpPromise edition1 f k (answerOf v)
-  looked-up v g e h =
+  -- the key's part is p
+  pub found-part : (p : Option Part) → Good edition1 f → edition1 .keyFault k ≡ 0 → ((s : State) (w : Stands edition1 f s) → p ≡ findAt edition1 (w .root) k)
+      → ((s : State) → Stands edition1 f s → findIn edition1 (s .tree) k ≡ valueIn f p) → LookUpPromise edition1 f k (foundOf p)
+  found-part p g e at v =
       record {
-        told = told-good f (answerOf v .number) g;
-        zeros = λ z. both-zero (partOf v) z;
-        found = λ s w. legal-found (edition1 .keyFault k) (partOf v) (findAt edition1 (w .root) k) e (h s w .at);
-        value = λ s w q. h s w .value ∙ in-part (partOf v);
+        told = told-good f (foundOf p .number) g;
+        zeros = λ z. both-zero p z;
+        found = λ s w. legal-found (edition1 .keyFault k) p (findAt edition1 (w .root) k) e (at s w);
+        value = λ s w q. v s w ∙ in-part p;
       }
     where
       both-zero : (p : Option Part) → (foundOf p .number ≡ 0 → ⊥) → (foundOf p .place ≡ 0) × (foundOf p .long ≡ 0)
@@ -77,6 +78,10 @@ module _ (f k : List ℕ) where
       in-part : (p : Option Part) → valueIn f p ≡ pick (eqb (foundOf p .number) 0) (some (take (foundOf p .long) (drop (foundOf p .place) f))) none
       in-part none = refl
       in-part (some p) = refl
+
+  -- looked up
+  pub looked-up : (v : Held) → Good edition1 f → edition1 .keyFault k ≡ 0 → ((s : State) (w : Stands edition1 f s) → Looked f k s (w .root) v) → LookUpPromise edition1 f k (foundOf (partOf v))
+  looked-up v g e h = found-part (partOf v) g e (λ s w. h s w .at) (λ s w. h s w .value)
 
 -- the numbers that the check and a key can give besides 0
 pub check-two : (f : List ℕ) (n : ℕ) → CheckPromise edition1 f n → (n ≡ 0 → ⊥) → (n ≡ 1 → ⊥) → n ≡ 2
@@ -127,3 +132,29 @@ module _ (f k : List ℕ) (n m : ℕ) (is : n ≡ m) (P : CheckPromise edition1 
   pub end-absent : n ≡ 0 → (e : ℕ) → e ≡ edition1 .keyFault k → e ≡ 0 → (v : Held) → ((s : State) (w : Stands edition1 f s) → Looked f k s (w .root) v) → v .found ≡ false
       → LookUpPromise edition1 f k (notFound 8)
   end-absent z e q h v L t = rw t at (looked-up f k v (good z) (sym q ∙ h) L)
+
+  -- ---- the value as a part
+
+  pub value-refused : (n ≡ 0 → ⊥) → ValueAt f k []
+  value-refused ne = record { at = 0; promise = record { look = notFound n; looked = refused-frame f k n given ne; starts = refl; holds = refl } }
+
+  pub value-illegal : n ≡ 0 → (e : ℕ) → e ≡ edition1 .keyFault k → (e ≡ 0 → ⊥) → ValueAt f k []
+  value-illegal z e q ne =
+      record { at = 0; promise = record { look = notFound (edition1 .keyFault k); looked = refused-key f k (good z) (λ y. ne (q ∙ y)); starts = refl; holds = refl } }
+
+  pub value-told : n ≡ 0 → (e : ℕ) → e ≡ edition1 .keyFault k → e ≡ 0 → (part : List ℕ) → ((s : State) → Stands edition1 f s → part ≡ orEmpty (findIn edition1 (s .tree) k)) → ValueAt f k part
+  value-told z e q h part v =
+      let g = good z in let p = findAt edition1 (g .1 .root) k in
+      record {
+        at = foundOf p .place;
+        promise = record {
+          look = foundOf p;
+          looked = found-part f k p g (sym q ∙ h) (λ s w. ap (λ (r : Root). findAt edition1 r k) (root-unique edition1 f (g .0) s (g .1) w)) (λ s w. ap (λ (x : State). findIn edition1 (x .tree) k) (stands-unique edition1 f s (g .0) w (g .1)) ∙ value-stands k (g .1));
+          starts = refl;
+          holds = v (g .0) (g .1) ∙ ap orEmpty (value-stands k (g .1)) ∙ in-order p;
+        };
+      }
+    where
+      in-order : (p : Option Part) → orEmpty (valueIn f p) ≡ take (foundOf p .long) (drop (foundOf p .place) f)
+      in-order none = refl
+      in-order (some p) = refl

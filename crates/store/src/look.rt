@@ -1,4 +1,4 @@
-// The check, and look-up: the number with the value's place and length.
+// The check, and look-up: the number with the value's place and length, or the value itself as a part of the lent frame.
 use answers::Check;
 use answers::LookUp;
 use answers::Refusal;
@@ -8,7 +8,7 @@ ghost use mathlib.Core.Path.{_≡_};
 ghost use Rattle.answers.specs.Number.{checkNumber, lookUpPlace, lookUpLong};
 ghost use Rattle.model.specs.Edition.{edition1};
 ghost use Rattle.model.specs.Promise.{CheckPromise, LookUpPromise};
-ghost use Rattle.store.specs.Found.{foundIn};
+ghost use Rattle.store.specs.Found.{foundIn, ValueAt};
 
 pub fn check(frame: &[u8]) -> Check
     ensures { λ r. ⌜ CheckPromise edition1 (now (frame .entry)) (checkNumber r) ⌝ }
@@ -39,6 +39,22 @@ pub fn look_up(frame: &[u8], key: &[u8]) -> LookUp
         return LookUp::Found(v.place, v.length);
     }
     LookUp::Absent
+}
+
+// "a second look-up call hands back the value itself as that part of the lent frame, and for an absent key or a refusal an empty
+// part at the frame's start"
+pub fn value<'a>(frame: &'a [u8], key: &[u8]) -> &'a [u8]
+    ensures { λ r. ⌜ ValueAt (now (frame .entry)) (now (key .entry)) (now r) ⌝ }
+{
+    let n = answers::check_number(check(frame));
+    if n != 0 {
+        return &frame[..0];
+    }
+    let fault = key::fault(key);
+    if fault != 0 {
+        return &frame[..0];
+    }
+    lookup::value(frame, key)
 }
 
 // The value's place and length that an answer tells, "both 0 with any number but 0".
