@@ -1,3 +1,34 @@
-// Put of a new key where the tree has to part: "a Leaf with another key, q walked bytes shared from there: a Node4, and a Prefix if q > 0";
-// "a Prefix of p bytes matched for q < p: a Node4; the part before has q bytes, the part after p - 1 - q."
-mod parts;
+// Put of a new key at a Leaf of another key: "a Leaf with another key, q walked bytes shared from there: a Node4, and a Prefix if q > 0".
+// The bodies that it writes serve a cut Prefix too.
+pub mod parts;
+
+use descent::spot::Spot;
+use layout::entry::Entry;
+use layout::kind::Kind;
+use room::heap;
+ghost use Rattle.leaf_new.specs.Put.{PutStep};
+ghost use Rattle.put_split.specs.Split.{AtOther};
+
+// A Leaf of another key: a Node4 has both Leaves, under a Prefix of the walked bytes that the keys share from there.
+pub fn split_leaf(f: &mut [u8], key: &[u8], value: &[u8], spot: Spot)
+    requires { ⌜ AtOther (now f) (now key) (now value) spot ⌝ }
+    ensures { λ _. ⌜ PutStep (now (f .entry)) (now (key .entry)) (now (value .entry)) (now (f .exit)) ⌝ }
+{
+    let here = spot.here;
+    let from = spot.depth;
+    let to = from + spot.shared;
+    let c = parts::old_byte(f, here.place, to);
+    let node = heap::take(f, Kind::NODE4);
+    if spot.shared == 0 {
+        parts::fork(f, node, key, value, to, c, here.slot);
+        leaf_new::relink(f, here.link, node);
+        leaf_new::count_record(f);
+        return;
+    }
+    let top = heap::take(f, Kind::PREFIX);
+    parts::fork(f, node, key, value, to, c, here.slot);
+    let body = Entry::read(f, top);
+    parts::write_prefix(f, body.place, node, &key[from..to]);
+    leaf_new::relink(f, here.link, top);
+    leaf_new::count_record(f);
+}
