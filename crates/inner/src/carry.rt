@@ -14,7 +14,7 @@ ghost use Rattle.layout.specs.Kind.{bodySize, most};
 ghost use Rattle.inner.specs.Inner.{appended, Carry, Carried};
 
 // The i-th child, behind the others: byte b, and in a Node48 place i + 1. The count is left.
-fn append(f: &mut [u8], o: usize, kind: usize, i: usize, b: u8, slot: usize)
+pub fn append(f: &mut [u8], o: usize, kind: usize, i: usize, b: u8, slot: usize)
     requires { ⌜ (4 ≤ kind) × (kind ≤ 7) × (o + bodySize kind ≤ length (now f)) × (i < most kind) ⌝ }
     ensures { λ _. ⌜ now (f .exit) ≡ appended (now (f .entry)) o kind i b slot ⌝ }
 {

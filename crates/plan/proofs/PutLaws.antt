@@ -186,6 +186,10 @@ inner-size =
     nine (λ k. 4 ≤ k → k ≤ 7 → 2 ≤ bodySize k) (λ a b. absurd (omega arith)) (λ a b. absurd (omega arith)) (λ a b. absurd (omega arith)) (λ a b. absurd (omega arith))
     (λ a b. omega arith) (λ a b. omega arith) (λ a b. omega arith) (λ a b. omega arith) (λ a b. absurd (omega arith))
 
+-- the count of an inner node lies in the frame, and its kind in the tables
+pub inner-fits : {f : List ℕ} {o kind : ℕ} (ks : List (ℕ × ℕ)) → InnerAt f o kind ks → (o + 2 ≤ length f) × (kind < 9)
+inner-fits {f} {o} {kind} ks N = let r = N .range in (omega (arith, inner-room ks N, inner-size kind (omega arith) (r .0) (r .1)), omega arith)
+
 module _ {f k v : List ℕ} {s : Spot} (P : PutFrom f k v s) where
   pub size-fits : length k + length v < 4294967296
   size-fits = omega (arith, lawful1 .fields .keys k (P .key), P .value .passes)
@@ -194,10 +198,7 @@ module _ {f k v : List ℕ} {s : Spot} (P : PutFrom f k v s) where
   leaf-room e = found-leaf (P .stands) (P .spot) e .room
 
   pub node-room : s .end ≡ 4 → (s .here .place + 2 ≤ length f) × (s .here .kind < 9)
-  node-room e =
-      let N = node-there (P .stands) (P .spot) e in
-      let r = N .1 .range in
-      (omega (arith, inner-room (N .0) (N .1), inner-size (s .here .kind) (omega arith) (r .0) (r .1)), omega arith)
+  node-room e = let N = node-there (P .stands) (P .spot) e in inner-fits (N .0) (N .1)
 
   pub prefix-room : s .end ≡ 5 → s .here .place + 128 ≤ length f
   prefix-room e = prefix-there (P .stands) (P .spot) e .2 .room

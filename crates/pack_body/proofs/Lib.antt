@@ -1,0 +1,5 @@
+pub mod HasLaws
+pub mod PartLaws
+pub mod NodeLaws
+pub mod WriterLaws
+pub mod ImageParts

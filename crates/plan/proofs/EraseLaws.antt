@@ -1,0 +1,408 @@
+-- An erase happens in the node that holds the Leaf, and what is left of that node tells what the erase takes. Assumes nothing.
+use Prim.Native.Nat.{ℕ, suc, _+_, _-_, _<_, _≤_}
+use mathlib.Core.Path.{_≡_, refl, sym, ap, subst, _∙_}
+use mathlib.Core.List.{List, [], _∷_, _++_, append-assoc}
+use mathlib.Core.Bool.{false}
+use native.Mathlib.Omega.{arith}
+use lib.ListN.{length}
+use borrow.Author.Tests.{eq-eqb, ne-eqb, lt-ltb, le-ltb}
+use Rattle.layout.specs.Place.{entryAt}
+use Rattle.layout.specs.Kind.{Leaf, Prefix, fewest, shrinkMark, kindDown, Inner}
+use Rattle.layout.specs.Kind.Inner.{node4, node16, node48, node256}
+use Rattle.layout.specs.Entry.{highOf}
+use Rattle.layout.proofs.KindLaws.{range-inner}
+use Rattle.model.specs.Edition.{edition1}
+use Rattle.model.specs.Tree.{Art, Kids, Change, Left, count, carried, extentOf, lessOne, loneChild, underPrefix, eraseTree}
+use Rattle.model.specs.Tree.Left.{gone, one, kept}
+use Rattle.model.specs.State.{State, eraseChange}
+use Rattle.model.specs.Body.{InnerAt, Asc, childIn}
+use Rattle.model.specs.Frame.{Lay, LayKids, Root, IsNode, tree, slotOf, art, artKids, pairs, NodeOf, Tree, Trees, Heap, viewOf, Numbers, Stands}
+use Rattle.model.specs.Frame.Lay.{leaf, prefix, node}
+use Rattle.model.specs.Frame.LayKids.{nil, kid}
+use Rattle.model.specs.Touch.{hasByte}
+use Rattle.model.proofs.StringLaws.{same-refl, clash}
+use Rattle.model.proofs.StandsGood.{length-pairs}
+use Rattle.node.specs.Kids.{removeKid, nextKid}
+use Rattle.inner.specs.Inner.{NodeSome}
+use Rattle.inner.proofs.InnerLaws.{inner-asc}
+use Rattle.room.specs.declared.fit.Needs.{Needs}
+use Rattle.room.specs.Fit.{Asks}
+use Rattle.room.proofs.FitLaws.{nine, asks-small}
+use Rattle.between.specs.Hole.{Step, under, among, app, plug, pathOf, appKids, artIn}
+use Rattle.between.specs.Work.{Around}
+use Rattle.between.specs.Lead.{Leads, NotUnder}
+use Rattle.between.proofs.TreeLaws.{node-parts, kid-parts}
+use Rattle.between.proofs.HoleLaws.{art-plug, plug-among, path-among, hole-out}
+use Rattle.between.proofs.KidsLaws.{art-app, app-left, app-remove, remove-len, remove-trees}
+use Rattle.between.proofs.WorkLaws.{stands-tree}
+use Rattle.between.proofs.LeadLaws.{leads-byte, leads-of}
+use Rattle.between.proofs.EraseLaws.{withNow, node-erase, less-stays, less-shrinks, plug-erase, plug-lone, plug-under-lone}
+use Rattle.descent.specs.declared.spot.Spot.{Spot}
+use Rattle.descent.specs.declared.spot.Body.{Body}
+use Rattle.descent.specs.Spot.{Capped, Topped, InTree, SpotAt}
+use Rattle.descent.proofs.SeatLaws.{kindIn, Seat, seat}
+use Rattle.plan.specs.Erase.{EraseFrom, PairFrom, Erasing, ErasePlan}
+use Rattle.plan.proofs.PutLaws.{inner-fits}
+
+-- ---- the first child that is not at byte b
+
+next-head : (lo : ℕ) (ks : List (ℕ × ℕ)) → Asc lo ks → nextKid lo ks .1 ≡ childIn ks 0
+unfolding nextKid Asc
+next-head lo [] A = refl
+next-head lo (x ∷ ks) A = rw (le-ltb (x .0) lo (A .0)) refl
+
+pub other-first : (b : ℕ) (ks : List (ℕ × ℕ)) → (nextKid 0 ks .0 ≡ b → ⊥) → nextKid 0 ks .1 ≡ childIn (removeKid b ks) 0
+unfolding nextKid removeKid
+other-first b [] n = refl
+other-first b (x ∷ ks) n = let z = le-ltb (x .0) 0 (omega arith) in let m : x .0 ≡ b → ⊥ = rw z at n in rw (z, ne-eqb (x .0) b m) refl
+
+pub other-second : (b : ℕ) (ks : List (ℕ × ℕ)) → b < 256 → Asc 0 ks → nextKid 0 ks .0 ≡ b → nextKid (b + 1) ks .1 ≡ childIn (removeKid b ks) 0
+unfolding nextKid removeKid Asc
+other-second b [] l A e = absurd (omega arith)
+other-second b (x ∷ ks) l A e =
+    let m : x .0 ≡ b = rw (le-ltb (x .0) 0 (omega arith)) at e in
+    let z : suc (x .0) ≡ b + 1 = omega arith in
+    rw (eq-eqb (x .0) b m, lt-ltb (x .0) (b + 1) (omega arith)) (next-head (b + 1) ks (rw z at (A .3)))
+
+-- ---- what is left of the node, in the model
+
+planned : {n : Needs} {k : List ℕ} {a : Art} (c : Change Left) (a' : Art) → eraseChange edition1 a k ≡ withNow (kept a') c → Asks n (c .takes) (c .extent) → Erasing k a n
+planned c a' e A = record { left = a'; leaves = ap (λ (x : Change Left). x .now) e; asks = rw e A }
+
+module _ {k r : List ℕ} (kind : ℕ) (ls : LayKids) (b j : ℕ) (rs : LayKids) (up : List Step) (L : Leads edition1 k up (b ∷ r)) (first : hasByte b ls ≡ false) (v : List ℕ) where
+  abbrev stay : Kids
+  stay = appKids (artKids ls) (artKids rs)
+
+  abbrev pub holder : Art
+  holder = Art.node kind (appKids (artKids ls) (Kids.kid b j (Art.leaf k v) (artKids rs)))
+
+  abbrev leaves : Left → List ℕ → List ℕ → Change Left
+  leaves l takes frees = record { now = l; takes = takes; frees = frees; extent = 0; dead = extentOf k v; fresh = false }
+
+  there : eraseTree edition1 holder (length (pathOf up)) k ≡ lessOne kind stay (leaves gone [] (Leaf ∷ []))
+  there = node-erase edition1 k (length (pathOf up)) b j (leads-byte L) kind k v ls rs (same-refl k) first
+
+  stay-count : count stay ≡ length (pairs (app ls rs))
+  stay-count = ap count (sym (art-app ls rs)) ∙ sym (length-pairs (app ls rs))
+
+  pub keeps : {n : Needs} → 2 ≤ length (pairs (app ls rs)) → (length (pairs (app ls rs)) ≡ shrinkMark kind → ⊥) → Asks n [] 0 → Erasing k (artIn up holder) n
+  keeps h m A =
+      let z = stay-count in
+      let a = Art.node kind stay in
+      let c = leaves (kept a) [] (Leaf ∷ []) in
+      planned c (artIn up a) (plug-erase L holder a c (there ∙ less-stays kind stay (leaves gone [] (Leaf ∷ [])) (omega arith) (λ y. m (sym z ∙ y))) refl) A
+
+  pub falls : {n : Needs} → 2 ≤ length (pairs (app ls rs)) → length (pairs (app ls rs)) ≡ shrinkMark kind → Asks n (kindDown kind ∷ []) 0 → Erasing k (artIn up holder) n
+  falls h m A =
+      let z = stay-count in
+      let a = Art.node (kindDown kind) (carried (kindDown kind) stay) in
+      let c = leaves (kept a) (kindDown kind ∷ []) (kind ∷ Leaf ∷ []) in
+      planned c (artIn up a) (plug-erase L holder a c (there ∙ less-shrinks kind stay (leaves gone [] (Leaf ∷ [])) (omega arith) (z ∙ m)) refl) A
+
+  -- one child is left
+  module _ (x i : ℕ) (u : Lay) (is : app ls rs ≡ kid x i u nil) where
+    abbrev pub alone : Change Left
+    alone = leaves (one x (art u)) [] (kind ∷ Leaf ∷ [])
+
+    pub alone-there : eraseTree edition1 holder (length (pathOf up)) k ≡ alone
+    alone-there = there ∙ ap (λ (z : Kids). lessOne kind z (leaves gone [] (Leaf ∷ []))) (sym (art-app ls rs) ∙ ap artKids is)
+
+  -- and closes with what stands above: no Prefix, or the Prefix of bytes p
+  closes : {n : Needs} (x i : ℕ) (u : Lay) (is : app ls rs ≡ kid x i u nil) (a : Art) → NotUnder up → (let c = loneChild x (art u) (alone x i u is) in (c .now ≡ kept a) × Asks n (c .takes) (c .extent)) → Erasing k (artIn up holder) n
+  closes x i u is a free h = let c = alone x i u is in planned (loneChild x (art u) c) (artIn up a) (plug-lone L holder x (art u) a c free (alone-there x i u is) refl (h .0)) (h .1)
+
+  -- with none, an inner node needs a Prefix
+  pub closes-leaf : {n : Needs} (x i : ℕ) (u : Lay) → app ls rs ≡ kid x i u nil → NotUnder up → kindIn u < 4 → (IsNode u → 4 ≤ kindIn u) → Asks n [] 0 → Erasing k (artIn up holder) n
+  closes-leaf x i (leaf s o e k' v') is free l g A = closes x i (leaf s o e k' v') is (Art.leaf k' v') free (refl, A)
+  closes-leaf x i (prefix s o p t) is free l g A = closes x i (prefix s o p t) is (Art.prefix (x ∷ p) (art t)) free (refl, A)
+  closes-leaf x i (node s o kind' ks) is free l g A = absurd (omega (arith, g tt))
+
+  pub closes-node : {n : Needs} (x i : ℕ) (u : Lay) → app ls rs ≡ kid x i u nil → NotUnder up → 4 ≤ kindIn u → Asks n (Prefix ∷ []) 0 → Erasing k (artIn up holder) n
+  closes-node x i (leaf s o e k' v') is free l A = absurd (omega arith)
+  closes-node x i (prefix s o p t) is free l A = absurd (omega arith)
+  closes-node x i (node s o kind' ks) is free l A = closes x i (node s o kind' ks) is (Art.prefix (x ∷ []) (Art.node kind' (artKids ks))) free (refl, A)
+
+-- under a Prefix of bytes p nothing is needed
+module _ {n : Needs} {k r : List ℕ} (kind : ℕ) (ls : LayKids) (b j : ℕ) (rs : LayKids) (s o : ℕ) (p : List ℕ) (xs : List Step) (L : Leads edition1 k (under s o p ∷ xs) (b ∷ r)) (first : hasByte b ls ≡ false) (v : List ℕ)
+    (x i : ℕ) (A : Asks n [] 0) where
+  abbrev node-there : Art
+  node-there = holder kind ls b j rs (under s o p ∷ xs) L first v
+
+  under-closes : (u : Lay) (is : app ls rs ≡ kid x i u nil) (a : Art) → (let c = underPrefix p x (art u) (alone kind ls b j rs (under s o p ∷ xs) L first v x i u is) in (c .now ≡ kept a) × Asks n (c .takes) (c .extent)) → Erasing k (artIn (under s o p ∷ xs) node-there) n
+  under-closes u is a h =
+      let c = alone kind ls b j rs (under s o p ∷ xs) L first v x i u is in
+      planned (underPrefix p x (art u) c) (artIn xs a) (plug-under-lone L node-there x (art u) a c (alone-there kind ls b j rs (under s o p ∷ xs) L first v x i u is) refl (h .0)) (h .1)
+
+  pub closes-under : (u : Lay) → app ls rs ≡ kid x i u nil → Erasing k (artIn (under s o p ∷ xs) node-there) n
+  closes-under (leaf s' o' e k' v') is = under-closes (leaf s' o' e k' v') is (Art.leaf k' v') (refl, A)
+  closes-under (prefix s' o' p' t) is = under-closes (prefix s' o' p' t) is (Art.prefix (p ++ x ∷ p') (art t)) (refl, A)
+  closes-under (node s' o' kind' ks) is = under-closes (node s' o' kind' ks) is (Art.prefix (p ++ x ∷ []) (Art.node kind' (artKids ks))) (refl, A)
+
+pub closes-capped : {n : Needs} {k r : List ℕ} (kind : ℕ) (ls : LayKids) (b j : ℕ) (rs : LayKids) (up : List Step) (v : List ℕ) (x i : ℕ) (u : Lay) (a : Body) → Leads edition1 k up (b ∷ r) → hasByte b ls ≡ false
+    → app ls rs ≡ kid x i u nil → Capped up a → Asks n [] 0 → Erasing k (artIn up (Art.node kind (appKids (artKids ls) (Kids.kid b j (Art.leaf k v) (artKids rs))))) n
+closes-capped kind ls b j rs up v x i u a L first is C A = rw (C .is) (closes-under kind ls b j rs (a .slot) (a .place) (C .bytes) (C .up) (rw (C .is) at L) first v x i A u is)
+
+-- ---- marks
+
+enough : (kind n : ℕ) → 4 ≤ kind → kind ≤ 7 → fewest kind ≤ n + 1 → (n ≡ shrinkMark kind → ⊥) → 2 ≤ n
+enough kind n l h f m = go (range-inner kind l h) f m
+  where
+    go : {k : ℕ} → Inner k → fewest k ≤ n + 1 → (n ≡ shrinkMark k → ⊥) → 2 ≤ n
+    go node4 f m = omega arith
+    go node16 f m = omega arith
+    go node48 f m = omega arith
+    go node256 f m = omega arith
+
+marks-two : (kind : ℕ) → 4 ≤ kind → kind ≤ 7 → (kind ≡ 4 → ⊥) → 2 ≤ shrinkMark kind
+marks-two kind l h n = go (range-inner kind l h) n
+  where
+    go : {k : ℕ} → Inner k → (k ≡ 4 → ⊥) → 2 ≤ shrinkMark k
+    go node4 n = absurd (n refl)
+    go node16 n = omega arith
+    go node48 n = omega arith
+    go node256 n = omega arith
+
+pub mark-small : (kind : ℕ) → kind < 9 → shrinkMark kind < 256
+mark-small = nine (λ k. shrinkMark k < 256) (omega arith) (omega arith) (omega arith) (omega arith) (omega arith) (omega arith) (omega arith) (omega arith) (omega arith)
+
+pub down-kind : (kind : ℕ) → kind < 9 → kindDown kind < 9
+down-kind = nine (λ k. kindDown k < 9) (omega arith) (omega arith) (omega arith) (omega arith) (omega arith) (omega arith) (omega arith) (omega arith) (omega arith)
+
+-- ---- at the end of the descent
+
+-- one child
+pub record Alone (ks : LayKids) : Type 0 where
+  pub byte : ℕ
+  pub place : ℕ
+  pub child : Lay
+  pub is : ks ≡ kid byte place child nil
+
+one-kid : (ks : LayKids) → length (pairs ks) ≡ 1 → Alone ks
+unfolding pairs
+one-kid nil e = absurd (omega arith)
+one-kid (kid b j t nil) e = record { byte = b; place = j; child = t; is = refl }
+one-kid (kid b j t (kid b' j' t' ks)) e = absurd (omega arith)
+
+node-low : (f path : List ℕ) (t : Lay) → Tree edition1 f path t → IsNode t → 4 ≤ kindIn t
+node-low f path (leaf s o e k v) T n = absurd n
+node-low f path (prefix s o p t) T n = absurd n
+node-low f path (node s o kind ks) T n = node-parts edition1 f path s o kind ks T .1 .inner .range .0
+
+-- the same children, with the hole at the other of two
+beside : (b j : ℕ) (t : Lay) (ls rs : LayKids) (x i : ℕ) (u : Lay) → app ls rs ≡ kid x i u nil → (ls' : LayKids) × (rs' : LayKids) × (app ls (kid b j t rs) ≡ app ls' (kid x i u rs'))
+unfolding app
+beside b j t nil rs x i u e = (kid b j t nil, nil, ap (kid b j t) e)
+beside b j t (kid y m w nil) nil x i u e = (nil, kid b j t nil, cc)
+beside b j t (kid y m w nil) (kid y' m' w' rs) x i u e = clash (cc)
+beside b j t (kid y m w (kid y' m' w' ls)) rs x i u e = clash (cc)
+
+tree-same : (l m : Lay) → tree l ≡ tree m → l ≡ m
+tree-same l m e = cc
+
+-- the node that holds the Leaf of k
+pub record Losing (f k : List ℕ) (s : Spot) (l : Lay) : Type 0 where
+  pub extent : ℕ
+  pub value : List ℕ
+  pub before : LayKids
+  pub place : ℕ
+  pub after : LayKids
+  pub up : List Step
+  pub rest : List ℕ
+  pub whole : l ≡ plug up (node (s .node .slot) (s .node .place) (s .node .kind) (app before (kid (s .byte) place (leaf (s .here .slot) (s .here .place) extent k value) after)))
+  pub word : edition1 .walked k ≡ pathOf up ++ s .byte ∷ rest
+  pub top : Topped up (s .above)
+
+module _ {f k : List ℕ} {st : State} {s : Spot} (W : Stands edition1 f st) (S : SpotAt k (W .root) s) (e : s .end ≡ 2) (h : 1 ≤ s .node .slot) (l : Lay) (q : W .root ≡ tree l) where
+  pub losing : Losing f k s l
+  losing =
+      let I = S .inTree (λ z. omega arith) in
+      let w = I .spot .way in
+      let F = I .spot .found e in
+      let H = w .over .held h in
+      let n = s .node in
+      let t = leaf (s .here .slot) (s .here .place) (F .extent) k (F .value) in
+      record {
+        extent = F .extent;
+        value = F .value;
+        before = H .before;
+        place = H .place;
+        after = H .after;
+        up = H .up;
+        rest = w .rest;
+        whole = tree-same l (I .lay) (sym q ∙ I .is) ∙ w .whole ∙ ap (λ (xs : List Step). plug xs (w .sub)) (H .is) ∙ ap (plug (among (n .slot) (n .place) (n .kind) (H .before) (s .byte) (H .place) (H .after) ∷ H .up)) (F .is)
+            ∙ plug-among (n .slot) (n .place) (n .kind) (H .before) (s .byte) (H .place) (H .after) (H .up) t;
+        word = w .leads .word ∙ ap (λ (xs : List Step). pathOf xs ++ w .rest) (H .is) ∙ ap (λ p. p ++ w .rest) (path-among (n .slot) (n .place) (n .kind) (H .before) (s .byte) (H .place) (H .after) (H .up))
+            ∙ append-assoc (pathOf (H .up)) (s .byte ∷ []) (w .rest);
+        top = H .top;
+      }
+
+  abbrev D : Losing f k s l
+  D = losing
+
+  abbrev lost-leaf : Lay
+  lost-leaf = leaf (s .here .slot) (s .here .place) (D .extent) k (D .value)
+
+  abbrev pub kids : LayKids
+  kids = app (D .before) (kid (s .byte) (D .place) lost-leaf (D .after))
+
+  -- those that stay
+  abbrev pub stays : LayKids
+  stays = app (D .before) (D .after)
+
+  abbrev holder-lay : Lay
+  holder-lay = node (s .node .slot) (s .node .place) (s .node .kind) kids
+
+  hole-there : Around edition1 f (D .up) (s .node .slot) × Tree edition1 f (pathOf (D .up)) holder-lay
+  hole-there = let z = hole-out edition1 f (D .up) holder-lay (stands-tree W (plug (D .up) holder-lay) (q ∙ ap tree (D .whole))) in (z .0, z .2)
+
+  pub node-of : NodeOf f (s .node .place) (s .node .kind) kids
+  node-of = node-parts edition1 f (pathOf (D .up)) (s .node .slot) (s .node .place) (s .node .kind) kids (hole-there .1) .1
+
+  leads : Leads edition1 k (D .up) (s .byte ∷ D .rest)
+  leads = leads-of f (s .node .slot) (s .byte ∷ D .rest) (hole-there .0) (D .word)
+
+  first : hasByte (s .byte) (D .before) ≡ false
+  first = app-left (s .byte) (D .place) lost-leaf 0 (D .before) (D .after) (inner-asc (pairs kids) (node-of .inner))
+
+  fewer : length (pairs kids) ≡ length (pairs stays) + 1
+  fewer = remove-len (s .byte) (D .place) lost-leaf (D .before) (D .after)
+
+  art-is : art l ≡ artIn (D .up) (Art.node (s .node .kind) (appKids (artKids (D .before)) (Kids.kid (s .byte) (D .place) (Art.leaf k (D .value)) (artKids (D .after)))))
+  art-is = ap art (D .whole) ∙ art-plug (D .up) holder-lay ∙ ap (λ (z : Kids). artIn (D .up) (Art.node (s .node .kind) z)) (art-app (D .before) (kid (s .byte) (D .place) lost-leaf (D .after)))
+
+  module _ {n : Needs} where
+    pub end-keeps : (length (pairs kids) ≡ shrinkMark (s .node .kind) + 1 → ⊥) → Asks n [] 0 → Erasing k (art l) n
+    end-keeps m A =
+        let r = node-of .inner .range in
+        let m' : length (pairs stays) ≡ shrinkMark (s .node .kind) → ⊥ = λ z. m (fewer ∙ ap (λ i. i + 1) z) in
+        rw art-is (keeps (s .node .kind) (D .before) (s .byte) (D .place) (D .after) (D .up) leads first (D .value) (enough (s .node .kind) (length (pairs stays)) (r .0) (r .1) (omega (arith, fewer, node-of .least)) m') m' A)
+
+    pub end-falls : length (pairs kids) ≡ shrinkMark (s .node .kind) + 1 → (s .node .kind ≡ 4 → ⊥) → Asks n (kindDown (s .node .kind) ∷ []) 0 → Erasing k (art l) n
+    end-falls m d A =
+        let r = node-of .inner .range in
+        let e : length (pairs stays) ≡ shrinkMark (s .node .kind) = omega (arith, fewer) in
+        rw art-is (falls (s .node .kind) (D .before) (s .byte) (D .place) (D .after) (D .up) leads first (D .value) (omega (arith, e, marks-two (s .node .kind) (r .0) (r .1) d)) e A)
+
+  -- of two children one is left
+  module _ (two : length (pairs kids) ≡ 2) where
+    pub left-alone : Alone stays
+    left-alone = one-kid stays (omega (arith, fewer))
+
+    abbrev child : Lay
+    child = left-alone .child
+
+    pub child-seat : Seat f child
+    child-seat =
+        let n = s .node in
+        let A = left-alone in
+        let B = beside (s .byte) (D .place) lost-leaf (D .before) (D .after) (A .byte) (A .place) (A .child) (A .is) in
+        let xs = among (n .slot) (n .place) (n .kind) (B .0) (A .byte) (A .place) (B .1) ∷ D .up in
+        let z : l ≡ plug xs (A .child) = D .whole ∙ ap (λ ks. plug (D .up) (node (n .slot) (n .place) (n .kind) ks)) (B .2) ∙ sym (plug-among (n .slot) (n .place) (n .kind) (B .0) (A .byte) (A .place) (B .1) (D .up) (A .child)) in
+        let R : W .root ≡ tree (plug xs (A .child)) = q ∙ ap tree z in
+        seat xs (pathOf xs) (A .child) (subst (λ (r : Root). Heap f (viewOf (W .nums) (W .lists) r)) R (W .heap)) (hole-out edition1 f xs (A .child) (stands-tree W (plug xs (A .child)) R) .2)
+
+    pub child-slot : (r : ℕ) → r ≡ childIn (removeKid (s .byte) (pairs kids)) 0 → r ≡ slotOf child
+    unfolding pairs
+    child-slot r e = e ∙ ap (λ (z : List (ℕ × ℕ)). childIn z 0) (app-remove (s .byte) (D .place) lost-leaf 0 (D .before) (D .after) (inner-asc (pairs kids) (node-of .inner)) ∙ ap pairs (left-alone .is))
+
+    child-kind : (r high : ℕ) → r ≡ childIn (removeKid (s .byte) (pairs kids)) 0 → high ≡ highOf f r → high ≡ kindIn child
+    child-kind r high e h = h ∙ ap (highOf f) (child-slot r e) ∙ child-seat .entry .kindIs
+
+    child-low : IsNode child → 4 ≤ kindIn child
+    child-low =
+        let path = pathOf (D .up) in
+        let T = remove-trees edition1 f path (D .before) (D .after) (s .byte) (D .place) lost-leaf (node-parts edition1 f path (s .node .slot) (s .node .place) (s .node .kind) kids (hole-there .1) .2) .1 in
+        let a = left-alone in
+        node-low f (path ++ a .byte ∷ []) (a .child) (kid-parts edition1 f path (a .byte) (a .place) (a .child) nil (subst (Trees edition1 f path) (a .is) T) .0)
+
+    module _ {n : Needs} where
+      pub end-under : 1 ≤ s .above .slot → Asks n [] 0 → Erasing k (art l) n
+      end-under c A =
+          let a = left-alone in
+          rw art-is (closes-capped (s .node .kind) (D .before) (s .byte) (D .place) (D .after) (D .up) (D .value) (a .byte) (a .place) (a .child) (s .above) leads first (a .is) (D .top .capped c) A)
+
+      module _ (r high : ℕ) (is : r ≡ childIn (removeKid (s .byte) (pairs kids)) 0) (read : high ≡ highOf f r) (bare : s .above .slot ≡ 0) where
+        pub end-leaf : high < 4 → Asks n [] 0 → Erasing k (art l) n
+        end-leaf c A =
+            let a = left-alone in
+            let z = child-kind r high is read in
+            rw art-is (closes-leaf (s .node .kind) (D .before) (s .byte) (D .place) (D .after) (D .up) leads first (D .value) (a .byte) (a .place) (a .child) (a .is) (D .top .without bare) (omega arith) child-low A)
+
+        pub end-node : 4 ≤ high → Asks n (Prefix ∷ []) 0 → Erasing k (art l) n
+        end-node c A =
+            let a = left-alone in
+            let z = child-kind r high is read in
+            rw art-is (closes-node (s .node .kind) (D .before) (s .byte) (D .place) (D .after) (D .up) leads first (D .value) (a .byte) (a .place) (a .child) (a .is) (D .top .without bare) (omega arith) A)
+
+-- ---- the code's ends
+
+module _ {f k : List ℕ} {s : Spot} (P : EraseFrom f k s) where
+  abbrev in-tree : InTree k (P .stands .root) s
+  in-tree = P .spot .inTree (λ z. omega (arith, P .found))
+
+  pub node-some : NodeSome f (s .node .place) (s .node .kind)
+  node-some = record { kids = pairs (kids (P .stands) (P .spot) (P .found) (P .held) (in-tree .lay) (in-tree .is)); node = node-of (P .stands) (P .spot) (P .found) (P .held) (in-tree .lay) (in-tree .is) .inner }
+
+  pub node-fits : (s .node .place + 2 ≤ length f) × (s .node .kind < 9)
+  node-fits = let N = node-some in inner-fits (N .kids) (N .node)
+
+  -- m: the children that are counted
+  module _ (m : ℕ) (q : (kind : ℕ) (ks : List (ℕ × ℕ)) → InnerAt f (s .node .place) kind ks → m ≡ length ks) where
+    pub plan-keeps : {n : Needs} → (m ≡ shrinkMark (s .node .kind) + 1 → ⊥) → Asks n [] 0 → ErasePlan f k s n
+    plan-keeps d A =
+        record {
+          small = asks-small A (omega arith) (omega arith);
+          erasing = λ st W S l e. end-keeps W S (P .found) (P .held) l e (λ z. d (q (s .node .kind) _ (node-of W S (P .found) (P .held) l e .inner) ∙ z)) A;
+        }
+
+    pub plan-falls : {n : Needs} (g : ℕ) → m ≡ shrinkMark (s .node .kind) + 1 → (s .node .kind ≡ 4 → ⊥) → g ≡ kindDown (s .node .kind) → Asks n (g ∷ []) 0 → ErasePlan f k s n
+    plan-falls g d u e A =
+        record {
+          small = asks-small A (omega arith) (omega arith);
+          erasing = λ st W S l x. end-falls W S (P .found) (P .held) l x (sym (q (s .node .kind) _ (node-of W S (P .found) (P .held) l x .inner)) ∙ d) u (rw (← e) A);
+        }
+
+    pub pair-from : m ≡ shrinkMark (s .node .kind) + 1 → s .node .kind ≡ 4 → PairFrom f k s
+    pair-from d e = record { from = P; kind = e; two = λ ks N. sym (q (s .node .kind) ks N) ∙ d ∙ ap (λ i. shrinkMark i + 1) e }
+
+module _ {f k : List ℕ} {s : Spot} (P : PairFrom f k s) where
+  abbrev from : EraseFrom f k s
+  from = P .from
+
+  module _ {st : State} (W : Stands edition1 f st) (S : SpotAt k (W .root) s) (l : Lay) (e : W .root ≡ tree l) where
+    two-there : length (pairs (kids W S (from .found) (from .held) l e)) ≡ 2
+    two-there = P .two _ (node-of W S (from .found) (from .held) l e .inner)
+
+  pub plan-under : {n : Needs} → (s .above .slot ≡ 0 → ⊥) → Asks n [] 0 → ErasePlan f k s n
+  plan-under c A =
+      record {
+        small = asks-small A (omega arith) (omega arith);
+        erasing = λ st W S l e. end-under W S (from .found) (from .held) l e (two-there W S l e) (omega arith) A;
+      }
+
+  -- r: the other child
+  module _ (r : ℕ) (q : (ks : List (ℕ × ℕ)) → InnerAt f (s .node .place) (s .node .kind) ks → r ≡ childIn (removeKid (s .byte) ks) 0) where
+    pub other-entry : (1 ≤ r) × (entryAt r + 4 ≤ length f)
+    other-entry =
+        let W = from .stands in
+        let S = from .spot in
+        let I = in-tree from in
+        let two = two-there W S (I .lay) (I .is) in
+        let C = child-seat W S (from .found) (from .held) (I .lay) (I .is) two in
+        let z = child-slot W S (from .found) (from .held) (I .lay) (I .is) two r (q _ (node-of W S (from .found) (from .held) (I .lay) (I .is) .inner)) in
+        rw z (C .low, C .table)
+
+    module _ (high : ℕ) (h : high ≡ highOf f r) (bare : s .above .slot ≡ 0) where
+      pub plan-leaf : {n : Needs} → high < 4 → Asks n [] 0 → ErasePlan f k s n
+      plan-leaf c A =
+          record {
+            small = asks-small A (omega arith) (omega arith);
+            erasing = λ st W S l e. end-leaf W S (from .found) (from .held) l e (two-there W S l e) r high (q _ (node-of W S (from .found) (from .held) l e .inner)) h bare c A;
+          }
+
+      pub plan-node : {n : Needs} → 4 ≤ high → Asks n (Prefix ∷ []) 0 → ErasePlan f k s n
+      plan-node c A =
+          record {
+            small = asks-small A (omega arith) (omega arith);
+            erasing = λ st W S l e. end-node W S (from .found) (from .held) l e (two-there W S l e) r high (q _ (node-of W S (from .found) (from .held) l e .inner)) h bare c A;
+          }
