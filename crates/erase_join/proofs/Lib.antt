@@ -3,3 +3,4 @@ pub mod DropLaws
 pub mod SiteLaws
 pub mod UpLaws
 pub mod OverLaws
+pub mod PairLaws

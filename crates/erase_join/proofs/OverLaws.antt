@@ -2,20 +2,19 @@
 use Prim.Native.Nat.{ℕ, _+_, _-_, _<_, _≤_}
 use mathlib.Core.Path.{_≡_, refl, sym, ap, subst, _∙_}
 use mathlib.Core.List.{List, [], _∷_, _++_, append-assoc}
-use mathlib.Core.Bool.{true, false}
 use native.Mathlib.Omega.{arith}
 use lib.ListN.{length, length-append}
-use Rattle.layout.specs.Kind.{Leaf, Prefix, Node4, bodySize}
+use Rattle.layout.specs.Kind.{Leaf, Prefix, Node4}
 use Rattle.layout.proofs.KindLaws.{size-least}
 use Rattle.model.specs.Edition.{edition1}
 use Rattle.model.specs.Tree.{Art, Change, Left, extentOf, underPrefix}
 use Rattle.model.specs.Tree.Left.{kept}
 use Rattle.model.specs.State.{State, tally, eraseChange}
-use Rattle.model.specs.Item.{Item, body, extent, cover, leafy, sum}
+use Rattle.model.specs.Item.{Item, body, cover, leafy, sum}
 use Rattle.model.specs.Body.{PrefixAt}
-use Rattle.model.specs.Frame.{Lay, LayKids, IsNode, slotOf, art, items, rootItems, freed, View, Stands}
+use Rattle.model.specs.Frame.{Lay, IsNode, slotOf, art, items, rootItems, freed, Stands}
 use Rattle.model.specs.Frame.Lay.{leaf, prefix, node}
-use Rattle.model.specs.Touch.{holder, touchLone}
+use Rattle.model.specs.Touch.{holder}
 use Rattle.model.proofs.ItemLaws.{sum-app, sum-cons}
 use Rattle.model.proofs.StandsGood.{leafy-other}
 use Rattle.node.specs.Moved.{Only}
@@ -23,8 +22,8 @@ use Rattle.room.specs.View.{rooted, released}
 use Rattle.room.specs.Step.{Frees}
 use Rattle.room.proofs.HeapLaws.{two-apart, cover-body}
 use Rattle.between.specs.Hole.{Step, under, plug, pathOf, stepsItems, holderOf, Link, artIn}
-use Rattle.between.specs.Work.{blank, Suits, rootOf, forestItems, Work}
-use Rattle.between.specs.Since.{Since, holderItems, SlotsIn, Accounts}
+use Rattle.between.specs.Work.{blank, Suits, rootOf, Work}
+use Rattle.between.specs.Since.{holderItems}
 use Rattle.between.proofs.TreeLaws.{sum-none, leaf-sum, prefix-sum, node-sum, node-parts}
 use Rattle.between.proofs.HoleLaws.{art-plug, path-under, steps-under, suits-any}
 use Rattle.between.proofs.WorkLaws.{standsView, work-above, work-free, work-turn, work-write, work-path, work-close, first-owns, forest-first, open-prefix, make-prefix}
@@ -34,13 +33,14 @@ use Rattle.between.proofs.SinceLaws.{since-start, since-also, since-write, sinc
 use Rattle.between.proofs.BookedLaws.{tally-turn, booked-root, booked-free}
 use Rattle.between.proofs.OutsideLaws.{among-here, slots-later, slots-app, next-above, holder-sum, holder-slots}
 use Rattle.descent.specs.declared.spot.Body.{Body}
+use Rattle.leaf_new.specs.Make.{Relinked}
+use Rattle.erase_remove.proofs.RemoveLaws.{booked-none}
 use Rattle.erase_join.specs.declared.lone.Lone.{Lone}
 use Rattle.erase_join.specs.Prefix.{Spare, Joins}
-use Rattle.erase_join.specs.Drop.{leftOver}
 use Rattle.erase_join.specs.Lone.{IsLeaf, IsPrefix, Site, pairOf}
 use Rattle.erase_join.proofs.DropLaws.{Release, besides, frees-first, freed-first}
-use Rattle.erase_join.proofs.SiteLaws.{leaves, lost, site-leads, site-change, site-open, Mid}
-use Rattle.erase_join.proofs.UpLaws.{kind-prefix, Relink, relink-ok, booked-none, node-short, leaf-shorter, slot-in, two-in}
+use Rattle.erase_join.proofs.SiteLaws.{leaves, lost, nodeBody, beside, site-change, site-open, Mid}
+use Rattle.erase_join.proofs.UpLaws.{kind-prefix, relink-ok, node-short, leaf-shorter, slot-in, two-in}
 
 tally-more : (a : ℕ) (ks ls : List ℕ) → ((j : ℕ) → tally ks j ≡ tally ls j) → (j : ℕ) → tally (a ∷ ks) j ≡ tally (a ∷ ls) j
 tally-more a ks ls e j = rw (e j) refl
@@ -67,24 +67,21 @@ path-joined : (a : Body) (p : List ℕ) (xs : List Step) (b : ℕ) (q : List ℕ
 path-joined a p xs b q = ap (λ z. z ++ q) (path-is a p xs b) ∙ append-assoc (pathOf xs) (p ++ b ∷ []) q ∙ ap (λ z. pathOf xs ++ z) (append-assoc p (b ∷ []) q)
 
 module _ {f k : List ℕ} {s : State} (w : Stands edition1 f s) {l : Lone} (a : Body) (p : List ℕ) (xs : List Step) {u : Lay} (P : Site k (w .root) (ups a p xs) l u) where
-  abbrev loose : List Item
-  loose = leftOver (l .node) (P .nodeAt) (l .leaf) (P .leafAt) (P .extent) (l .size)
-
   over-change : (t : Lay) (frees : List ℕ) → underPrefix p (l .byte) (art u) (lost l u (extentOf k (P .value))) ≡ leaves (art t) [] frees (extentOf k (P .value))
       → eraseChange edition1 (art (plug (ups a p xs) (pairOf P))) k ≡ leaves (art (plug xs t)) [] frees (extentOf k (P .value))
   over-change t frees e =
       let m = extentOf k (P .value) in
       ap (λ (z : Art). eraseChange edition1 z k) (art-plug (ups a p xs) (pairOf P))
-      ∙ plug-under-lone (site-leads P) (art (pairOf P)) (l .byte) (art u) (art t) (lost l u m) (site-change P) refl (ap (λ (c : Change Left). c .now) e)
+      ∙ plug-under-lone (P .leads) (art (pairOf P)) (l .byte) (art u) (art t) (lost l u m) (site-change P) refl (ap (λ (c : Change Left). c .now) e)
       ∙ ap (withNow (kept (artIn xs (art t)))) e ∙ ap (λ (z : Art). leaves z [] frees m) (sym (art-plug xs t))
 
   -- the Prefix is loose
-  opened-above : Work edition1 f (standsView w) xs (a .slot) ((pathOf (ups a p xs) ++ l .byte ∷ [], u) ∷ []) (body (a .slot) Prefix (a .place) ∷ loose)
+  opened-above : Work edition1 f (standsView w) xs (a .slot) ((pathOf (ups a p xs) ++ l .byte ∷ [], u) ∷ beside P) (body (a .slot) Prefix (a .place) ∷ nodeBody P)
       × PrefixAt f (a .place) p (l .node) × Suits xs (prefix (a .slot) (a .place) p (blank (l .node)))
-  opened-above = work-above (a .slot) (a .place) p xs ((pathOf (ups a p xs) ++ l .byte ∷ [], u) ∷ []) (site-open w P)
+  opened-above = work-above (a .slot) (a .place) p xs ((pathOf (ups a p xs) ++ l .byte ∷ [], u) ∷ beside P) (site-open w P)
 
   -- it, what stands above it, and the two bodies that every join frees
-  three-in : (v : Item → ℕ) → v (body (l .leaf) Leaf (P .leafAt)) + v (body (l .node) Node4 (P .nodeAt)) + v (body (a .slot) Prefix (a .place)) + sum v (stepsItems xs) + sum v (items u) ≤ sum v (rootItems (w .root))
+  three-in : (v : Item → ℕ) → v (body (l .leaf) Leaf (l .at)) + v (body (l .node) Node4 (P .nodeAt)) + v (body (a .slot) Prefix (a .place)) + sum v (stepsItems xs) + sum v (items u) ≤ sum v (rootItems (w .root))
   three-in v = omega (arith, two-in w P v, steps-under v (a .slot) (a .place) p xs)
 
   pub over-links : Link xs (a .link) → (64 ≤ length f) × (a .link + 4 ≤ length f)
@@ -93,19 +90,19 @@ module _ {f k : List ℕ} {s : State} (w : Stands edition1 f s) {l : Lone} (a : 
 module _ {f k : List ℕ} {s : State} (w : Stands edition1 f s) {l : Lone} (a : Body) (p : List ℕ) (xs : List Step) where
   -- ---- a Leaf
 
-  module _ (L : Link xs (a .link)) {g : List ℕ} (G' : Relink f g (a .link) (l .child)) where
+  module _ (L : Link xs (a .link)) {g : List ℕ} (G' : Relinked f g (a .link) (l .child)) where
     module _ (n o e : ℕ) (k' v : List ℕ) (P : Site k (w .root) (ups a p xs) l (leaf n o e k' v)) where
-      G : Relink f g (a .link) n
-      G = subst (λ m. Relink f g (a .link) m) (sym (P .slotIs)) G'
+      G : Relinked f g (a .link) n
+      G = subst (λ m. Relinked f g (a .link) m) (sym (P .slotIs)) G'
 
-      leaf-work : Work edition1 f (standsView w) xs (a .slot) ((pathOf xs, leaf n o e k' v) ∷ []) (body (a .slot) Prefix (a .place) ∷ leftOver (l .node) (P .nodeAt) (l .leaf) (P .leafAt) (P .extent) (l .size))
+      leaf-work : Work edition1 f (standsView w) xs (a .slot) ((pathOf xs, leaf n o e k' v) ∷ beside P) (body (a .slot) Prefix (a .place) ∷ nodeBody P)
       leaf-work = leaf-shorter (pathOf xs) (p ++ l .byte ∷ []) n o e k' v (work-path (leaf n o e k' v) (path-is a p xs (l .byte)) (opened-above w a p xs P .0))
 
-      leaf-closed : Work edition1 g (rooted (standsView w) (rootOf xs n)) [] (slotOf (plug xs (leaf n o e k' v))) (([], plug xs (leaf n o e k' v)) ∷ [])
-          (body (a .slot) Prefix (a .place) ∷ leftOver (l .node) (P .nodeAt) (l .leaf) (P .leafAt) (P .extent) (l .size))
+      leaf-closed : Work edition1 g (rooted (standsView w) (rootOf xs n)) [] (slotOf (plug xs (leaf n o e k' v))) (([], plug xs (leaf n o e k' v)) ∷ beside P)
+          (body (a .slot) Prefix (a .place) ∷ nodeBody P)
       leaf-closed =
           let fits = slot-in w P n Leaf o (λ z. omega (arith, leaf-sum z n o e k' v)) (omega arith) in
-          work-close xs (leaf n o e k' v) [] (relinked n (fits .0) (fits .1) (a .link) xs L leaf-work G) refl
+          work-close xs (leaf n o e k' v) (beside P) (relinked n (fits .0) (fits .1) (a .link) xs L leaf-work G) refl
           (suits-any xs (prefix (a .slot) (a .place) p (blank (l .node))) (leaf n o e k' v) (λ z. absurd z) (opened-above w a p xs P .2))
 
     pub leaf-frees : (u : Lay) → IsLeaf u → Site k (w .root) (ups a p xs) l u → Frees g (a .slot) Prefix
@@ -121,9 +118,9 @@ module _ {f k : List ℕ} {s : State} (w : Stands edition1 f s) {l : Lone} (a : 
         let W1 = leaf-work n o e k' v P in
         let W2 = leaf-closed n o e k' v P in
         let b = body (a .slot) Prefix (a .place) in
-        let g1 = body (l .leaf) Leaf (P .leafAt) in
+        let g1 = body (l .leaf) Leaf (l .at) in
         let n1 = body (l .node) Node4 (P .nodeAt) in
-        let rest = besides (loose w a p xs P) [] (([], plug xs u) ∷ []) in
+        let rest = besides (nodeBody P) [] (([], plug xs u) ∷ beside P) in
         record {
           lay = plug xs u;
           kinds = [];
@@ -132,7 +129,7 @@ module _ {f k : List ℕ} {s : State} (w : Stands edition1 f s) {l : Lone} (a : 
           change = over-change w a p xs P u (Prefix ∷ Node4 ∷ Leaf ∷ []) refl;
           view = released (rooted (standsView w) (rootOf xs n)) (a .slot) Prefix (a .place) rest;
           work = work-free W2 (freed-first W2 R);
-          booked = booked-free (booked-root (booked-none w) (rootOf xs n)) (a .slot) Prefix (a .place) rest kind-prefix;
+          booked = booked-free (booked-root (booked-none (standsView w) (w .heap .lists .eight)) (rootOf xs n)) (a .slot) Prefix (a .place) rest kind-prefix;
           tallies = tally-three;
           took = [];
           wrote = holderItems xs ++ [];
@@ -153,14 +150,14 @@ module _ {f k : List ℕ} {s : State} (w : Stands edition1 f s) {l : Lone} (a : 
   -- ---- a Prefix
 
   module _ (n o : ℕ) (q : List ℕ) (t : Lay) (P : Site k (w .root) (ups a p xs) l (prefix n o q t)) where
-    both-loose : Work edition1 f (standsView w) xs (a .slot) (((pathOf (ups a p xs) ++ l .byte ∷ []) ++ q, t) ∷ []) (body n Prefix o ∷ body (a .slot) Prefix (a .place) ∷ leftOver (l .node) (P .nodeAt) (l .leaf) (P .leafAt) (P .extent) (l .size))
+    both-loose : Work edition1 f (standsView w) xs (a .slot) (((pathOf (ups a p xs) ++ l .byte ∷ []) ++ q, t) ∷ beside P) (body n Prefix o ∷ body (a .slot) Prefix (a .place) ∷ nodeBody P)
         × PrefixAt f o q (slotOf t) × IsNode t
-    both-loose = open-prefix (pathOf (ups a p xs) ++ l .byte ∷ []) [] (body (a .slot) Prefix (a .place) ∷ loose w a p xs P) n o q t (opened-above w a p xs P .0)
+    both-loose = open-prefix (pathOf (ups a p xs) ++ l .byte ∷ []) (beside P) (body (a .slot) Prefix (a .place) ∷ nodeBody P) n o q t (opened-above w a p xs P .0)
 
     joins-at : Joins f (a .place) o
     joins-at =
         let W = both-loose in
-        let T = forest-first edition1 f ((pathOf (ups a p xs) ++ l .byte ∷ []) ++ q) t [] (W .0 .trees) .0 in
+        let T = forest-first edition1 f ((pathOf (ups a p xs) ++ l .byte ∷ []) ++ q) t (beside P) (W .0 .trees) .0 in
         let N = node-short f ((pathOf (ups a p xs) ++ l .byte ∷ []) ++ q) t (w .bytes) (W .2) T in
         record {
           bytes = p;
@@ -174,14 +171,14 @@ module _ {f k : List ℕ} {s : State} (w : Stands edition1 f s) {l : Lone} (a : 
         }
 
     module _ {g : List ℕ} (K : Joined f g (a .place) (l .byte) o) where
-      prefix-closed : Work edition1 g (standsView w) [] (slotOf (plug xs (prefix (a .slot) (a .place) (p ++ l .byte ∷ q) t))) (([], plug xs (prefix (a .slot) (a .place) (p ++ l .byte ∷ q) t)) ∷ [])
-          (body n Prefix o ∷ leftOver (l .node) (P .nodeAt) (l .leaf) (P .leafAt) (P .extent) (l .size))
+      prefix-closed : Work edition1 g (standsView w) [] (slotOf (plug xs (prefix (a .slot) (a .place) (p ++ l .byte ∷ q) t))) (([], plug xs (prefix (a .slot) (a .place) (p ++ l .byte ∷ q) t)) ∷ beside P)
+          (body n Prefix o ∷ nodeBody P)
       prefix-closed =
           let W = both-loose in
           let W2 = work-write (work-turn (W .0) refl) (omega arith) (omega arith) (K .0) (omega arith) (omega arith) in
-          let W3 = make-prefix (pathOf xs) [] (body n Prefix o ∷ loose w a p xs P) (a .slot) (a .place) (p ++ l .byte ∷ q) t (work-path t (path-joined a p xs (l .byte) q) W2)
+          let W3 = make-prefix (pathOf xs) (beside P) (body n Prefix o ∷ nodeBody P) (a .slot) (a .place) (p ++ l .byte ∷ q) t (work-path t (path-joined a p xs (l .byte) q) W2)
           (K .1 p (l .node) q (slotOf t) (opened-above w a p xs P .1) (W .1)) (W .2) in
-          work-close xs (prefix (a .slot) (a .place) (p ++ l .byte ∷ q) t) [] W3 refl
+          work-close xs (prefix (a .slot) (a .place) (p ++ l .byte ∷ q) t) (beside P) W3 refl
           (suits-any xs (prefix (a .slot) (a .place) p (blank (l .node))) (prefix (a .slot) (a .place) (p ++ l .byte ∷ q) t) (λ z. z) (opened-above w a p xs P .2))
 
       prefix-mid : {g' : List ℕ} → Release g g' n Prefix → Mid f g' k w P
@@ -190,9 +187,9 @@ module _ {f k : List ℕ} {s : State} (w : Stands edition1 f s) {l : Lone} (a : 
           let W2 = prefix-closed in
           let b = body (a .slot) Prefix (a .place) in
           let c = body n Prefix o in
-          let g1 = body (l .leaf) Leaf (P .leafAt) in
+          let g1 = body (l .leaf) Leaf (l .at) in
           let n1 = body (l .node) Node4 (P .nodeAt) in
-          let rest = besides (loose w a p xs P) [] (([], plug xs u) ∷ []) in
+          let rest = besides (nodeBody P) [] (([], plug xs u) ∷ beside P) in
           let Z = since-write {xs = []} (K .0) (λ x y z. omega (arith, sum-cons (cover x) b [], cover-body x (a .slot) Prefix (a .place) y z)) (since-also (b ∷ []) (since-start (w .heap))) in
           record {
             lay = plug xs u;
@@ -202,7 +199,7 @@ module _ {f k : List ℕ} {s : State} (w : Stands edition1 f s) {l : Lone} (a : 
             change = over-change w a p xs P u (Prefix ∷ Node4 ∷ Leaf ∷ []) refl;
             view = released (standsView w) n Prefix o rest;
             work = work-free W2 (freed-first W2 R);
-            booked = booked-free (booked-none w) n Prefix o rest kind-prefix;
+            booked = booked-free (booked-none (standsView w) (w .heap .lists .eight)) n Prefix o rest kind-prefix;
             tallies = tally-three;
             took = [];
             wrote = b ∷ [];
@@ -243,7 +240,7 @@ module _ {f k : List ℕ} {s : State} (w : Stands edition1 f s) {l : Lone} (a : 
   node-spare (node n o kind ks) i P =
       let W = opened-above w a p xs P in
       let path = pathOf (ups a p xs) ++ l .byte ∷ [] in
-      let T = forest-first edition1 f path (node n o kind ks) [] (W .0 .trees) .0 in
+      let T = forest-first edition1 f path (node n o kind ks) (beside P) (W .0 .trees) .0 in
       let N = node-parts edition1 f path n o kind ks T .1 .inner .range in
       let z = size-least kind (omega arith) (omega arith) in (
         record {
@@ -264,9 +261,9 @@ module _ {f k : List ℕ} {s : State} (w : Stands edition1 f s) {l : Lone} (a : 
       let W = opened-above w a p xs P in
       let W2 = work-write (W .0) (omega arith) (omega arith) (K .0) (omega arith) (omega arith) in
       let A : PrefixAt g (a .place) (p ++ l .byte ∷ []) n = subst (λ z. PrefixAt g (a .place) (p ++ l .byte ∷ []) z) (sym (P .slotIs)) (K .1 p (l .node) (W .1)) in
-      let W3 = make-prefix (pathOf xs) [] (loose w a p xs P) (a .slot) (a .place) (p ++ l .byte ∷ []) t (work-path t (path-is a p xs (l .byte)) W2) A tt in
+      let W3 = make-prefix (pathOf xs) (beside P) (nodeBody P) (a .slot) (a .place) (p ++ l .byte ∷ []) t (work-path t (path-is a p xs (l .byte)) W2) A tt in
       let b = body (a .slot) Prefix (a .place) in
-      let g1 = body (l .leaf) Leaf (P .leafAt) in
+      let g1 = body (l .leaf) Leaf (l .at) in
       let n1 = body (l .node) Node4 (P .nodeAt) in
       record {
         lay = plug xs u;
@@ -275,8 +272,8 @@ module _ {f k : List ℕ} {s : State} (w : Stands edition1 f s) {l : Lone} (a : 
         freed = [];
         change = over-change w a p xs P u (Node4 ∷ Leaf ∷ []) refl;
         view = standsView w;
-        work = work-close xs u [] W3 refl (suits-any xs (prefix (a .slot) (a .place) p (blank (l .node))) u (λ z. z) (W .2));
-        booked = booked-none w;
+        work = work-close xs u (beside P) W3 refl (suits-any xs (prefix (a .slot) (a .place) p (blank (l .node))) u (λ z. z) (W .2));
+        booked = booked-none (standsView w) (w .heap .lists .eight);
         tallies = tally-turn Leaf Node4 [];
         took = [];
         wrote = b ∷ [];

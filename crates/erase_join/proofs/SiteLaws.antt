@@ -1,54 +1,48 @@
 -- The site of a join: what the model makes of it, the frame opened there, and the end that all joins share. Assumes nothing.
-use Prim.Native.Nat.{ℕ, _+_, _-_, _<_, _≤_}
+use Prim.Native.Nat.{ℕ, _+_, _-_, _≤_}
 use mathlib.Core.Path.{_≡_, refl, sym, ap, subst, _∙_}
-use mathlib.Core.List.{List, [], _∷_, _++_, append-assoc}
+use mathlib.Core.List.{List, [], _∷_, _++_}
 use mathlib.Core.Bool.{Bool, true, false}
 use mathlib.Core.Option.{Option, some}
 use native.Mathlib.Omega.{arith}
 use lib.ListN.{length, getD}
 use Rattle.layout.specs.Number.{Bytes}
-use Rattle.layout.specs.Kind.{Leaf, Prefix, Node4, bodySize}
+use Rattle.layout.specs.Kind.{Leaf, Node4}
 use Rattle.model.specs.Strings.{pick}
 use Rattle.model.specs.Edition.{edition1}
 use Rattle.model.specs.Tree.{Art, Kids, Change, Left, extentOf, findTree, eraseTree, lessOne}
 use Rattle.model.specs.Tree.Left.{gone, one, kept}
-use Rattle.model.specs.State.{State, Done, done, tally, room, after, eraseChange, callErase}
+use Rattle.model.specs.State.{State, done, tally, room, after, eraseChange, callErase}
 use Rattle.model.specs.Item.{Item, body, extent, leafy, sum}
-use Rattle.model.specs.Frame.{Lay, LayKids, Root, slotOf, art, artKids, items, itemsAll, tree, rootArt, rootItems, LeafOf, NodeOf, Tree, Trees, View, freed, Stands}
-use Rattle.model.specs.Frame.Lay.{leaf, prefix, node}
+use Rattle.model.specs.Frame.{Lay, Root, slotOf, art, artKids, items, itemsAll, tree, rootArt, rootItems, Trees, View, freed, Stands}
+use Rattle.model.specs.Frame.Lay.{leaf, node}
 use Rattle.model.specs.Frame.LayKids.{nil, kid}
-use Rattle.model.specs.Touch.{Touch, Outside, hasByte, held, touchErase, touchLost, touchLone, eraseTouch}
+use Rattle.model.specs.Touch.{touchLost, touchLone, eraseTouch}
 use Rattle.model.specs.Promise.{eraseKinds}
 use Rattle.model.proofs.StringLaws.{same-refl}
 use Rattle.model.proofs.ItemLaws.{sum-cons}
 use Rattle.model.proofs.StandsGood.{leafy-other}
 use Rattle.model.proofs.UniqueLaws.{root-unique, stands-unique}
-use Rattle.between.specs.Hole.{app, Step, among, plug, stepPath, pathOf, stepsItems, artIn, appKids}
-use Rattle.between.specs.Work.{Suits, Forest, forestItems, kidTrees, Work}
-use Rattle.between.specs.Lead.{Foremost, Leads, aboveOf}
+use Rattle.between.specs.Hole.{app, Step, plug, pathOf, stepsItems}
+use Rattle.between.specs.Work.{Work}
+use Rattle.between.specs.Lead.{aboveOf}
 use Rattle.between.specs.Since.{Since, Accounts}
 use Rattle.between.specs.Edit.{Booked}
-use Rattle.between.proofs.TreeLaws.{sum-none, kid-sum, nil-sum, kid-parts}
+use Rattle.between.proofs.TreeLaws.{sum-none, leaf-sum, kid-sum, nil-sum, kid-parts}
 use Rattle.between.proofs.KidsLaws.{remove-sum, remove-trees, art-app, has-is}
-use Rattle.between.proofs.HoleLaws.{art-plug, path-among}
-use Rattle.between.proofs.WorkLaws.{standsView, work-of, work-open, work-as, work-sum, open-node, open-leaf, forest-first, forest-more, forest-kids, forest-sum, forest-none, no-forest, kids-sum, entries-first, entries-rest, entries-body, entries-extent, stands-of, root-owns, root-items, leafy-one, leafy-extent}
+use Rattle.between.proofs.HoleLaws.{art-plug}
+use Rattle.between.proofs.WorkLaws.{standsView, work-of, work-open, work-as, work-sum, open-node, forest-more, forest-kids, forest-sum, forest-none, no-forest, kids-sum, stands-of, root-owns, root-items, leafy-one, leafy-extent}
 use Rattle.between.proofs.LeadLaws.{leads-byte, plug-find, find-app}
 use Rattle.between.proofs.EraseLaws.{node-erase, erase-is, plug-erase-touch, node-touch}
 use Rattle.between.proofs.BookedLaws.{booked-as, book-of}
 use Rattle.between.proofs.OutsideLaws.{outside-of}
+use Rattle.erase_remove.specs.Erase.{EraseStep}
+use Rattle.erase_remove.proofs.DoneLaws.{Result, as-step}
 use Rattle.erase_join.specs.declared.lone.Lone.{Lone}
-use Rattle.erase_join.specs.Drop.{leftOver, Over, Drops, Dropped, DropsAll}
-use Rattle.erase_join.specs.Erase.{Erased, EraseStep}
+use Rattle.erase_join.specs.Drop.{Drops, Dropped, DropsAll}
 use Rattle.erase_join.specs.Lone.{Site, pairOf, Ready}
 
--- ---- the key leads to the Node4
-
-leads-up : {k : List ℕ} {xs : List Step} {r : List ℕ} (s o kind : ℕ) (ls : LayKids) (b j : ℕ) (rs : LayKids) → Leads edition1 k (among s o kind ls b j rs ∷ xs) r → Leads edition1 k xs (b ∷ r) × (hasByte b ls ≡ false)
-unfolding Foremost
-leads-up {k} {xs} {r} s o kind ls b j rs L = (
-  record { word = L .word ∙ ap (λ p. p ++ r) (path-among s o kind ls b j rs xs) ∙ append-assoc (pathOf xs) (b ∷ []) r; first = L .first .1 },
-  L .first .0,
-)
+-- ---- what the model makes of it
 
 -- an erase that leaves the tree a
 abbrev pub leaves : Art → List ℕ → List ℕ → ℕ → Change Left
@@ -59,61 +53,56 @@ abbrev pub lost : Lone → Lay → ℕ → Change Left
 lost l u dead = record { now = one (l .byte) (art u); takes = []; frees = Node4 ∷ Leaf ∷ []; extent = 0; dead = dead; fresh = false }
 
 module _ {k : List ℕ} {r : Root} {xs : List Step} {l : Lone} {u : Lay} (P : Site k r xs l u) where
-  both : Leads edition1 k xs (P .byte ∷ P .rest) × (hasByte (P .byte) (P .before) ≡ false)
-  both = leads-up (l .node) (P .nodeAt) Node4 (P .before) (P .byte) (P .place) (P .after) (P .leads)
-
-  pub site-leads : Leads edition1 k xs (P .byte ∷ P .rest)
-  site-leads = both .0
-
   here : getD (edition1 .walked k) (length (pathOf xs)) 0 ≡ P .byte
-  here = leads-byte site-leads
+  here = leads-byte (P .leads)
 
   -- the Node4 loses its Leaf, and the child is left
   pub site-change : eraseTree edition1 (art (pairOf P)) (length (pathOf xs)) k ≡ lost l u (extentOf k (P .value))
   site-change =
       let d = length (pathOf xs) in
       let c : Change Left = record { now = gone; takes = []; frees = Leaf ∷ []; extent = 0; dead = extentOf k (P .value); fresh = false } in
-      ap (λ (z : Kids). eraseTree edition1 (Art.node Node4 z) d k) (art-app (P .before) (kid (P .byte) (P .place) (leaf (l .leaf) (P .leafAt) (P .extent) k (P .value)) (P .after)))
-      ∙ node-erase edition1 k d (P .byte) (P .place) here Node4 k (P .value) (P .before) (P .after) (same-refl k) (both .1)
+      ap (λ (z : Kids). eraseTree edition1 (Art.node Node4 z) d k) (art-app (P .before) (kid (P .byte) (P .place) (leaf (l .leaf) (l .at) (P .extent) k (P .value)) (P .after)))
+      ∙ node-erase edition1 k d (P .byte) (P .place) here Node4 k (P .value) (P .before) (P .after) (same-refl k) (P .first)
       ∙ ap (λ (z : Kids). lessOne Node4 z c) (sym (art-app (P .before) (P .after)) ∙ ap artKids (P .left))
 
   pub site-found : findTree edition1 (art (plug xs (pairOf P))) 0 k ≡ some (P .value)
   site-found =
       let d = length (pathOf xs) in
-      ap (λ (a : Art). findTree edition1 a 0 k) (art-plug xs (pairOf P)) ∙ plug-find site-leads (art (pairOf P))
-      ∙ ap (λ (z : Kids). findTree edition1 (Art.node Node4 z) d k) (art-app (P .before) (kid (P .byte) (P .place) (leaf (l .leaf) (P .leafAt) (P .extent) k (P .value)) (P .after)))
-      ∙ find-app edition1 k d (P .byte) (P .place) here (Art.leaf k (P .value)) (artKids (P .before)) (artKids (P .after)) (has-is (P .byte) (P .before) ∙ both .1)
+      ap (λ (a : Art). findTree edition1 a 0 k) (art-plug xs (pairOf P)) ∙ plug-find (P .leads) (art (pairOf P))
+      ∙ ap (λ (z : Kids). findTree edition1 (Art.node Node4 z) d k) (art-app (P .before) (kid (P .byte) (P .place) (leaf (l .leaf) (l .at) (P .extent) k (P .value)) (P .after)))
+      ∙ find-app edition1 k d (P .byte) (P .place) here (Art.leaf k (P .value)) (artKids (P .before)) (artKids (P .after)) (has-is (P .byte) (P .before) ∙ P .first)
       ∙ ap (λ (x : Bool). pick x (some (P .value)) Option.none) (same-refl k)
 
   pub site-touch : eraseTouch edition1 r k ≡ touchLone (aboveOf xs) (l .node) (l .leaf) u
   site-touch =
       let d = length (pathOf xs) in
-      ap (λ (z : Root). eraseTouch edition1 z k) (P .whole) ∙ plug-erase-touch site-leads (pairOf P) tt
-      ∙ node-touch edition1 k d (P .byte) (P .place) (l .leaf) (P .leafAt) (P .extent) k (P .value) (P .before) (P .after) (aboveOf xs) (l .node) (P .nodeAt) Node4 here (both .1)
+      ap (λ (z : Root). eraseTouch edition1 z k) (P .whole) ∙ plug-erase-touch (P .leads) (pairOf P) tt
+      ∙ node-touch edition1 k d (P .byte) (P .place) (l .leaf) (l .at) (P .extent) k (P .value) (P .before) (P .after) (aboveOf xs) (l .node) (P .nodeAt) Node4 here (P .first)
       ∙ ap (touchLost (aboveOf xs) (l .node) Node4 (l .leaf)) (P .left)
 
--- ---- the frame is opened there: the child is a tree, the rest is loose
+-- ---- the frame is opened there: the child and the Leaf are trees, and the body of the Node4 is loose
+
+module _ {k : List ℕ} {r : Root} {xs : List Step} {l : Lone} {u : Lay} (P : Site k r xs l u) where
+  abbrev pub nodeBody : List Item
+  nodeBody = body (l .node) Node4 (P .nodeAt) ∷ []
+
+  abbrev pub beside : List (List ℕ × Lay)
+  beside = (pathOf xs ++ P .byte ∷ [], leaf (l .leaf) (l .at) (P .extent) k (P .value)) ∷ []
 
 module _ {f k : List ℕ} {s : State} (w : Stands edition1 f s) {xs : List Step} {l : Lone} {u : Lay} (P : Site k (w .root) xs l u) where
-  atNode : Work edition1 f (standsView w) xs (l .node) ((pathOf xs, pairOf P) ∷ []) [] × Suits xs (pairOf P)
-  atNode = work-open xs (pairOf P) [] (work-of w (plug xs (pairOf P)) (P .whole)) refl
+  atNode : Work edition1 f (standsView w) xs (l .node) ((pathOf xs, pairOf P) ∷ []) []
+  atNode = work-open xs (pairOf P) [] (work-of w (plug xs (pairOf P)) (P .whole)) refl .0
 
-  pub site-suits : Suits xs (pairOf P)
-  site-suits = atNode .1
-
-  pub site-open : Work edition1 f (standsView w) xs (l .node) ((pathOf xs ++ l .byte ∷ [], u) ∷ []) (leftOver (l .node) (P .nodeAt) (l .leaf) (P .leafAt) (P .extent) (l .size))
+  pub site-open : Work edition1 f (standsView w) xs (l .node) ((pathOf xs ++ l .byte ∷ [], u) ∷ beside P) (nodeBody P)
   site-open =
       let path = pathOf xs in
-      let t = leaf (l .leaf) (P .leafAt) (P .extent) k (P .value) in
+      let t = leaf (l .leaf) (l .at) (P .extent) k (P .value) in
       let ks = app (P .before) (kid (P .byte) (P .place) t (P .after)) in
-      let b = body (l .node) Node4 (P .nodeAt) in
-      let W2 = open-node path [] [] (l .node) (P .nodeAt) Node4 ks (atNode .0) in
-      let G = forest-kids edition1 f path ks [] (W2 .0 .trees) in
-      let R = remove-trees edition1 f path (P .before) (P .after) (P .byte) (P .place) t (G .0) in
+      let W = open-node path [] [] (l .node) (P .nodeAt) Node4 ks atNode .0 in
+      let R = remove-trees edition1 f path (P .before) (P .after) (P .byte) (P .place) t (forest-kids edition1 f path ks [] (W .trees) .0) in
       let K : Trees edition1 f path (kid (l .byte) (P .other) u nil) = rw (P .left) at (R .1) in
       let T = kid-parts edition1 f path (l .byte) (P .other) u nil K in
-      let us : List (List ℕ × Lay) = (path ++ l .byte ∷ [], u) ∷ [] in
-      let W3 : Work edition1 f (standsView w) xs (l .node) ((path ++ P .byte ∷ [], t) ∷ us) (b ∷ []) = work-as (W2 .0)
+      work-as W
       (λ w. omega (
         arith,
         kids-sum w path ks [],
@@ -121,36 +110,27 @@ module _ {f k : List ℕ} {s : State} (w : Stands edition1 f s) {xs : List Step}
         ap (λ z. sum w (itemsAll z)) (P .left),
         kid-sum w (l .byte) (P .other) u nil,
         nil-sum w,
-        forest-sum w (path ++ P .byte ∷ []) t us,
-        forest-sum w (path ++ l .byte ∷ []) u [],
+        forest-sum w (path ++ l .byte ∷ []) u (beside P),
+        forest-sum w (path ++ P .byte ∷ []) t [],
       ))
-      (forest-more edition1 f (path ++ P .byte ∷ []) t us (R .0) (forest-more edition1 f (path ++ l .byte ∷ []) u [] (T .0) (no-forest edition1 f))) (W2 .0 .entries) in
-      let W4 = open-leaf (path ++ P .byte ∷ []) us (b ∷ []) (l .leaf) (P .leafAt) (P .extent) k (P .value) W3 .0 in
-      let g = body (l .leaf) Leaf (P .leafAt) in
-      let x = extent (P .extent) (extentOf k (P .value)) in
-      let E1 = entries-first f (l .leaf) Leaf (P .leafAt) (x ∷ b ∷ []) (W4 .entries) in
-      let E2 = entries-first f (l .node) Node4 (P .nodeAt) [] (entries-rest f x (b ∷ []) (E1 .1)) in
-      rw (P .size) (work-as W4 (λ w. omega (arith, sum-cons w g (x ∷ b ∷ []), sum-cons w x (b ∷ []), sum-cons w b [], sum-none w, sum-cons w b (g ∷ x ∷ []), sum-cons w g (x ∷ []), sum-cons w x []))
-      (W4 .trees) (entries-body f (l .node) Node4 (P .nodeAt) (g ∷ x ∷ []) (E2 .0) (entries-body f (l .leaf) Leaf (P .leafAt) (x ∷ []) (E1 .0) (entries-extent f (P .extent) (extentOf k (P .value)) [] (E2 .1)))))
+      (forest-more edition1 f (path ++ l .byte ∷ []) u (beside P) (T .0) (forest-more edition1 f (path ++ P .byte ∷ []) t [] (R .0) (no-forest edition1 f))) (W .entries)
 
   -- all that it stands on
-  pub site-sum : (v : Item → ℕ) → sum v (rootItems (w .root)) ≡ v (body (l .node) Node4 (P .nodeAt)) + v (body (l .leaf) Leaf (P .leafAt)) + v (extent (P .extent) (l .size)) + sum v (stepsItems xs) + sum v (items u)
+  pub site-sum : (v : Item → ℕ) → sum v (rootItems (w .root)) ≡ v (body (l .node) Node4 (P .nodeAt)) + v (body (l .leaf) Leaf (l .at)) + v (extent (P .extent) (extentOf k (P .value))) + sum v (stepsItems xs) + sum v (items u)
   site-sum v =
-      let x = extent (P .extent) (l .size) in
-      let g = body (l .leaf) Leaf (P .leafAt) in
       omega (
         arith,
         work-sum site-open v,
-        sum-cons v (body (l .node) Node4 (P .nodeAt)) (g ∷ x ∷ []),
-        sum-cons v g (x ∷ []),
-        sum-cons v x [],
+        sum-cons v (body (l .node) Node4 (P .nodeAt)) [],
         sum-none v,
-        forest-sum v (pathOf xs ++ l .byte ∷ []) u [],
+        forest-sum v (pathOf xs ++ l .byte ∷ []) u (beside P),
+        forest-sum v (pathOf xs ++ P .byte ∷ []) (leaf (l .leaf) (l .at) (P .extent) k (P .value)) [],
+        leaf-sum v (l .leaf) (l .at) (P .extent) k (P .value),
         forest-none v,
       )
 
   pub site-records : 1 ≤ w .nums .R
-  site-records = omega (arith, w .counted, site-sum leafy, leafy-one (l .leaf) (P .leafAt))
+  site-records = omega (arith, w .counted, site-sum leafy, leafy-one (l .leaf) (l .at))
 
 -- ---- the end
 
@@ -162,7 +142,7 @@ pub record Mid (f f1 k : List ℕ) {s : State} (w : Stands edition1 f s) {xs : L
   pub freed : List ℕ
   pub change : eraseChange edition1 (art (plug xs (pairOf P))) k ≡ leaves (art lay) kinds frees (extentOf k (P .value))
   pub view : View
-  pub work : Over f1 view (slotOf lay) lay (l .node) (P .nodeAt) (l .leaf) (P .leafAt) (P .extent) (l .size)
+  pub work : Work edition1 f1 view [] (slotOf lay) (([], lay) ∷ beside P) (nodeBody P)
   pub booked : Booked (standsView w) view kinds freed 0 0 (w .nums .R)
   pub tallies : (j : ℕ) → tally (Leaf ∷ Node4 ∷ freed) j ≡ tally frees j
   pub took : List Item
@@ -170,40 +150,42 @@ pub record Mid (f f1 k : List ℕ) {s : State} (w : Stands edition1 f s) {xs : L
   pub gave : List Item
   pub since : Since f (standsView w) f1 view took wrote gave []
   pub noLeaf : (sum leafy took ≡ 0) × (sum leafy gave ≡ 0)
-  pub accounts : Accounts (w .root) (touchLone (aboveOf xs) (l .node) (l .leaf) u) (kinds ++ frees) took wrote (body (l .leaf) Leaf (P .leafAt) ∷ body (l .node) Node4 (P .nodeAt) ∷ gave)
+  pub accounts : Accounts (w .root) (touchLone (aboveOf xs) (l .node) (l .leaf) u) (kinds ++ frees) took wrote (body (l .leaf) Leaf (l .at) ∷ body (l .node) Node4 (P .nodeAt) ∷ gave)
 
 module _ {f f1 k : List ℕ} {s : State} {w : Stands edition1 f s} {xs : List Step} {l : Lone} {u : Lay} {P : Site k (w .root) xs l u} (M : Mid f f1 k w P) where
   some-left : 1 ≤ M .view .nums .R
   some-left = omega (arith, M .booked .R, site-records w P)
 
-  pub mid-drops : Drops f1 (l .leaf) (l .node) (l .size)
-  mid-drops = record { view = M .view; slot = slotOf (M .lay); lay = M .lay; nodeAt = P .nodeAt; leafAt = P .leafAt; extentAt = P .extent; work = M .work; some = some-left }
+  pub mid-drops : Drops f1 (l .leaf) (l .node) (l .at)
+  mid-drops = record { view = M .view; slot = slotOf (M .lay); lay = M .lay; nodeAt = P .nodeAt; path = pathOf xs ++ P .byte ∷ []; extent = P .extent; key = k; value = P .value; work = M .work; some = some-left }
 
-  module _ {g : List ℕ} (D : DropsAll f1 g (l .leaf) (l .node) (l .size)) (bytes : Bytes g) (fits : room s (eraseChange edition1 (art (plug xs (pairOf P))) k) ≡ true) where
-    Z : Dropped f1 g (M .view) (slotOf (M .lay)) (M .lay) (l .node) (P .nodeAt) (l .leaf) (P .leafAt) (l .size)
-    Z = D .after (M .view) (slotOf (M .lay)) (M .lay) (P .nodeAt) (P .leafAt) (P .extent) (M .work) some-left
+  module _ {g : List ℕ} (D : DropsAll f1 g (l .leaf) (l .node) (l .at)) (bytes : Bytes g) (fits : room s (eraseChange edition1 (art (plug xs (pairOf P))) k) ≡ true) where
+    Z : Dropped f1 g (M .view) (slotOf (M .lay)) (M .lay) (l .node) (P .nodeAt) (l .leaf) (l .at) k (P .value)
+    Z = D .after (M .view) (slotOf (M .lay)) (M .lay) (P .nodeAt) (pathOf xs ++ P .byte ∷ []) (P .extent) k (P .value) (M .work) some-left
 
     abbrev change' : Change Left
     change' = leaves (art (M .lay)) (M .kinds) (M .frees) (extentOf k (P .value))
 
     booked' : Booked (standsView w) (Z .view) (M .kinds) (M .frees) 0 (extentOf k (P .value)) (w .nums .R - 1)
-    booked' = subst (λ n. Booked (standsView w) (Z .view) (M .kinds) (M .frees) 0 n (w .nums .R - 1)) (P .size) (booked-as (Z .booked (standsView w) (M .kinds) (M .freed) (w .nums .R) (M .booked)) (M .kinds) (M .frees) (λ j. refl) (M .tallies))
+    booked' = booked-as (Z .booked (standsView w) (M .kinds) (M .freed) (w .nums .R) (M .booked)) (M .kinds) (M .frees) (λ j. refl) (M .tallies)
 
-    since' : Since f (standsView w) g (Z .view) (M .took) (M .wrote) (body (l .leaf) Leaf (P .leafAt) ∷ body (l .node) Node4 (P .nodeAt) ∷ M .gave) []
+    since' : Since f (standsView w) g (Z .view) (M .took) (M .wrote) (body (l .leaf) Leaf (l .at) ∷ body (l .node) Node4 (P .nodeAt) ∷ M .gave) []
     since' = Z .since f (standsView w) (M .took) (M .wrote) (M .gave) (M .since)
 
-    state-is : callErase edition1 s k .state ≡ after s (leaves (art (M .lay)) (M .kinds) (M .frees) (extentOf k (P .value))) (w .nums .R - 1) (some (art (M .lay)))
-    state-is =
-        let c = leaves (art (M .lay)) (M .kinds) (M .frees) (extentOf k (P .value)) in
+    abbrev state' : State
+    state' = after s change' (w .nums .R - 1) (some (art (M .lay)))
+
+    is-erase : callErase edition1 s k ≡ done 0 state'
+    is-erase =
         let et : s .tree ≡ some (art (plug xs (pairOf P))) = ap (λ (z : State). z .tree) (w .state) ∙ ap rootArt (P .whole) in
-        let e = erase-is edition1 s k (P .value) (art (plug xs (pairOf P))) (art (M .lay)) c et (site-found P) (M .change) refl in
-        let q : room s c ≡ true = rw (M .change) at fits in
+        let e = erase-is edition1 s k (P .value) (art (plug xs (pairOf P))) (art (M .lay)) change' et (site-found P) (M .change) refl in
+        let q : room s change' ≡ true = rw (M .change) at fits in
         let er : s .R ≡ w .nums .R = ap (λ (z : State). z .R) (w .state) in
-        ap (λ (z : Done). z .state) e ∙ ap (λ (z : Bool). pick z (done 0 (after s c (s .R - 1) (some (art (M .lay))))) (done 6 s) .state) q ∙ ap (λ n. after s c (n - 1) (some (art (M .lay)))) er
+        e ∙ ap (λ (z : Bool). pick z (done 0 (after s change' (s .R - 1) (some (art (M .lay))))) (done 6 s)) q ∙ ap (λ n. done 0 (after s change' (n - 1) (some (art (M .lay))))) er
 
     left-leaves : Z .view .nums .R ≡ sum leafy (items (M .lay))
     left-leaves =
-        let g1 = body (l .leaf) Leaf (P .leafAt) in
+        let g1 = body (l .leaf) Leaf (l .at) in
         let n1 = body (l .node) Node4 (P .nodeAt) in
         omega (
           arith,
@@ -214,7 +196,7 @@ module _ {f f1 k : List ℕ} {s : State} {w : Stands edition1 f s} {xs : List St
           w .counted,
           sum-cons leafy g1 (n1 ∷ M .gave),
           sum-cons leafy n1 (M .gave),
-          leafy-one (l .leaf) (P .leafAt),
+          leafy-one (l .leaf) (l .at),
           leafy-other (l .node) Node4 (P .nodeAt) (omega arith),
           M .noLeaf .0,
           M .noLeaf .1,
@@ -223,9 +205,14 @@ module _ {f f1 k : List ℕ} {s : State} {w : Stands edition1 f s} {xs : List St
     kinds-are : eraseKinds edition1 (w .root) k ≡ M .kinds ++ M .frees
     kinds-are = ap (λ (r : Root). eraseKinds edition1 r k) (P .whole) ∙ ap (λ (c : Change Left). c .takes ++ c .frees) (M .change)
 
-    pub mid-done : Erased f k g s w
-    mid-done = (
-      stands-of (callErase edition1 s k .state) (M .lay) (Z .work) refl bytes (booked' .edition ∙ w .editionIs) left-leaves (state-is ∙ book-of w change' (M .lay) (art (M .lay)) booked' refl),
+    stands' : Stands edition1 g state'
+    stands' = stands-of state' (M .lay) (Z .work) refl bytes (booked' .edition ∙ w .editionIs) left-leaves (book-of w change' (M .lay) (art (M .lay)) booked' refl)
+
+    pub mid-done : Result f g k w (callErase edition1 s k)
+    unfolding stands'
+    mid-done = subst (Result f g k w) (sym is-erase) (
+      refl,
+      stands',
       λ many. rw (kinds-are, site-touch P)
           (outside-of (w .nums) (w .lists) (w .root) (tree (M .lay)) since' (w .heap) (Z .work .heap) (root-owns (M .lay) (Z .work)) (touchLone (aboveOf xs) (l .node) (l .leaf) u) (M .kinds ++ M .frees) (M .accounts) false (λ q. absurd (let z : _≡_ {A = ℕ} 0 1 = cc in omega arith))),
     )
@@ -243,16 +230,15 @@ module _ {f k : List ℕ} {xs : List Step} {l : Lone} {u : Lay} (R : Ready f k x
           byte = P .byte;
           place = P .place;
           after = P .after;
-          leafAt = P .leafAt;
           extent = P .extent;
           value = P .value;
           rest = P .rest;
           other = P .other;
           whole = root-unique edition1 f s (R .st) w (R .stands) ∙ P .whole;
           leads = P .leads;
+          first = P .first;
           left = P .left;
           slotIs = P .slotIs;
-          size = P .size;
         }
 
     same-room : room s (eraseChange edition1 (art (plug xs (pairOf (R .site)))) k) ≡ true
@@ -262,9 +248,9 @@ module _ {f k : List ℕ} {xs : List Step} {l : Lone} {u : Lay} (R : Ready f k x
   abbrev pub Before : List ℕ → Type 0
   Before f1 = (s : State) (w : Stands edition1 f s) (P : Site k (w .root) xs l u) → room s (eraseChange edition1 (art (plug xs (pairOf P))) k) ≡ true → Mid f f1 k w P
 
-  pub drops-of : {f1 : List ℕ} → Before f1 → Drops f1 (l .leaf) (l .node) (l .size)
+  pub drops-of : {f1 : List ℕ} → Before f1 → Drops f1 (l .leaf) (l .node) (l .at)
   drops-of M = mid-drops (M (R .st) (R .stands) (R .site) (R .room))
 
-  pub step-of : {f1 g : List ℕ} → Before f1 → DropsAll f1 g (l .leaf) (l .node) (l .size) → Bytes g → EraseStep f k g
+  pub step-of : {f1 g : List ℕ} → Before f1 → DropsAll f1 g (l .leaf) (l .node) (l .at) → Bytes g → EraseStep f k g
   unfolding same-site
-  step-of M D B = record { after = λ s w. mid-done (M s w (same-site w) (same-room w)) D B (same-room w) }
+  step-of M D B = as-step k (λ s w. mid-done (M s w (same-site w) (same-room w)) D B (same-room w))

@@ -2,69 +2,62 @@
 use Prim.Native.Nat.{ℕ, _+_, _-_, _<_, _≤_}
 use mathlib.Core.Path.{_≡_, refl, sym, ap, subst, _∙_}
 use mathlib.Core.List.{List, [], _∷_, _++_, append-assoc}
-use mathlib.Core.Bool.{true, false}
+use mathlib.Core.Bool.{true}
 use native.Mathlib.Omega.{arith}
 use lib.ListN.{length, length-append}
-use Rattle.layout.specs.Number.{put, Bytes}
-use Rattle.layout.specs.Place.{atRoot, entryAt}
+use Rattle.layout.specs.Number.{Bytes}
+use Rattle.layout.specs.Place.{entryAt}
 use Rattle.layout.specs.Kind.{Kind, Leaf, Prefix, Node4, bodySize}
 use Rattle.layout.specs.Entry.{placeOf}
 use Rattle.layout.proofs.KindLaws.{size-least}
 use Rattle.model.specs.Edition.{edition1}
 use Rattle.model.specs.Tree.{Art, Change, Left, extentOf, loneChild}
-use Rattle.model.specs.Tree.Left.{one, kept}
-use Rattle.model.specs.State.{State, tally, room, eraseChange}
-use Rattle.model.specs.Item.{Item, body, extent, cover, leafy, sum}
+use Rattle.model.specs.Tree.Left.{kept}
+use Rattle.model.specs.State.{State, room, eraseChange}
+use Rattle.model.specs.Item.{Item, body, cover, leafy, sum}
 use Rattle.model.specs.Body.{PrefixAt}
 use Rattle.model.specs.Frame.{Lay, LayKids, IsNode, slotOf, art, items, rootItems, Tree, View, Heap, freed, Stands}
 use Rattle.model.specs.Frame.Lay.{leaf, prefix, node}
-use Rattle.model.specs.Touch.{Touch, holder, held, touchLone}
+use Rattle.model.specs.Touch.{holder, held}
 use Rattle.model.proofs.ItemLaws.{sum-app, sum-cons}
 use Rattle.model.proofs.StandsGood.{tree-well, leafy-other}
 use Rattle.model.proofs.Edition1.{node-path1}
 use Rattle.node.specs.Moved.{Only}
 use Rattle.room.specs.View.{listOf, placeFrom, taken, Roomy, rooted}
 use Rattle.room.specs.Step.{Takes, Took}
-use Rattle.room.specs.Book.{takenAll, RoomFor, Kinds}
+use Rattle.room.specs.Book.{takenAll, Kinds}
 use Rattle.room.proofs.HeapLaws.{body-in, cover-body, took-lies, Lies}
 use Rattle.room.proofs.BookLaws.{room-first}
 use Rattle.between.specs.Hole.{Step, under, among, plug, pathOf, stepsItems, holderOf, Link, artIn}
-use Rattle.between.specs.Work.{Suits, rootOf, forestItems, Work}
+use Rattle.between.specs.Work.{Suits, rootOf, Work}
 use Rattle.between.specs.Lead.{NotUnder, aboveOf}
-use Rattle.between.specs.Since.{Since, holderItems, SlotsIn, Accounts}
+use Rattle.between.specs.Since.{holderItems, SlotsIn}
 use Rattle.between.specs.Edit.{Booked}
 use Rattle.between.proofs.TreeLaws.{sum-none, leaf-sum, prefix-sum, node-sum, leaf-parts, as-leaf, node-parts, begins-less}
-use Rattle.between.proofs.HoleLaws.{art-plug, suits-any}
+use Rattle.between.proofs.HoleLaws.{art-plug}
 use Rattle.between.proofs.WorkLaws.{standsView, work-as, work-take, work-write, work-path, work-close, forest-first, forest-more, forest-sum, open-prefix, make-prefix}
 use Rattle.between.proofs.LinkLaws.{relinked, link-room}
 use Rattle.between.proofs.EraseLaws.{withNow, plug-lone}
 use Rattle.between.proofs.SinceLaws.{since-start, since-also, since-take, since-write, since-link}
 use Rattle.between.proofs.BookedLaws.{tally-turn, booked-row, booked-root, room-of}
 use Rattle.between.proofs.OutsideLaws.{among-here, slots-later, slots-app, holder-sum, holder-slots}
+use Rattle.leaf_new.specs.Make.{Relinked}
+use Rattle.erase_remove.proofs.RemoveLaws.{booked-none}
 use Rattle.erase_join.specs.declared.lone.Lone.{Lone}
 use Rattle.erase_join.specs.Prefix.{Spare}
-use Rattle.erase_join.specs.Drop.{leftOver}
 use Rattle.erase_join.specs.Lone.{IsLeaf, IsPrefix, Site, pairOf}
-use Rattle.erase_join.proofs.SiteLaws.{leaves, lost, site-leads, site-change, site-open, site-sum, Mid}
+use Rattle.erase_join.proofs.SiteLaws.{leaves, lost, nodeBody, beside, site-change, site-open, site-sum, Mid}
 
 -- ---- what the joins share
 
 pub kind-prefix : Kind Prefix
 kind-prefix = (omega arith, omega arith, λ z. omega arith)
 
--- what `relink` says
-abbrev pub Relink : List ℕ → List ℕ → ℕ → ℕ → Type 0
-Relink f g at s = (at ≡ atRoot → g ≡ put 2 f atRoot s) × ((at ≡ atRoot → ⊥) → g ≡ put 4 f at s)
-
 pub relink-ok : {f : List ℕ} {h : View} {xs : List Step} {s : ℕ} {ts : List (List ℕ × Lay)} {loose : List Item} (at : ℕ) → Work edition1 f h xs s ts loose → Link xs at → (64 ≤ length f) × (at + 4 ≤ length f)
 relink-ok {f} {h} {xs} {s} at W L =
     let m = W .heap .header .limits in
     let z = W .heap .header .size in
     (omega arith, link-room edition1 f xs at s L (W .around) (omega arith))
-
-pub booked-none : {f : List ℕ} {s : State} (w : Stands edition1 f s) → Booked (standsView w) (standsView w) [] [] 0 0 (w .nums .R)
-unfolding takenAll
-booked-none w = booked-row (standsView w) [] Kinds.nil (w .heap .lists .eight)
 
 -- the path to an inner node is short
 pub node-short : (f path : List ℕ) (t : Lay) → Bytes f → IsNode t → Tree edition1 f path t → length path ≤ 112
@@ -73,14 +66,14 @@ node-short f path (prefix s o p t) B n T = absurd n
 node-short f path (node s o kind ks) B n T = node-path1 kind _ path (tree-well edition1 f B path (node s o kind ks) T) .short
 
 -- a Leaf stands under a shorter path too
-pub leaf-shorter : {f : List ℕ} {h : View} {xs : List Step} {s : ℕ} {loose : List Item} (p q : List ℕ) (n o e : ℕ) (k v : List ℕ)
-    → Work edition1 f h xs s ((p ++ q, leaf n o e k v) ∷ []) loose → Work edition1 f h xs s ((p, leaf n o e k v) ∷ []) loose
-leaf-shorter {f} p q n o e k v W =
-    let F = forest-first edition1 f (p ++ q) (leaf n o e k v) [] (W .trees) in
+pub leaf-shorter : {f : List ℕ} {h : View} {xs : List Step} {s : ℕ} {ts : List (List ℕ × Lay)} {loose : List Item} (p q : List ℕ) (n o e : ℕ) (k v : List ℕ)
+    → Work edition1 f h xs s ((p ++ q, leaf n o e k v) ∷ ts) loose → Work edition1 f h xs s ((p, leaf n o e k v) ∷ ts) loose
+leaf-shorter {f} {ts = ts} p q n o e k v W =
+    let F = forest-first edition1 f (p ++ q) (leaf n o e k v) ts (W .trees) in
     let T = leaf-parts edition1 f (p ++ q) n o e k v (F .0) in
     let L = T .1 in
-    work-as W (λ w. omega (arith, forest-sum w (p ++ q) (leaf n o e k v) [], forest-sum w p (leaf n o e k v) []))
-    (forest-more edition1 f p (leaf n o e k v) [] (as-leaf edition1 f p n o e k v (T .0) (record { at = L .at; eights = L .eights; legal = L .legal; begins = begins-less (edition1 .walked k) p q (L .begins) })) (F .1)) (W .entries)
+    work-as W (λ w. omega (arith, forest-sum w (p ++ q) (leaf n o e k v) ts, forest-sum w p (leaf n o e k v) ts))
+    (forest-more edition1 f p (leaf n o e k v) ts (as-leaf edition1 f p n o e k v (T .0) (record { at = L .at; eights = L .eights; legal = L .legal; begins = begins-less (edition1 .walked k) p q (L .begins) })) (F .1)) (W .entries)
 
 module _ {f k : List ℕ} {s : State} (w : Stands edition1 f s) {xs : List Step} {l : Lone} {u : Lay} (P : Site k (w .root) xs l u) where
   -- the slot of a body of the child's
@@ -93,7 +86,7 @@ module _ {f k : List ℕ} {s : State} (w : Stands edition1 f s) {xs : List Step}
       (I .0, omega arith)
 
   -- the two bodies that every join frees
-  pub two-in : (v : Item → ℕ) → v (body (l .leaf) Leaf (P .leafAt)) + v (body (l .node) Node4 (P .nodeAt)) + sum v (stepsItems xs) + sum v (items u) ≤ sum v (rootItems (w .root))
+  pub two-in : (v : Item → ℕ) → v (body (l .leaf) Leaf (l .at)) + v (body (l .node) Node4 (P .nodeAt)) + sum v (stepsItems xs) + sum v (items u) ≤ sum v (rootItems (w .root))
   two-in v = omega (arith, site-sum w P v)
 
 -- ---- no Prefix above
@@ -115,13 +108,13 @@ module _ {f k : List ℕ} {s : State} (w : Stands edition1 f s) {xs : List Step}
   lone-change t takes frees e =
       let m = extentOf k (P .value) in
       ap (λ (a : Art). eraseChange edition1 a k) (art-plug xs (pairOf P))
-      ∙ plug-lone (site-leads P) (art (pairOf P)) (l .byte) (art u) (art t) (lost l u m) free (site-change P) refl (ap (λ (c : Change Left). c .now) e)
+      ∙ plug-lone (P .leads) (art (pairOf P)) (l .byte) (art u) (art t) (lost l u m) free (site-change P) refl (ap (λ (c : Change Left). c .now) e)
       ∙ ap (withNow (kept (artIn xs (art t)))) e ∙ ap (λ (a : Art). leaves a takes frees m) (sym (art-plug xs t))
 
   -- the link to the hole names t, which is put there
-  up-work : {g g' : List ℕ} {h : View} {n : ℕ} {loose : List Item} (at : ℕ) (t : Lay) → Link xs at → (1 ≤ slotOf t) × (slotOf t < 65536) → Work edition1 g h xs n ((pathOf xs, t) ∷ []) loose → Relink g g' at (slotOf t)
-      → Work edition1 g' (rooted h (rootOf xs (slotOf t))) [] (slotOf (plug xs t)) (([], plug xs t) ∷ []) loose
-  up-work at t L fits W G = work-close xs t [] (relinked (slotOf t) (fits .0) (fits .1) at xs L W G) refl (suits-free xs t free)
+  up-work : {g g' : List ℕ} {h : View} {n : ℕ} {ts : List (List ℕ × Lay)} {loose : List Item} (at : ℕ) (t : Lay) → Link xs at → (1 ≤ slotOf t) × (slotOf t < 65536) → Work edition1 g h xs n ((pathOf xs, t) ∷ ts) loose → Relinked g g' at (slotOf t)
+      → Work edition1 g' (rooted h (rootOf xs (slotOf t))) [] (slotOf (plug xs t)) (([], plug xs t) ∷ ts) loose
+  up-work {ts = ts} at t L fits W G = work-close xs t ts (relinked (slotOf t) (fits .0) (fits .1) at xs L W G) refl (suits-free xs t free)
 
   holder-in : (ss : List ℕ) → SlotsIn (ss ++ holder (holderOf xs)) (holderItems xs)
   holder-in ss = slots-later ss (holder (holderOf xs)) (holderItems xs) (holder-slots (site-open w P))
@@ -137,14 +130,14 @@ freshAt w = placeFrom (standsView w) (listOf (standsView w) Prefix)
 module _ {f k : List ℕ} {s : State} (w : Stands edition1 f s) {xs : List Step} {l : Lone} (free : NotUnder xs) (at : ℕ) (L : Link xs at) where
   -- ---- a Leaf
 
-  pub leaf-up : {g : List ℕ} (u : Lay) → IsLeaf u → (P : Site k (w .root) xs l u) → Relink f g at (l .child) → Mid f g k w P
+  pub leaf-up : {g : List ℕ} (u : Lay) → IsLeaf u → (P : Site k (w .root) xs l u) → Relinked f g at (l .child) → Mid f g k w P
   leaf-up (prefix n o p t) i P G' = absurd i
   leaf-up (node n o kind ks) i P G' = absurd i
   leaf-up {g} (leaf n o e k' v) i P G' =
       let u = leaf n o e k' v in
-      let G : Relink f g at n = subst (λ m. Relink f g at m) (sym (P .slotIs)) G' in
+      let G : Relinked f g at n = subst (λ m. Relinked f g at m) (sym (P .slotIs)) G' in
       let W = leaf-shorter (pathOf xs) (l .byte ∷ []) n o e k' v (site-open w P) in
-      let g1 = body (l .leaf) Leaf (P .leafAt) in
+      let g1 = body (l .leaf) Leaf (l .at) in
       let n1 = body (l .node) Node4 (P .nodeAt) in
       record {
         lay = plug xs u;
@@ -154,7 +147,7 @@ module _ {f k : List ℕ} {s : State} (w : Stands edition1 f s) {xs : List Step}
         change = lone-change w P free u [] (Node4 ∷ Leaf ∷ []) refl;
         view = rooted (standsView w) (rootOf xs n);
         work = up-work w P free at u L (slot-in w P n Leaf o (λ z. omega (arith, leaf-sum z n o e k' v)) (omega arith)) W G;
-        booked = booked-root (booked-none w) (rootOf xs n);
+        booked = booked-root (booked-none (standsView w) (w .heap .lists .eight)) (rootOf xs n);
         tallies = tally-turn Leaf Node4 [];
         took = [];
         wrote = holderItems xs ++ [];
@@ -174,15 +167,15 @@ module _ {f k : List ℕ} {s : State} (w : Stands edition1 f s) {xs : List Step}
   -- ---- a Prefix
 
   opened-prefix : (n o : ℕ) (p : List ℕ) (t : Lay) (P : Site k (w .root) xs l (prefix n o p t))
-      → Work edition1 f (standsView w) xs (l .node) (((pathOf xs ++ l .byte ∷ []) ++ p, t) ∷ []) (body n Prefix o ∷ leftOver (l .node) (P .nodeAt) (l .leaf) (P .leafAt) (P .extent) (l .size)) × PrefixAt f o p (slotOf t) × IsNode t
-  opened-prefix n o p t P = open-prefix (pathOf xs ++ l .byte ∷ []) [] (leftOver (l .node) (P .nodeAt) (l .leaf) (P .leafAt) (P .extent) (l .size)) n o p t (site-open w P)
+      → Work edition1 f (standsView w) xs (l .node) (((pathOf xs ++ l .byte ∷ []) ++ p, t) ∷ beside P) (body n Prefix o ∷ nodeBody P) × PrefixAt f o p (slotOf t) × IsNode t
+  opened-prefix n o p t P = open-prefix (pathOf xs ++ l .byte ∷ []) (beside P) (nodeBody P) n o p t (site-open w P)
 
   pub prefix-spare : (u : Lay) → IsPrefix (l .place) u → Site k (w .root) xs l u → Spare f (l .place) 1
   prefix-spare (leaf n o e k' v) i P = absurd i
   prefix-spare (node n o kind ks) i P = absurd i
   prefix-spare (prefix n o p t) i P =
       let W = opened-prefix n o p t P in
-      let T = forest-first edition1 f ((pathOf xs ++ l .byte ∷ []) ++ p) t [] (W .0 .trees) .0 in
+      let T = forest-first edition1 f ((pathOf xs ++ l .byte ∷ []) ++ p) t (beside P) (W .0 .trees) .0 in
       subst (λ z. Spare f z 1) i (record {
         bytes = p;
         below = slotOf t;
@@ -191,27 +184,27 @@ module _ {f k : List ℕ} {s : State} (w : Stands edition1 f s) {xs : List Step}
       })
 
   fronted : {g : List ℕ} (n o : ℕ) (p : List ℕ) (t : Lay) (P : Site k (w .root) xs l (prefix n o p t)) → Fronted f g o (l .byte)
-      → Work edition1 g (standsView w) xs (l .node) ((pathOf xs, prefix n o (l .byte ∷ p) t) ∷ []) (leftOver (l .node) (P .nodeAt) (l .leaf) (P .leafAt) (P .extent) (l .size))
+      → Work edition1 g (standsView w) xs (l .node) ((pathOf xs, prefix n o (l .byte ∷ p) t) ∷ beside P) (nodeBody P)
   fronted {g} n o p t P K =
       let W = opened-prefix n o p t P in
       let W1 = work-write (W .0) (omega arith) (omega arith) (K .0) (omega arith) (omega arith) in
-      make-prefix (pathOf xs) [] (leftOver (l .node) (P .nodeAt) (l .leaf) (P .leafAt) (P .extent) (l .size)) n o (l .byte ∷ p) t (work-path t (append-assoc (pathOf xs) (l .byte ∷ []) p) W1) (K .1 p (slotOf t) (W .1)) (W .2)
+      make-prefix (pathOf xs) (beside P) (nodeBody P) n o (l .byte ∷ p) t (work-path t (append-assoc (pathOf xs) (l .byte ∷ []) p) W1) (K .1 p (slotOf t) (W .1)) (W .2)
 
   pub prefix-links : {g : List ℕ} (u : Lay) → IsPrefix (l .place) u → Site k (w .root) xs l u → Fronted f g (l .place) (l .byte) → (64 ≤ length g) × (at + 4 ≤ length g)
   prefix-links (leaf n o e k' v) i P K = absurd i
   prefix-links (node n o kind ks) i P K = absurd i
   prefix-links {g} (prefix n o p t) i P K = relink-ok at (fronted n o p t P (subst (λ z. Fronted f g z (l .byte)) (sym i) K)) L
 
-  pub prefix-up : {g g' : List ℕ} (u : Lay) → IsPrefix (l .place) u → (P : Site k (w .root) xs l u) → Fronted f g (l .place) (l .byte) → Relink g g' at (l .child) → Mid f g' k w P
+  pub prefix-up : {g g' : List ℕ} (u : Lay) → IsPrefix (l .place) u → (P : Site k (w .root) xs l u) → Fronted f g (l .place) (l .byte) → Relinked g g' at (l .child) → Mid f g' k w P
   prefix-up (leaf n o e k' v) i P K' G' = absurd i
   prefix-up (node n o kind ks) i P K' G' = absurd i
   prefix-up {g} {g'} (prefix n o p t) i P K' G' =
       let u = prefix n o (l .byte ∷ p) t in
       let K : Fronted f g o (l .byte) = subst (λ z. Fronted f g z (l .byte)) (sym i) K' in
-      let G : Relink g g' at n = subst (λ m. Relink g g' at m) (sym (P .slotIs)) G' in
+      let G : Relinked g g' at n = subst (λ m. Relinked g g' at m) (sym (P .slotIs)) G' in
       let W = fronted n o p t P K in
       let b = body n Prefix o in
-      let g1 = body (l .leaf) Leaf (P .leafAt) in
+      let g1 = body (l .leaf) Leaf (l .at) in
       let n1 = body (l .node) Node4 (P .nodeAt) in
       let Z = since-write {xs = []} (K .0) (λ a x y. omega (arith, sum-cons (cover a) b [], cover-body a n Prefix o x y)) (since-also (b ∷ []) (since-start (w .heap))) in
       record {
@@ -222,7 +215,7 @@ module _ {f k : List ℕ} {s : State} (w : Stands edition1 f s) {xs : List Step}
         change = lone-change w P free u [] (Node4 ∷ Leaf ∷ []) refl;
         view = rooted (standsView w) (rootOf xs n);
         work = up-work w P free at u L (slot-in w P n Prefix o (λ z. omega (arith, prefix-sum z n o p t)) (omega arith)) W G;
-        booked = booked-root (booked-none w) (rootOf xs n);
+        booked = booked-root (booked-none (standsView w) (w .heap .lists .eight)) (rootOf xs n);
         tallies = tally-turn Leaf Node4 [];
         took = [];
         wrote = holderItems xs ++ (b ∷ []);
@@ -263,7 +256,7 @@ module _ {f k : List ℕ} {s : State} (w : Stands edition1 f s) {xs : List Step}
       T : Took f f1 (standsView w) Prefix m
       T = take (standsView w) (w .heap) (prefix-room n o kind ks P fits)
 
-      taken-work : Work edition1 f1 (taken (standsView w) Prefix) xs (l .node) ((pathOf xs ++ l .byte ∷ [], node n o kind ks) ∷ []) (body m Prefix (freshAt w) ∷ leftOver (l .node) (P .nodeAt) (l .leaf) (P .leafAt) (P .extent) (l .size))
+      taken-work : Work edition1 f1 (taken (standsView w) Prefix) xs (l .node) ((pathOf xs ++ l .byte ∷ [], node n o kind ks) ∷ beside P) (body m Prefix (freshAt w) ∷ nodeBody P)
       taken-work = work-take (site-open w P) T
 
       prefix-lies : Lies (taken (standsView w) Prefix) m Prefix (freshAt w)
@@ -277,7 +270,7 @@ module _ {f k : List ℕ} {s : State} (w : Stands edition1 f s) {xs : List Step}
 
       fresh-ok : (q : ℕ) → q ≡ placeOf f1 m → (q + 128 ≤ length f1) × (l .child < 4294967296)
       fresh-ok q e =
-          let N = node-parts edition1 f (pathOf xs ++ l .byte ∷ []) n o kind ks (forest-first edition1 f (pathOf xs ++ l .byte ∷ []) (node n o kind ks) [] (site-open w P .trees) .0) .1 .inner .range in
+          let N = node-parts edition1 f (pathOf xs ++ l .byte ∷ []) n o kind ks (forest-first edition1 f (pathOf xs ++ l .byte ∷ []) (node n o kind ks) (beside P) (site-open w P .trees) .0) .1 .inner .range in
           let z = size-least kind (omega arith) (omega arith) in (
             omega (arith, T .entry .placeIs, prefix-lies .ends, T .heap .header .size),
             omega (arith, P .slotIs, slot-in w P n kind o (λ v. omega (arith, node-sum v n o kind ks)) (omega arith) .1),
@@ -287,22 +280,22 @@ module _ {f k : List ℕ} {s : State} (w : Stands edition1 f s) {xs : List Step}
         same-place : q ≡ (freshAt w)
         same-place = eq ∙ T .entry .placeIs
 
-        fresh-work : Work edition1 f2 (taken (standsView w) Prefix) xs (l .node) ((pathOf xs, prefix m (freshAt w) (l .byte ∷ []) (node n o kind ks)) ∷ []) (leftOver (l .node) (P .nodeAt) (l .leaf) (P .leafAt) (P .extent) (l .size))
+        fresh-work : Work edition1 f2 (taken (standsView w) Prefix) xs (l .node) ((pathOf xs, prefix m (freshAt w) (l .byte ∷ []) (node n o kind ks)) ∷ beside P) (nodeBody P)
         fresh-work =
             let e = same-place in
             let W = work-write taken-work (omega arith) (omega arith) (K .0) (omega arith) (omega arith) in
             let A : PrefixAt f2 (freshAt w) (l .byte ∷ []) n = subst (λ z. PrefixAt f2 z (l .byte ∷ []) n) e (subst (λ z. PrefixAt f2 q (l .byte ∷ []) z) (sym (P .slotIs)) (K .1)) in
-            make-prefix (pathOf xs) [] (leftOver (l .node) (P .nodeAt) (l .leaf) (P .leafAt) (P .extent) (l .size)) m (freshAt w) (l .byte ∷ []) (node n o kind ks) W A tt
+            make-prefix (pathOf xs) (beside P) (nodeBody P) m (freshAt w) (l .byte ∷ []) (node n o kind ks) W A tt
 
         booked-prefix : Booked (standsView w) (taken (standsView w) Prefix) (Prefix ∷ []) [] 0 0 (w .nums .R)
         unfolding takenAll
         booked-prefix = booked-row (standsView w) (Prefix ∷ []) (Kinds.cons kind-prefix Kinds.nil) (w .heap .lists .eight)
 
-        node-mid : {f3 : List ℕ} → Relink f2 f3 at m → Mid f f3 k w P
+        node-mid : {f3 : List ℕ} → Relinked f2 f3 at m → Mid f f3 k w P
         node-mid {f3} G =
             let u = prefix m (freshAt w) (l .byte ∷ []) (node n o kind ks) in
             let b = body m Prefix (freshAt w) in
-            let g1 = body (l .leaf) Leaf (P .leafAt) in
+            let g1 = body (l .leaf) Leaf (l .at) in
             let n1 = body (l .node) Node4 (P .nodeAt) in
             let e = same-place in
             let Z = since-write {rs = []} {xs = []} (K .0) (λ a x y. omega (arith, sum-cons (cover a) b [], cover-body a m Prefix (freshAt w) (omega arith) (omega arith))) (since-take kind-prefix (w .heap) (since-start (w .heap)) T) in
@@ -349,7 +342,7 @@ module _ {f k : List ℕ} {s : State} (w : Stands edition1 f s) {xs : List Step}
         node-links (prefix n o p t) i P fits = absurd i
         node-links (node n o kind ks) i P fits = relink-ok at (fresh-work n o kind ks P fits q eq K) L
 
-        pub node-up : {f3 : List ℕ} → Relink f2 f3 at m → (u : Lay) → IsNode u → (P : Site k (w .root) xs l u) → room s (eraseChange edition1 (art (plug xs (pairOf P))) k) ≡ true → Mid f f3 k w P
+        pub node-up : {f3 : List ℕ} → Relinked f2 f3 at m → (u : Lay) → IsNode u → (P : Site k (w .root) xs l u) → room s (eraseChange edition1 (art (plug xs (pairOf P))) k) ≡ true → Mid f f3 k w P
         node-up G (leaf n o e k' v) i P fits = absurd i
         node-up G (prefix n o p t) i P fits = absurd i
         node-up G (node n o kind ks) i P fits = node-mid n o kind ks P fits q eq K G

@@ -1,26 +1,24 @@
-// The six joins, and which of them a spot asks for.
+// The six joins, and which of them the child asks for.
 use crate::finish;
 use crate::prefix;
 use descent::spot::Body;
 use layout::entry::Entry;
 use layout::kind::Kind;
 use room::heap;
-ghost use mathlib.Core.Path.{_≡_};
-ghost use Prim.Native.Nat.{ℕ, _<_};
-ghost use mathlib.Core.List.{List, [], _∷_};
 ghost use Rattle.model.specs.Frame.{IsNode};
-ghost use Rattle.erase_join.specs.Erase.{EraseStep};
-ghost use Rattle.erase_join.specs.Lone.{IsLeaf, IsPrefix, Bare, Capped};
+ghost use Rattle.erase_remove.specs.Erase.{EraseStep};
+ghost use Rattle.erase_join.specs.Lone.{IsLeaf, IsPrefix, Told, Bare, Capped};
 
 // A Node4 that loses its Leaf, and the child that is left.
 pub struct Lone {
     pub node: usize,
+    // the Leaf's slot and the place of its body
     pub leaf: usize,
-    // bytes of the Leaf's extent
-    pub size: usize,
-    // the child's byte, slot and body
+    pub at: usize,
+    // the child's byte and slot, and what its entry says
     pub byte: u8,
     pub child: usize,
+    pub kind: usize,
     pub place: usize,
 }
 
@@ -31,8 +29,8 @@ fn leaf_up(f: &mut [u8], key: &[u8], l: Lone, link: usize)
     requires { ⌜ Bare IsLeaf (now f) (now key) l link ⌝ }
     ensures { λ _. ⌜ EraseStep (now (f .entry)) (now (key .entry)) (now (f .exit)) ⌝ }
 {
-    finish::relink(f, link, l.child);
-    finish::drop_leaf(f, l.leaf, l.node, l.size);
+    leaf_new::relink(f, link, l.child);
+    finish::drop_both(f, l.leaf, l.node, l.at);
 }
 
 // A Prefix does, with the byte in front.
@@ -41,8 +39,8 @@ fn prefix_up(f: &mut [u8], key: &[u8], l: Lone, link: usize)
     ensures { λ _. ⌜ EraseStep (now (f .entry)) (now (key .entry)) (now (f .exit)) ⌝ }
 {
     prefix::front(f, l.place, l.byte);
-    finish::relink(f, link, l.child);
-    finish::drop_leaf(f, l.leaf, l.node, l.size);
+    leaf_new::relink(f, link, l.child);
+    finish::drop_both(f, l.leaf, l.node, l.at);
 }
 
 // An inner node needs a Prefix, which is taken before anything else is written.
@@ -53,8 +51,24 @@ fn node_up(f: &mut [u8], key: &[u8], l: Lone, link: usize)
     let s = heap::take(f, Kind::PREFIX);
     let e = Entry::read(f, s);
     prefix::fresh(f, e.place, l.byte, l.child);
-    finish::relink(f, link, s);
-    finish::drop_leaf(f, l.leaf, l.node, l.size);
+    leaf_new::relink(f, link, s);
+    finish::drop_both(f, l.leaf, l.node, l.at);
+}
+
+// The child's kind chooses.
+pub fn up(f: &mut [u8], key: &[u8], l: Lone, link: usize)
+    requires { ⌜ Bare (Told l) (now f) (now key) l link ⌝ }
+    ensures { λ _. ⌜ EraseStep (now (f .entry)) (now (key .entry)) (now (f .exit)) ⌝ }
+{
+    if l.kind == Kind::LEAF {
+        leaf_up(f, key, l, link);
+        return;
+    }
+    if l.kind == Kind::PREFIX {
+        prefix_up(f, key, l, link);
+        return;
+    }
+    node_up(f, key, l, link);
 }
 
 // ---- the Prefix `above` stands just above the Node4
@@ -64,9 +78,9 @@ fn leaf_over(f: &mut [u8], key: &[u8], l: Lone, above: Body)
     requires { ⌜ Capped IsLeaf (now f) (now key) l above ⌝ }
     ensures { λ _. ⌜ EraseStep (now (f .entry)) (now (key .entry)) (now (f .exit)) ⌝ }
 {
-    finish::relink(f, above.link, l.child);
+    leaf_new::relink(f, above.link, l.child);
     heap::release(f, above.slot, Kind::PREFIX);
-    finish::drop_leaf(f, l.leaf, l.node, l.size);
+    finish::drop_both(f, l.leaf, l.node, l.at);
 }
 
 // A Prefix gives it the byte, its own bytes and its child, and is freed.
@@ -76,7 +90,7 @@ fn prefix_over(f: &mut [u8], key: &[u8], l: Lone, above: Body)
 {
     prefix::onto(f, above.place, l.byte, l.place);
     heap::release(f, l.child, Kind::PREFIX);
-    finish::drop_leaf(f, l.leaf, l.node, l.size);
+    finish::drop_both(f, l.leaf, l.node, l.at);
 }
 
 // An inner node gives it the byte.
@@ -85,5 +99,21 @@ fn node_over(f: &mut [u8], key: &[u8], l: Lone, above: Body)
     ensures { λ _. ⌜ EraseStep (now (f .entry)) (now (key .entry)) (now (f .exit)) ⌝ }
 {
     prefix::back(f, above.place, l.byte, l.child);
-    finish::drop_leaf(f, l.leaf, l.node, l.size);
+    finish::drop_both(f, l.leaf, l.node, l.at);
+}
+
+// The child's kind chooses.
+pub fn over(f: &mut [u8], key: &[u8], l: Lone, above: Body)
+    requires { ⌜ Capped (Told l) (now f) (now key) l above ⌝ }
+    ensures { λ _. ⌜ EraseStep (now (f .entry)) (now (key .entry)) (now (f .exit)) ⌝ }
+{
+    if l.kind == Kind::LEAF {
+        leaf_over(f, key, l, above);
+        return;
+    }
+    if l.kind == Kind::PREFIX {
+        prefix_over(f, key, l, above);
+        return;
+    }
+    node_over(f, key, l, above);
 }

@@ -1,7 +1,7 @@
 -- A Leaf of the forest goes: what the calls of `drop_leaf` ask, and what they leave. Assumes nothing.
-use Prim.Native.Nat.{ℕ, _+_, _-_, _<_, _≤_}
-use mathlib.Core.Path.{_≡_, refl, sym, ap, _∙_}
-use mathlib.Core.List.{List, [], _∷_, _++_}
+use Prim.Native.Nat.{ℕ, _+_, _-_, _≤_}
+use mathlib.Core.Path.{_≡_, refl, ap, _∙_}
+use mathlib.Core.List.{List, _∷_, _++_}
 use native.Mathlib.Omega.{arith}
 use lib.ListN.{length}
 use Rattle.layout.specs.Number.{le}
@@ -11,7 +11,7 @@ use Rattle.layout.specs.Entry.{placeOf}
 use Rattle.model.specs.Edition.{edition1}
 use Rattle.model.specs.Tree.{up8, extentOf}
 use Rattle.model.specs.Item.{Item, body, extent}
-use Rattle.model.specs.Frame.{Lay, LeafOf, View, Heap}
+use Rattle.model.specs.Frame.{Lay, View, Heap}
 use Rattle.model.specs.Frame.Lay.{leaf}
 use Rattle.model.proofs.ItemLaws.{Same}
 use Rattle.room.specs.View.{released, retired, recorded}
@@ -36,11 +36,8 @@ module _ {f : List ℕ} {h : View} {xs : List Step} {s : ℕ} (n o : ℕ) (path 
   W1 = open-leaf path ts loose n o e k v W .0
 
   -- its bytes
-  pub leaf-room : (64 ≤ length f) × (o + 16 ≤ length f)
-  leaf-room =
-      let I = lies n Leaf o _ (W1 .heap) (first-owns W1) (omega arith) (omega arith) in
-      let l = W1 .heap .header .limits in
-      (omega (arith, W1 .heap .header .size), omega (arith, I .ends, W1 .heap .header .size))
+  pub leaf-room : o + 16 ≤ length f
+  leaf-room = let I = lies n Leaf o _ (W1 .heap) (first-owns W1) (omega arith) (omega arith) in omega (arith, I .ends, W1 .heap .header .size)
 
   pub leaf-size : {a b m : ℕ} → a ≡ le 2 f (o + leafKey) → b ≡ le 2 f (o + leafValue) → m ≡ up8 (a + b) → m ≡ size
   leaf-size ea eb em =
@@ -81,8 +78,8 @@ module _ {f : List ℕ} {h : View} {xs : List Step} {s : ℕ} (n o : ℕ) (path 
       W3 : Work edition1 f2 h2 xs s ts loose
       W3 = work-retire W2 C2
 
-      pub leaf-records : (64 ≤ length f2) × (le 4 f2 atR ≡ h .nums .R)
-      leaf-records = let l = W3 .heap .header .limits in (omega (arith, W3 .heap .header .size), W3 .heap .header .recordsAt)
+      pub leaf-records : le 4 f2 atR ≡ h .nums .R
+      leaf-records = W3 .heap .header .recordsAt
 
       pub leaf-dropped : {f3 : List ℕ} {r : ℕ} → r ≡ le 4 f2 atR → ((h : View) → Heap f2 h → Renumbered f2 f3 h (recorded h (r - 1))) → Dropped f f3 h xs s ts loose n o k v
       leaf-dropped {f3} {r} er count =
@@ -91,12 +88,12 @@ module _ {f : List ℕ} {h : View} {xs : List Step} {s : ℕ} (n o : ℕ) (path 
             view = recorded h2 (r - 1);
             work = work-count W3 (r - 1) C3;
             since = λ f0 h0 takes rewrites frees extents Z. since-count (since-retire e size (first-owns W2) (since-free leaf-kind (W1 .heap) (first-owns W1) Z F1) C2) C3;
-            booked = λ h0 takes frees x d d' t ed Z. booked-count (booked-retire (booked-free Z n Leaf o rest1 leaf-kind) size d' rest2 ed) (r - 1) (t - 1) (ap (λ i. i - 1) (er ∙ leaf-records .1 ∙ Z .R));
+            booked = λ h0 takes frees x d d' t ed Z. booked-count (booked-retire (booked-free Z n Leaf o rest1 leaf-kind) size d' rest2 ed) (r - 1) (t - 1) (ap (λ i. i - 1) (er ∙ leaf-records ∙ Z .R));
           }
 
 -- the same of the witness
 module _ {f : List ℕ} {n o : ℕ} (D : Drops f n o) where
-  pub drops-room : (64 ≤ length f) × (o + 16 ≤ length f)
+  pub drops-room : o + 16 ≤ length f
   drops-room = leaf-room n o (D .path) (D .extent) (D .key) (D .value) (D .trees) (D .loose) (D .work)
 
   pub drops-frees : Frees f n Leaf
@@ -111,7 +108,7 @@ module _ {f : List ℕ} {n o : ℕ} (D : Drops f n o) where
     drops-retires = leaf-retires n o (D .path) (D .extent) (D .key) (D .value) (D .trees) (D .loose) (D .work) release size-is
 
     pub drops-records : {f2 : List ℕ} → ((h : View) (o : ℕ) (rest : List Item) → Heap f1 h → Same (h .owned) (extent o m ∷ rest) → Renumbered f1 f2 h (retired h m rest)) → 1 ≤ le 4 f2 atR
-    drops-records retire = omega (arith, leaf-records n o (D .path) (D .extent) (D .key) (D .value) (D .trees) (D .loose) (D .work) release size-is retire .1, D .records)
+    drops-records retire = omega (arith, leaf-records n o (D .path) (D .extent) (D .key) (D .value) (D .trees) (D .loose) (D .work) release size-is retire, D .records)
 
 -- and of any work
 pub drop-law : {f f1 f2 f3 : List ℕ} {n o a b m r : ℕ} → ((h : View) (o : ℕ) (rest : List Item) → Heap f h → Same (h .owned) (body n Leaf o ∷ rest) → placeOf f n ≡ o → Freed f f1 h n Leaf o rest)

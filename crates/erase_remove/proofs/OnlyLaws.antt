@@ -1,12 +1,12 @@
 -- The only record: the tree is its Leaf, and the frame becomes what format leaves. Assumes nothing.
-use Prim.Native.Nat.{ℕ, _+_, _≤_}
+use Prim.Native.Nat.{ℕ, _≤_}
 use mathlib.Core.Path.{_≡_, refl, sym, ap, subst, _∙_}
 use mathlib.Core.List.{List, [], _∷_}
 use mathlib.Core.Option.{some}
 use native.Mathlib.Omega.{arith}
 use lib.ListN.{length}
 use Rattle.layout.specs.Number.{le}
-use Rattle.layout.specs.Place.{atN, dataStart}
+use Rattle.layout.specs.Place.{atN}
 use Rattle.model.specs.Edition.{edition1}
 use Rattle.model.specs.Tree.{Art, findTree}
 use Rattle.model.specs.State.{State, done, formatted, eraseFound, eraseIn, callErase}

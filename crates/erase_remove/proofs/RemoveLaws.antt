@@ -1,8 +1,8 @@
 -- The node that holds the Leaf keeps its kind: what the calls of `remove_child` ask, and what they leave. Assumes nothing.
-use Prim.Native.Nat.{ℕ, _+_, _-_, _<_, _≤_}
+use Prim.Native.Nat.{ℕ, _+_, _<_, _≤_}
 use mathlib.Core.Path.{_≡_, refl, sym, ap, subst, _∙_}
 use mathlib.Core.List.{List, [], _∷_, _++_}
-use mathlib.Core.Bool.{true, false}
+use mathlib.Core.Bool.{false}
 use native.Mathlib.Omega.{arith}
 use native.Mathlib.Decide.{ℕ-discrete}
 use lib.ListN.{length}
@@ -12,8 +12,8 @@ use Rattle.layout.proofs.KindLaws.{fewest-mark}
 use Rattle.model.specs.Edition.{edition1}
 use Rattle.model.specs.Tree.{Art, Change, Left, extentOf, eraseTree}
 use Rattle.model.specs.State.{State, callErase}
-use Rattle.model.specs.Item.{Item, body, cover, leafy, sum}
-use Rattle.model.specs.Frame.{Lay, LayKids, art, items, pairs, View, Stands}
+use Rattle.model.specs.Item.{Item, body, cover, leafy}
+use Rattle.model.specs.Frame.{Lay, LayKids, art, pairs, View, Stands}
 use Rattle.model.specs.Frame.Lay.{leaf, node}
 use Rattle.model.specs.Touch.{Touch, touch, touchErase}
 use Rattle.model.proofs.ItemLaws.{sum-cons}
@@ -40,7 +40,8 @@ use Rattle.erase_remove.specs.Erase.{Stays}
 use Rattle.erase_remove.proofs.DoneLaws.{Result, fits-is, erase-done}
 use Rattle.erase_remove.proofs.SpotLaws.{mark-least, held, xs, path, gone, kids, left, holder, root-is, fits, W0, N0, kids-length, count-is, records-some, left-art, bare, bare-count, node-found, node-erased, node-touched, items-are, leaf-fewer}
 
-booked-none : (h : View) → length (h .lists) ≡ 8 → Booked h h [] [] 0 0 (h .nums .R)
+-- nothing was taken or freed yet
+pub booked-none : (h : View) → length (h .lists) ≡ 8 → Booked h h [] [] 0 0 (h .nums .R)
 unfolding takenAll
 booked-none h e = booked-row h [] nil e
 

@@ -1,14 +1,14 @@
 -- The node that holds the Leaf falls to its mark: what the calls of `shrink` ask, and what they leave. One argument for the three kinds.
 -- Assumes nothing.
-use Prim.Native.Nat.{ℕ, zero, suc, _+_, _-_, _*_, _<_, _≤_}
+use Prim.Native.Nat.{ℕ, zero, suc, _+_, _-_, _<_, _≤_}
 use mathlib.Core.Path.{_≡_, refl, sym, ap, subst, _∙_}
 use mathlib.Core.List.{List, [], _∷_, _++_}
 use mathlib.Core.Logic.{_⊎_, ⊎-elim}
-use mathlib.Core.Bool.{true, false}
+use mathlib.Core.Bool.{false}
 use native.Mathlib.Omega.{arith}
 use native.Mathlib.Decide.{decLt}
 use lib.ListN.{length}
-use Rattle.layout.specs.Number.{byteAt, Bytes, put}
+use Rattle.layout.specs.Number.{Bytes, put}
 use Rattle.layout.specs.Place.{atRoot, entryAt}
 use Rattle.layout.specs.Kind.{Leaf, bodySize, Kind, fewest, most, shrinkMark, kindDown}
 use Rattle.layout.specs.Entry.{placeOf}
@@ -16,9 +16,9 @@ use Rattle.layout.proofs.KindLaws.{size-least, shrunk-enough, shrunk-fits}
 use Rattle.model.specs.Edition.{edition1}
 use Rattle.model.specs.Tree.{Art, Change, Left, extentOf, carried, eraseTree}
 use Rattle.model.specs.State.{State, room, callErase}
-use Rattle.model.specs.Item.{Item, body, onSlot, inside, cover, leafy, sum}
+use Rattle.model.specs.Item.{Item, body, onSlot, cover, leafy, sum}
 use Rattle.model.specs.Body.{childIn, InnerAt}
-use Rattle.model.specs.Frame.{Lay, LayKids, slotOf, art, items, itemsAll, pairs, freed, NodeOf, View, Heap, Stands}
+use Rattle.model.specs.Frame.{Lay, LayKids, slotOf, art, items, itemsAll, pairs, freed, View, Heap, Stands}
 use Rattle.model.specs.Frame.Lay.{leaf, prefix, node}
 use Rattle.model.specs.Frame.LayKids.{nil, kid}
 use Rattle.model.specs.Touch as model
@@ -34,7 +34,7 @@ use Rattle.room.specs.Book as book
 use Rattle.room.specs.Book.{takenAll}
 use Rattle.room.proofs.HeapLaws.{cover-body, lies, took-lies, two-apart}
 use Rattle.room.proofs.BookLaws.{room-first}
-use Rattle.between.specs.Hole.{app, carriedLay, Step, plug, stepsItems}
+use Rattle.between.specs.Hole.{carriedLay, Step, plug, stepsItems}
 use Rattle.between.specs.Work.{rootOf, kidTrees, forestItems, Work}
 use Rattle.between.specs.Lead.{aboveOf}
 use Rattle.between.specs.Since.{holderItems, Accounts}

@@ -1,31 +1,29 @@
 -- The spot of a key that is there: the node that holds its Leaf, and what the model's erase makes of it. Assumes nothing.
-use Prim.Native.Nat.{ℕ, _+_, _-_, _≤_}
+use Prim.Native.Nat.{ℕ, _+_, _≤_}
 use mathlib.Core.Path.{_≡_, refl, sym, ap, subst, _∙_}
-use mathlib.Core.List.{List, [], _∷_, _++_, append-assoc}
+use mathlib.Core.List.{List, [], _∷_, append-assoc}
 use mathlib.Core.Bool.{true, false}
 use mathlib.Core.Option.{some}
 use native.Mathlib.Omega.{arith}
 use lib.ListN.{length}
-use Rattle.layout.specs.Number.{le}
-use Rattle.layout.specs.Place.{nodeCount}
-use Rattle.layout.specs.Kind.{Leaf, shrinkMark, kindDown, fewest, Inner}
+use Rattle.layout.specs.Kind.{Leaf, shrinkMark, kindDown, Inner}
 use Rattle.layout.specs.Kind.Inner.{node4, node16, node48, node256}
 use Rattle.layout.proofs.KindLaws.{range-inner}
-use Rattle.model.specs.Edition.{Edition, edition1}
-use Rattle.model.specs.Tree.{Art, Kids, Change, Left, count, extentOf, lessOne, eraseTree, findTree}
+use Rattle.model.specs.Edition.{edition1}
+use Rattle.model.specs.Tree.{Art, Kids, Left, count, extentOf, lessOne, eraseTree, findTree}
 use Rattle.model.specs.State.{State, room, eraseChange}
 use Rattle.model.specs.Item.{Item, body, extent, leafy, sum}
 use Rattle.model.specs.Frame.{Lay, LayKids, art, artKids, itemsAll, pairs, tree, rootItems, NodeOf, View, Stands}
 use Rattle.model.specs.Frame.Lay.{leaf, node}
 use Rattle.model.specs.Frame.LayKids.{kid}
-use Rattle.model.specs.Touch.{Above, hasByte, touchErase, touchLost}
+use Rattle.model.specs.Touch.{hasByte, touchErase, touchLost}
 use Rattle.model.proofs.StandsGood.{length-pairs}
 use Rattle.model.proofs.StringLaws.{same-refl}
 use Rattle.model.proofs.UniqueLaws.{root-unique, stands-unique}
 use Rattle.inner.specs.Inner.{NodeHas}
 use Rattle.inner.proofs.InnerLaws.{inner-asc, inner-count}
 use Rattle.descent.specs.declared.spot.Spot.{Spot}
-use Rattle.descent.specs.Spot.{Way, Holder, ThisKey}
+use Rattle.descent.specs.Spot.{Topped}
 use Rattle.between.specs.Hole.{app, Step, among, plug, stepPath, pathOf, stepsItems, Link, appKids}
 use Rattle.between.specs.Work.{Work}
 use Rattle.between.specs.Lead.{Foremost, Leads, aboveOf}
@@ -74,6 +72,7 @@ pub record Held (k : List ℕ) (p : Spot) (whole : Lay) : Type 0 where
   pub rest : List ℕ
   pub leads : Leads edition1 k steps (p .byte ∷ rest)
   pub link : Link steps (p .node .link)
+  pub top : Topped steps (p .above)
   pub is : whole ≡ plug steps (node (p .node .slot) (p .node .place) (p .node .kind) (app before (kid (p .byte) place (leaf (p .here .slot) (p .here .place) extent k value) after)))
 
 pub held : {f k : List ℕ} {p : Spot} (P : EraseAt f k p) → Held k p (P .lay)
@@ -92,6 +91,7 @@ held {f} {k} {p} P =
       rest = P .way .rest;
       leads = leads-up (n .slot) (n .place) (n .kind) (H .before) (p .byte) (H .place) (H .after) (H .up) (P .way .rest) (subst (λ (ys : List Step). Leads edition1 k ys (P .way .rest)) (H .is) (P .way .leads));
       link = H .link;
+      top = H .top;
       is = P .way .whole ∙ ap (λ (ys : List Step). plug ys (P .way .sub)) (H .is) ∙ ap (plug (among (n .slot) (n .place) (n .kind) (H .before) (p .byte) (H .place) (H .after) ∷ H .up)) (F .is)
           ∙ plug-among (n .slot) (n .place) (n .kind) (H .before) (p .byte) (H .place) (H .after) (H .up) t;
     }
@@ -132,7 +132,7 @@ module _ {f k : List ℕ} {p : Spot} (P : EraseAt f k p) (s : State) (w : Stands
   abbrev pub N0 : NodeOf f (p .node .place) (p .node .kind) kids
   N0 = open-node path [] [] (p .node .slot) (p .node .place) (p .node .kind) kids W0 .1
 
-  left-none : hasByte (p .byte) (held P .before) ≡ false
+  pub left-none : hasByte (p .byte) (held P .before) ≡ false
   left-none = app-left (p .byte) (held P .place) gone 0 (held P .before) (held P .after) (inner-asc (pairs kids) (N0 .inner))
 
   pub kids-length : length (pairs kids) ≡ length (pairs left) + 1

@@ -1,24 +1,16 @@
+-- A Prefix is taken for an inner node. Assumes nothing.
 use Rattle.erase_join.proofs.SiteLaws.{drops-of, step-of}
 use Rattle.erase_join.proofs.UpLaws.{node-takes, node-entry, node-fresh, node-links, node-up}
 use borrow.Author.Needs.{needs}
 use Rattle.erase_join.proofs.lone.node_up.Statement.{statement}
 use Rattle.erase_join.proofs.lone.node_up.Tie as tie
-use Rattle.erase_join.proofs.lone.node_up.Reads as reads
-use Rattle.erase_join.proofs.lone.node_up.Lts as lts
-use Rattle.erase_join.proofs.finish.drop_leaf.Reads as drop-leaf-reads
-use Rattle.erase_join.proofs.finish.relink.Reads as relink-reads
-use Rattle.erase_join.proofs.prefix.fresh.Reads as fresh-reads
-use Rattle.layout.proofs.entry.Entry.read.Reads as read-reads
-use Rattle.room.proofs.heap.take.Reads as take-reads
 
--- src/lone.rt:53:9
 take-requires : tie.Need-take-requires
 take-requires c κs =
     let z = c .before .before .before in
     let R = z .pre in
     node-takes (R .ready .stands) (R .free) (z .args .link) (R .linkIs) (R .child) (R .is) (R .ready .site) (R .ready .room)
 
--- src/lone.rt:54:9
 read-requires : tie.Need-read-requires
 read-requires c κs =
     let took = c .before .before .before in
@@ -26,7 +18,6 @@ read-requires c κs =
     let R = z .pre in
     node-entry (R .ready .stands) (R .free) (z .args .link) (R .linkIs) (took .take .result) (took .take .ensures) (R .child) (R .is) (R .ready .site) (R .ready .room)
 
--- src/lone.rt:55:5
 fresh-requires : tie.Need-fresh-requires
 fresh-requires c κs =
     let read = c .before in
@@ -35,7 +26,6 @@ fresh-requires c κs =
     let R = z .pre in
     node-fresh (R .ready .stands) (R .free) (z .args .link) (R .linkIs) (took .take .result) (took .take .ensures) (read .read .result .place) (read .read .ensures .1) (R .child) (R .is) (R .ready .site) (R .ready .room)
 
--- src/lone.rt:56:5
 relink-requires : tie.Need-relink-requires
 relink-requires c κs =
     let wrote = c .before .before .before in
@@ -45,9 +35,8 @@ relink-requires c κs =
     let R = z .pre in
     node-links (R .ready .stands) (R .free) (z .args .link) (R .linkIs) (took .take .result) (took .take .ensures) (read .read .result .place) (read .read .ensures .1) (wrote .fresh .ensures) (R .child) (R .is) (R .ready .site) (R .ready .room)
 
--- src/lone.rt:57:5
-drop-leaf-requires : tie.Need-drop-leaf-requires
-drop-leaf-requires c κs =
+drop-both-requires : tie.Need-drop-both-requires
+drop-both-requires c κs =
     let linked = c .before .before .before in
     let wrote = linked .before .before .before .before in
     let read = wrote .before .before in
@@ -56,11 +45,9 @@ drop-leaf-requires c κs =
     let R = z .pre in
     drops-of (R .ready) (λ s w P q. node-up w (R .free) (z .args .link) (R .linkIs) (took .take .result) (took .take .ensures) (read .read .result .place) (read .read .ensures .1) (wrote .fresh .ensures) (linked .relink .ensures) (R .child) (R .is) P q)
 
--- src/lone.rt:49:1
 same-length : tie.Need-same-length
 same-length c = search needs
 
--- src/lone.rt:49:1
 returns : tie.Need-returns
 returns c =
     let linked = c .before .before .before .before .before .before in
@@ -69,7 +56,7 @@ returns c =
     let took = read .before .before .before .before in
     let z = took .before .before .before .before in
     let R = z .pre in
-    step-of (R .ready) (λ s w P q. node-up w (R .free) (z .args .link) (R .linkIs) (took .take .result) (took .take .ensures) (read .read .result .place) (read .read .ensures .1) (wrote .fresh .ensures) (linked .relink .ensures) (R .child) (R .is) P q) (c .before .before .drop-leaf .ensures) (λ i. c .slice-known5 .given i .fits)
+    step-of (R .ready) (λ s w P q. node-up w (R .free) (z .args .link) (R .linkIs) (took .take .result) (took .take .ensures) (read .read .result .place) (read .read .ensures .1) (wrote .fresh .ensures) (linked .relink .ensures) (R .child) (R .is) P q) (c .before .before .drop-both .ensures) (λ i. c .slice-known5 .given i .fits)
 
 pub node-up-spec : {M : Type 1} → statement M
 node-up-spec =
@@ -79,6 +66,6 @@ node-up-spec =
     read-requires
     fresh-requires
     relink-requires
-    drop-leaf-requires
+    drop-both-requires
     same-length
     returns)

@@ -1,39 +1,27 @@
+-- A Prefix of one byte. Assumes nothing.
 use Rattle.erase_join.proofs.PrefixLaws.{fresh-law}
 use borrow.Author.Needs.{needs}
 use Rattle.erase_join.proofs.prefix.fresh.Statement.{statement}
 use Rattle.erase_join.proofs.prefix.fresh.Tie as tie
-use Rattle.erase_join.proofs.prefix.fresh.Reads as reads
-use Rattle.erase_join.proofs.prefix.fresh.Lts as lts
-use Rattle.fields.proofs.body.Prefix.set_child.Reads as set-child-reads
-use Rattle.fields.proofs.body.Prefix.set_length.Reads as set-length-reads
-use Rattle.layout.proofs.number.write1.Reads as write1-reads
-use Rattle.node.proofs.moves.clear.Reads as clear-reads
 
--- src/prefix.rt:17:5
 clear-requires : tie.Need-clear-requires
 clear-requires c κs = search needs
 
--- src/prefix.rt:18:5
 set-child-requires : tie.Need-set-child-requires
 set-child-requires c κs = search needs
 
--- src/prefix.rt:19:5
 set-length-requires : tie.Need-set-length-requires
 set-length-requires c κs = search needs
 
--- src/prefix.rt:20:23
 add-write1 : tie.Need-add-write1
 add-write1 c = search needs
 
--- src/prefix.rt:20:5
 write1-requires : tie.Need-write1-requires
 write1-requires c κs = search needs
 
--- src/prefix.rt:13:1
 same-length : tie.Need-same-length
 same-length c = search needs
 
--- src/prefix.rt:13:1
 returns : tie.Need-returns
 returns c =
     let wrote = c .before .before in

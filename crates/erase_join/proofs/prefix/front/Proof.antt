@@ -1,42 +1,30 @@
+-- A byte joins in front. Assumes nothing.
 use Rattle.erase_join.proofs.PrefixLaws.{front-done}
 use borrow.Author.Needs.{needs}
 use Rattle.erase_join.proofs.prefix.front.Statement.{statement}
 use Rattle.erase_join.proofs.prefix.front.Tie as tie
-use Rattle.erase_join.proofs.prefix.front.Reads as reads
-use Rattle.erase_join.proofs.prefix.front.Lts as lts
-use Rattle.fields.proofs.body.Prefix.length.Reads as length-reads
-use Rattle.fields.proofs.body.Prefix.set_length.Reads as set-length-reads
-use Rattle.node.proofs.moves.open_byte.Reads as open-byte-reads
 
--- src/prefix.rt:28:9
 length-requires : tie.Need-length-requires
 length-requires c κs = search needs
 
--- src/prefix.rt:29:14
 add-at : tie.Need-add-at
 add-at c = search needs
 
--- src/prefix.rt:30:29
 add-open-byte : tie.Need-add-open-byte
 add-open-byte c = search needs
 
--- src/prefix.rt:30:5
 open-byte-requires : tie.Need-open-byte-requires
 open-byte-requires c κs = search needs
 
--- src/prefix.rt:31:30
 add-set-length : tie.Need-add-set-length
 add-set-length c = search needs
 
--- src/prefix.rt:31:5
 set-length-requires : tie.Need-set-length-requires
 set-length-requires c κs = search needs
 
--- src/prefix.rt:24:1
 same-length : tie.Need-same-length
 same-length c = search needs
 
--- src/prefix.rt:24:1
 returns : tie.Need-returns
 returns c =
     let sized = c .before .before in

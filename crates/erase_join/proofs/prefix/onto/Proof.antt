@@ -1,28 +1,18 @@
+-- A byte and the bytes of another Prefix join at the end. Assumes nothing.
 use Rattle.erase_join.proofs.PrefixLaws.{joins-spare, onto-done}
 use borrow.Author.Needs.{needs}
 use Rattle.erase_join.proofs.prefix.onto.Statement.{statement}
 use Rattle.erase_join.proofs.prefix.onto.Tie as tie
-use Rattle.erase_join.proofs.prefix.onto.Reads as reads
-use Rattle.erase_join.proofs.prefix.onto.Lts as lts
-use Rattle.erase_join.proofs.prefix.back.Reads as back-reads
-use Rattle.erase_join.proofs.prefix.copy.Reads as copy-reads
-use Rattle.fields.proofs.body.Prefix.child.Reads as child-reads
-use Rattle.fields.proofs.body.Prefix.length.Reads as length-reads
-use Rattle.fields.proofs.body.Prefix.set_length.Reads as set-length-reads
 
--- src/prefix.rt:63:9
 length-requires : tie.Need-length-requires
 length-requires c κs = search needs
 
--- src/prefix.rt:64:9
 length-requires-2 : tie.Need-length-requires-2
 length-requires-2 c κs = search needs
 
--- src/prefix.rt:65:9
 child-requires : tie.Need-child-requires
 child-requires c κs = search needs
 
--- src/prefix.rt:66:5
 back-requires : tie.Need-back-requires
 back-requires c κs =
     let child = c .before in
@@ -30,43 +20,33 @@ back-requires c κs =
     let long = low .before .before in
     (joins-spare (long .before .before .before .pre), child .child .ensures .1)
 
--- src/prefix.rt:67:13
 add-copy : tie.Need-add-copy
 add-copy c = search needs
 
--- src/prefix.rt:67:34
 add-copy-2 : tie.Need-add-copy-2
 add-copy-2 c = search needs
 
--- src/prefix.rt:67:34
 add-copy-3 : tie.Need-add-copy-3
 add-copy-3 c = search needs
 
--- src/prefix.rt:67:34
 add-copy-4 : tie.Need-add-copy-4
 add-copy-4 c = search needs
 
--- src/prefix.rt:67:5
 copy-requires : tie.Need-copy-requires
 copy-requires c κs = search needs
 
--- src/prefix.rt:68:30
 add-set-length : tie.Need-add-set-length
 add-set-length c = search needs
 
--- src/prefix.rt:68:30
 add-set-length-2 : tie.Need-add-set-length-2
 add-set-length-2 c = search needs
 
--- src/prefix.rt:68:5
 set-length-requires : tie.Need-set-length-requires
 set-length-requires c κs = search needs
 
--- src/prefix.rt:58:1
 same-length : tie.Need-same-length
 same-length c = search needs
 
--- src/prefix.rt:58:1
 returns : tie.Need-returns
 returns c =
     let sized = c .before .before in

@@ -6,10 +6,10 @@ use Rattle.erase_remove.proofs.leaf.drop_leaf.Statement.{statement}
 use Rattle.erase_remove.proofs.leaf.drop_leaf.Tie as tie
 
 key-length-requires : tie.Need-key-length-requires
-key-length-requires c κs = drops-room (c .before .before .pre) .1
+key-length-requires c κs = drops-room (c .before .before .pre)
 
 value-length-requires : tie.Need-value-length-requires
-value-length-requires c κs = drops-room (c .before .before .before .before .pre) .1
+value-length-requires c κs = drops-room (c .before .before .before .before .pre)
 
 release-requires : tie.Need-release-requires
 release-requires c κs = drops-frees (c .before .before .before .before .before .before .pre)
