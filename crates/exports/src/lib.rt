@@ -1,9 +1,10 @@
 // The calls for C and Rust: numbers and slices only. A slice passes as a pointer and a length.
 use answers;
+use store::erase;
 use store::format;
 use store::look;
 ghost use Rattle.model.specs.Edition.{edition1};
-ghost use Rattle.model.specs.Promise.{FormatPromise, CheckPromise};
+ghost use Rattle.model.specs.Promise.{FormatPromise, CheckPromise, ErasePromise};
 ghost use Rattle.exports.specs.LookUp.{LookedUp};
 
 #[no_mangle]
@@ -34,4 +35,11 @@ pub extern "C" fn frame_look_up(frame: &[u8], key: &[u8], place_and_length: &mut
         place_and_length[1] = length as u64;
     }
     n
+}
+
+#[no_mangle]
+pub extern "C" fn frame_erase(frame: &mut [u8], key: &[u8]) -> u32
+    ensures { λ n. ⌜ ErasePromise edition1 (now (frame .entry)) (now (key .entry)) n (now (frame .exit)) ⌝ }
+{
+    answers::erase_number(erase::erase(frame, key))
 }

@@ -1,2 +1,4 @@
 pub mod FormatLaws
 pub mod LookLaws
+pub mod LeftLaws
+pub mod EraseCallLaws

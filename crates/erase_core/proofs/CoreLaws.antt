@@ -1,0 +1,172 @@
+-- The edit that the Leaf's node calls for, and the erase's four ends: absent, the only record, no room, done. Assumes nothing.
+use Prim.Native.Nat.{ℕ, _+_, _-_, _<_, _≤_}
+use mathlib.Core.Path.{_≡_, refl, sym, ap, subst, _∙_}
+use mathlib.Core.List.{List, []}
+use mathlib.Core.Bool.{Bool, true, false}
+use mathlib.Core.Option.{Option, none, some}
+use native.Mathlib.Omega.{arith}
+use lib.ListN.{length, take, drop}
+use Rattle.layout.specs.Kind.{shrinkMark}
+use Rattle.model.specs.Strings.{pick}
+use Rattle.model.specs.Edition.{edition1}
+use Rattle.model.specs.Tree.{Art, Change, Left}
+use Rattle.model.specs.State as state
+use Rattle.model.specs.State.{State, Done, done, room, findIn, eraseChange, eraseIn, callErase}
+use Rattle.model.specs.Records.{recordsOf}
+use Rattle.model.specs.Body.{InnerAt}
+use Rattle.model.specs.Frame.{art, pairs, rootArt, Stands}
+use Rattle.model.specs.Promise.{changes}
+use Rattle.model.proofs.StringLaws.{clash}
+use Rattle.model.proofs.Edition1.{lawful1}
+use Rattle.model.proofs.GoodState.{TreeOk, GoodState}
+use Rattle.model.proofs.StandsGood.{stands-good}
+use Rattle.model.proofs.PackedLaws.{records-some}
+use Rattle.model.proofs.UniqueLaws.{stands-unique}
+use Rattle.inner.proofs.InnerLaws.{inner-count}
+use Rattle.room.specs.declared.fit.Room.{Room}
+use Rattle.room.specs.declared.fit.Needs.{Needs}
+use Rattle.room.specs.Fit.{Fit, RoomOf}
+use Rattle.room.proofs.FitLaws.{fits-room}
+use Rattle.between.proofs.EraseLaws.{erase-is}
+use Rattle.descent.specs.declared.spot.Spot.{Spot}
+use Rattle.descent.specs.Lookup.{valueIn}
+use Rattle.descent.specs.Spot.{SpotAt, InTree}
+use Rattle.descent.proofs.LookLaws.{value-stands, found-leaf, spot-none}
+use Rattle.erase_remove.specs.Erase.{EraseAt, Stays, Falls, EraseStep, OnlyAt, OnlyStep, counted}
+use Rattle.erase_remove.proofs.SpotLaws.{kids, N0}
+use Rattle.erase_remove.proofs.OnlyLaws.{only-at}
+use Rattle.erase_join.specs.Erase.{Pair}
+use Rattle.plan.specs.Erase.{EraseFrom, Erasing, ErasePlan}
+use Rattle.plan.proofs.PutLaws.{inner-fits}
+use Rattle.erase_core.specs.Core as core
+use Rattle.erase_core.specs.Core.{Roomed, EraseMade}
+
+-- ---- what each edit counts on
+
+module _ {f k : List ℕ} {p : Spot} (P : EraseAt f k p) where
+  inner-at : InnerAt f (p .node .place) (p .node .kind) (pairs (kids P (P .st) (P .stands)))
+  inner-at = N0 P (P .st) (P .stands) .inner
+
+  pub node-fits : (p .node .place + 2 ≤ length f) × (p .node .kind < 9)
+  node-fits = inner-fits (pairs (kids P (P .st) (P .stands))) inner-at
+
+  -- m: the children that are counted; g: the mark
+  module _ {m g : ℕ} (count : (kind : ℕ) (ks : List (ℕ × ℕ)) → InnerAt f (p .node .place) kind ks → m ≡ length ks) (mark : g ≡ shrinkMark (p .node .kind)) where
+    count-is : counted f p ≡ m
+    count-is = inner-count (pairs (kids P (P .st) (P .stands))) inner-at ∙ sym (count (p .node .kind) _ inner-at)
+
+    pub at-keeps : (m ≡ g + 1 → ⊥) → Stays f k p
+    at-keeps d = record { erase = P; more = λ z. d (omega (arith, count-is)) }
+
+    pub at-pair : m ≡ g + 1 → p .node .kind ≡ 4 → Pair f k p
+    at-pair d e = record { at = P; kind = e; two = omega (arith, count-is, ap shrinkMark e) }
+
+    pub at-mark : m ≡ g + 1 → (p .node .kind ≡ 4 → ⊥) → Falls f k p
+    at-mark d e = let r = inner-at .range in record { erase = P; large = omega arith; mark = omega (arith, count-is) }
+
+-- ---- the erase
+
+differ : _≡_ {A = Bool} true false → ⊥
+differ z = clash (cc)
+
+-- a number that changes nothing is not 0
+pub never-zero : (n : ℕ) → changes n ≡ false → n ≡ 0 → ⊥
+never-zero n z e = differ (sym (ap changes e) ∙ z)
+
+-- the frame and its state are left
+pub left-same : {f : List ℕ} (k : List ℕ) (n : ℕ) {s : State} (w : Stands edition1 f s) {d : Done} → changes n ≡ false → d ≡ done n s → core.Left f k n f s w d
+left-same {f} k n {s} w z e = subst (core.Left f k n f s w) (sym e) (w, λ q. absurd (never-zero n z q))
+
+unchanged : {f : List ℕ} (k : List ℕ) (n : ℕ) → changes n ≡ false → ((s : State) → Stands edition1 f s → callErase edition1 s k ≡ done n s) → EraseMade f k n f
+unchanged {f} k n z is =
+    record {
+      answer = λ s w. sym (ap (λ (d : Done). d .answer) (is s w));
+      after = λ s w. left-same k n w z (is s w);
+      only = λ s w e. absurd (never-zero n z e);
+      kept = λ e. refl;
+    }
+
+absent-is : (s : State) (k : List ℕ) (t : Option Art) → findIn edition1 t k ≡ none → eraseIn edition1 s k t ≡ done 8 s
+absent-is s k none e = refl
+absent-is s k (some a) e = rw e refl
+
+-- a state with a tree has records
+some-left : (s : State) (a : Art) → GoodState edition1 s → s .tree ≡ some a → 1 ≤ s .R
+some-left s a G e =
+    let T : TreeOk edition1 (some a) = rw e at (G .well) in
+    let n : s .R ≡ length (recordsOf (some a)) = rw e at (G .recs) in
+    omega (arith, records-some lawful1 a [] T)
+
+pub only-made : {f k f' : List ℕ} → OnlyStep f k f' → EraseMade f k 0 f'
+only-made O =
+    record {
+      answer = λ s w. sym (O .step .answer s w);
+      after = λ s w. (O .step .after s w .0, λ z. O .step .after s w .1);
+      only = λ s w z e. O .image s w;
+      kept = λ z. absurd (differ z);
+    }
+
+module _ {f k : List ℕ} {r : Room} (A : Roomed f k r) {p : Spot} (S : (s : State) (w : Stands edition1 f s) → SpotAt k (w .root) p) where
+  pub absent : (p .end ≡ 2 → ⊥) → EraseMade f k 8 f
+  absent n = unchanged k 8 refl (λ s w. absent-is s k (s .tree) (value-stands k w ∙ ap (valueIn f) (spot-none (S s w) n)))
+
+  module _ (found : p .end ≡ 2) where
+    inside : {s : State} (w : Stands edition1 f s) → InTree k (w .root) p
+    inside {s} w = S s w .inTree (λ z. omega (arith, found))
+
+    pub only : p .node .slot ≡ 0 → OnlyAt f k
+    only z = let I = inside (A .stands) in only-at (A .stands) (I .is) (I .spot .way) (I .spot .found found) z
+
+    module _ (held : p .node .slot ≡ 0 → ⊥) where
+      pub from : EraseFrom f k p
+      from = record { st = A .st; stands = A .stands; spot = S (A .st) (A .stands); found = found; held = omega arith }
+
+      module _ {n : Needs} (N : ErasePlan f k p n) where
+        erasing : (s : State) (w : Stands edition1 f s) → Erasing k (art (inside w .lay)) n
+        erasing s w = N .erasing s w (S s w) (inside w .lay) (inside w .is)
+
+        -- the state after, if there is room
+        abbrev fewer : (s : State) → Stands edition1 f s → State
+        fewer s w = state.after s (eraseChange edition1 (art (inside w .lay)) k) (s .R - 1) (some (erasing s w .left))
+
+        some-fewer : {f' : List ℕ} (s : State) (w : Stands edition1 f s) → Stands edition1 f' (fewer s w) → 2 ≤ s .R
+        some-fewer {f'} s w w' = omega (arith, some-left (fewer s w) (erasing s w .left) (stands-good edition1 f' (fewer s w) w') refl)
+
+      module _ {n : Needs} (N : ErasePlan f k p n) {b : Bool} (F : (b ≡ true → Fit r n) × (Fit r n → b ≡ true)) where
+        room-any : (s : State) (w : Stands edition1 f s) → b ≡ room s (eraseChange edition1 (art (inside w .lay)) k)
+        room-any s w = fits-room (eraseChange edition1 (art (inside w .lay)) k) (erasing N s w .asks) (subst (RoomOf r) (stands-unique edition1 f (A .st) s (A .stands) w) (A .room)) F
+
+        call-is : (s : State) (w : Stands edition1 f s) {x : Bool} → b ≡ x → callErase edition1 s k ≡ pick x (done 0 (fewer N s w)) (done 6 s)
+        call-is s w e =
+            let a = art (inside w .lay) in
+            let L = found-leaf w (S s w) found in
+            let et : s .tree ≡ some a = ap (λ (z : State). z .tree) (w .state) ∙ ap rootArt (inside w .is) in
+            let ef : findIn edition1 (some a) k ≡ some (take (length (L .value)) (drop (L .extent + length k) f)) = ap (λ t. findIn edition1 t k) (sym et) ∙ value-stands k w ∙ ap (valueIn f) (L .look) in
+            erase-is edition1 s k _ a (erasing N s w .left) (eraseChange edition1 a k) et ef refl (erasing N s w .leaves) ∙ ap (λ y. pick y (done 0 (fewer N s w)) (done 6 s)) (sym (room-any s w) ∙ e)
+
+        pub no-room : b ≡ false → EraseMade f k 6 f
+        no-room e = unchanged k 6 refl (λ s w. call-is s w e)
+
+        pub at-spot : b ≡ true → EraseAt f k p
+        at-spot e =
+            let I = inside (A .stands) in
+            record {
+              st = A .st;
+              stands = A .stands;
+              lay = I .lay;
+              is = I .is;
+              way = I .spot .way;
+              found = I .spot .found found;
+              held = omega arith;
+              legal = A .legal;
+              room = sym (room-any (A .st) (A .stands)) ∙ e;
+            }
+
+        pub erased : {f' : List ℕ} → b ≡ true → EraseStep f k f' → EraseMade f k 0 f'
+        erased {f'} e T =
+            record {
+              answer = λ s w. sym (T .answer s w);
+              after = λ s w. (T .after s w .0, λ z. T .after s w .1);
+              only = λ s w z o. let m = some-fewer N s w (subst (λ (d : Done). Stands edition1 f' (d .state)) (call-is s w e) (T .after s w .0)) in absurd (omega arith);
+              kept = λ z. absurd (differ z);
+            }

@@ -1,0 +1,97 @@
+-- Erase's ends: refused by the check or the key, or what the erase on a good frame has made. Assumes nothing.
+use Prim.Native.Nat.{ℕ}
+use mathlib.Core.Path.{_≡_, refl, sym, ap, subst, _∙_}
+use mathlib.Core.List.{List}
+use mathlib.Core.Bool.{false}
+use native.Mathlib.Omega.{arith}
+use lib.ListN.{getD}
+use Rattle.layout.specs.Number.{Bytes}
+use Rattle.fields.specs.declared.header.Header.{Header}
+use Rattle.model.specs.Edition.{edition1}
+use Rattle.model.specs.State.{State, Done, done, unless, callErase, onErase}
+use Rattle.model.specs.Frame.{Good}
+use Rattle.model.specs.Promise.{changes, CheckPromise, ErasePromise}
+use Rattle.model.proofs.StandsGood.{bytes-text}
+use Rattle.audit.specs.Audit.{AuditTold}
+use Rattle.room.specs.declared.fit.Room.{Room}
+use Rattle.erase_core.specs.Core.{Left, Roomed, EraseMade}
+use Rattle.erase_core.proofs.CoreLaws.{never-zero, left-same}
+use Rattle.store.specs.Left.{Within, RoomLeft}
+use Rattle.store.proofs.LookLaws.{told-good, check-two, key-four, standing}
+use Rattle.store.proofs.LeftLaws.{within}
+
+module _ (f k : List ℕ) where
+  -- the check refuses
+  refused-frame : (n : ℕ) → CheckPromise edition1 f n → (n ≡ 0 → ⊥) → ErasePromise edition1 f k n f
+  refused-frame n p ne =
+      record {
+        told = p .told;
+        answer = λ s w. absurd (ne (p .good0 (s, w)));
+        after = λ s w. absurd (ne (p .good0 (s, w)));
+        only = λ s w. absurd (ne (p .good0 (s, w)));
+        kept = λ z. refl;
+      }
+
+  key-is : (x : ℕ) → edition1 .keyFault k ≡ x → (s : State) → onErase edition1 s k ≡ unless x s (callErase edition1 s k)
+  key-is x e s = ap (λ i. unless i s (callErase edition1 s k)) e
+
+  -- the key is refused
+  refused-key : Good edition1 f → (n : ℕ) → changes n ≡ false → ((s : State) → onErase edition1 s k ≡ done n s) → ErasePromise edition1 f k n f
+  refused-key g n z is =
+      record {
+        told = told-good f n g;
+        answer = λ s w. sym (ap (λ (d : Done). d .answer) (is s));
+        after = λ s w. left-same k n w z (is s);
+        only = λ s w e. absurd (never-zero n z e);
+        kept = λ e. refl;
+      }
+
+  -- it is legal
+  made : Good edition1 f → {n : ℕ} {f' : List ℕ} → ((s : State) → onErase edition1 s k ≡ callErase edition1 s k) → EraseMade f k n f' → ErasePromise edition1 f k n f'
+  made g {n} {f'} is M =
+      record {
+        told = told-good f n g;
+        answer = λ s w. M .answer s w ∙ sym (ap (λ (d : Done). d .answer) (is s));
+        after = λ s w. subst (Left f k n f' s w) (sym (is s)) (M .after s w);
+        only = M .only;
+        kept = M .kept;
+      }
+
+-- ---- the ends, by the tests that led there: n is the check's number, e the key's fault
+
+module _ (f k : List ℕ) {n m : ℕ} (is : n ≡ m) {free : List ℕ} {h : Header} (T : AuditTold f m free h) where
+  checked : CheckPromise edition1 f n
+  checked = rw is (T .promise)
+
+  pub erase-one : n ≡ 1 → ErasePromise edition1 f k 1 f
+  erase-one e = refused-frame f k 1 (rw e at checked) (λ z. omega arith)
+
+  pub erase-two : (n ≡ 0 → ⊥) → (n ≡ 1 → ⊥) → ErasePromise edition1 f k 2 f
+  erase-two x y = let e = check-two f n checked x y in refused-frame f k 2 (rw e at checked) (λ z. omega arith)
+
+  module _ (good : n ≡ 0) where
+    stands : Good edition1 f
+    stands = let S = standing f k n m is (T .promise) good in (S .st, S .stands)
+
+    pub erase-within : Within h
+    erase-within = within (stands .1) (T .room (stands .0) (stands .1))
+
+    module _ {e : ℕ} (fault : e ≡ edition1 .keyFault k) where
+      pub erase-three : e ≡ 3 → ErasePromise edition1 f k 3 f
+      erase-three x = refused-key f k stands 3 refl (key-is f k 3 (sym fault ∙ x))
+
+      pub erase-four : (e ≡ 3 → ⊥) → (e ≡ 0 → ⊥) → ErasePromise edition1 f k 4 f
+      erase-four x y = refused-key f k stands 4 refl (key-is f k 4 (key-four k (λ z. y (fault ∙ z)) (λ z. x (fault ∙ z))))
+
+      module _ (legal : e ≡ 0) where
+        pub erase-roomed : {r : Room} → RoomLeft free h r → Bytes k → Roomed f k r
+        erase-roomed R bk =
+            record {
+              st = stands .0;
+              stands = stands .1;
+              legal = record { passes = sym fault ∙ legal; bytes = bytes-text k 0 k bk (λ i l. ap (λ j. getD k j 0) (omega arith)) };
+              room = R .of (stands .0) (stands .1 .root) (T .room (stands .0) (stands .1));
+            }
+
+        pub erase-made : {x : ℕ} {f' : List ℕ} → EraseMade f k x f' → ErasePromise edition1 f k x f'
+        erase-made M = made f k stands (key-is f k 0 (sym fault ∙ legal)) M

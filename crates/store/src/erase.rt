@@ -1,0 +1,30 @@
+// Erase: refused in the order of document 01, absent, or done.
+use crate::left;
+use answers::Erase;
+use answers::Refusal;
+use descent::key;
+ghost use Rattle.answers.specs.Number.{eraseNumber};
+ghost use Rattle.model.specs.Edition.{edition1};
+ghost use Rattle.model.specs.Promise.{ErasePromise};
+
+pub fn erase(frame: &mut [u8], key: &[u8]) -> Erase
+    ensures { λ r. ⌜ ErasePromise edition1 (now (frame .entry)) (now (key .entry)) (eraseNumber r) (now (frame .exit)) ⌝ }
+{
+    let a = audit::check(frame);
+    let verdict = a.verdict;
+    let n = answers::check_number(verdict);
+    if n == 1 {
+        return Erase::Refused(Refusal::Length);
+    }
+    if n != 0 {
+        return Erase::Refused(Refusal::Frame);
+    }
+    let fault = key::fault(key);
+    if fault == 3 {
+        return Erase::Refused(Refusal::KeyLength);
+    }
+    if fault != 0 {
+        return Erase::Refused(Refusal::KeyZero);
+    }
+    erase_core::erase(frame, key, left::room_left(a))
+}
