@@ -1,10 +1,12 @@
 // The calls for C and Rust: numbers and slices only. A slice passes as a pointer and a length.
 use answers;
+use pack;
 use store::erase;
 use store::format;
 use store::look;
+use store::put;
 ghost use Rattle.model.specs.Edition.{edition1};
-ghost use Rattle.model.specs.Promise.{FormatPromise, CheckPromise, ErasePromise};
+ghost use Rattle.model.specs.Promise.{FormatPromise, CheckPromise, PutPromise, ErasePromise, PackPromise};
 ghost use Rattle.exports.specs.LookUp.{LookedUp};
 
 #[no_mangle]
@@ -38,8 +40,22 @@ pub extern "C" fn frame_look_up(frame: &[u8], key: &[u8], place_and_length: &mut
 }
 
 #[no_mangle]
+pub extern "C" fn frame_put(frame: &mut [u8], key: &[u8], value: &[u8]) -> u32
+    ensures { λ n. ⌜ PutPromise edition1 (now (frame .entry)) (now (key .entry)) (now (value .entry)) n (now (frame .exit)) ⌝ }
+{
+    answers::put_number(put::put(frame, key, value))
+}
+
+#[no_mangle]
 pub extern "C" fn frame_erase(frame: &mut [u8], key: &[u8]) -> u32
     ensures { λ n. ⌜ ErasePromise edition1 (now (frame .entry)) (now (key .entry)) n (now (frame .exit)) ⌝ }
 {
     answers::erase_number(erase::erase(frame, key))
+}
+
+#[no_mangle]
+pub extern "C" fn frame_pack(frame: &[u8], out: &mut [u8]) -> u32
+    ensures { λ n. ⌜ PackPromise edition1 (now (frame .entry)) (now (out .entry)) n (now (out .exit)) ⌝ }
+{
+    answers::pack_number(pack::pack(frame, out))
 }

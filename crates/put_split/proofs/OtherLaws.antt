@@ -112,13 +112,13 @@ module _ {f k v : List ℕ} {p : Spot} (A : AtOther f k v p) where
       ∙ shared-is k (A .other .key) (pathOf xs) (A .put .way .leads .word) old-word Q
 
   pub to-short : p .depth + p .shared ≤ length k
-  to-short = let a = shares in let d = A .put .way .deep in omega (arith, part-short k (A .other .key) (pathOf xs) (A .put .way .leads .word) old-word Q (A .put .ready .legal .passes))
+  to-short = let a = shares in let d = A .put .way .deep in omega (arith, part-short k (pathOf xs) (A .put .way .leads .word) Q (A .put .ready .legal .passes))
 
   pub key-short : length k ≤ 112
   key-short = key-passes k (A .put .ready .legal .passes) .short
 
   new-byte : getD (edition1 .walked k) (p .depth + p .shared) 0 ≡ Q .b
-  new-byte = ap (λ i. getD (edition1 .walked k) (i + p .shared) 0) (A .put .way .deep) ∙ ap (λ i. getD (edition1 .walked k) (length (pathOf xs) + i) 0) shares ∙ byte-here k (A .other .key) (pathOf xs) (A .put .way .leads .word) old-word Q
+  new-byte = ap (λ i. getD (edition1 .walked k) (i + p .shared) 0) (A .put .way .deep) ∙ ap (λ i. getD (edition1 .walked k) (length (pathOf xs) + i) 0) shares ∙ byte-here k (pathOf xs) (A .put .way .leads .word) Q
 
   module _ {c : ℕ} (ec : (e : ℕ) (k' v' : List ℕ) → LeafAt f (p .here .place) e k' v' → c ≡ getD (edition1 .walked k') (p .depth + p .shared) 0) where
     old-byte : c ≡ Q .c
@@ -277,7 +277,7 @@ module _ {f k v : List ℕ} {p : Spot} (A : AtOther f k v p) where
               part =
                   let q : to - p .depth ≡ length (Q .w) = omega (arith, shares) in
                   ap (λ i. take i (drop (p .depth) k)) q ∙ ap (λ i. take (length (Q .w)) (drop i k)) (A .put .way .deep)
-                  ∙ part-is k (A .other .key) (pathOf xs) (A .put .way .leads .word) old-word Q (A .put .ready .legal .passes)
+                  ∙ part-is k (pathOf xs) (A .put .way .leads .word) Q (A .put .ready .legal .passes)
 
               pub write-ok : (let b = take (to - p .depth) (drop (p .depth) k) in (o + 128 ≤ length f3) × (1 ≤ length b) × (length b ≤ 112) × (m < 4294967296))
               write-ok =

@@ -92,7 +92,7 @@ module _ {f : List ℕ} {st : State} {w : Stands edition1 f st} {k : List ℕ} {
     whole = ap (λ x. pathOf xs ++ x) none ∙ append-nil (pathOf xs)
 
     here : Begins (edition1 .walked k) (pathOf xs ++ P .parted .b ∷ [])
-    here = subst (λ p. Begins (edition1 .walked k) (p ++ P .parted .b ∷ [])) whole (begins-here k k' (pathOf xs) (P .word) (P .word') (P .parted))
+    here = subst (λ p. Begins (edition1 .walked k) (p ++ P .parted .b ∷ [])) whole (begins-here k (pathOf xs) (P .word) (P .parted))
 
     there : Begins (edition1 .walked k') (pathOf xs ++ P .parted .c ∷ [])
     there = subst (λ p. Begins (edition1 .walked k') (p ++ P .parted .c ∷ [])) whole (begins-there k k' (pathOf xs) (P .word) (P .word') (P .parted))
@@ -125,7 +125,7 @@ module _ {f : List ℕ} {st : State} {w : Stands edition1 f st} {k : List ℕ} {
             let bs : List Item = body (G .leaf) Leaf (placeFrom h1 (listOf h1 Leaf)) ∷ b4 ∷ [] in
             let fits = took-slot T node4-kind in
             let e8 = w .heap .lists .eight in
-            let bytes-of : getD (edition1 .walked k) d 0 ≡ P .parted .b = ap (λ i. getD (edition1 .walked k) i 0) (omega (arith, ap length none)) ∙ byte-here k k' (pathOf xs) (P .word) (P .word') (P .parted) in
+            let bytes-of : getD (edition1 .walked k) d 0 ≡ P .parted .b = ap (λ i. getD (edition1 .walked k) i 0) (omega (arith, ap length none)) ∙ byte-here k (pathOf xs) (P .word) (P .parted) in
             record {
               change = newKey k v (fork (P .parted .b) (Art.leaf k v) (P .parted .c) (Art.leaf k' v')) (Node4 ∷ []) [];
               puts = put-none;
@@ -185,7 +185,7 @@ module _ {f : List ℕ} {st : State} {w : Stands edition1 f st} {k : List ℕ} {
         knot = node m place4 Node4 (forkKids (P .parted .b) (leafIn view2 (G .leaf) k v) (P .parted .c) (leaf n o e k' v'))
 
         pub forked-two : Work edition1 f3 (leafView view2 k v) xs n ((pathOf xs ++ P .parted .w, knot) ∷ []) (body top Prefix place2 ∷ [])
-        forked-two = fork-work (pathOf xs ++ P .parted .w) [] place4 (leaf n o e k' v') taken-two G refl room-two (P .legal) (begins-here k k' (pathOf xs) (P .word) (P .word') (P .parted))
+        forked-two = fork-work (pathOf xs ++ P .parted .w) [] place4 (leaf n o e k' v') taken-two G refl room-two (P .legal) (begins-here k (pathOf xs) (P .word) (P .parted))
 
         pub top-place : placeOf f3 top ≡ place2
         top-place = entries-first f3 top Prefix place2 [] (forked-two .entries) .0 .placeIs
@@ -212,7 +212,7 @@ module _ {f : List ℕ} {st : State} {w : Stands edition1 f st} {k : List ℕ} {
               let suits = suits-any xs old crown (λ z. z) (work-open xs old [] (work-of w (plug xs old) (P .is)) refl .1) in
               let deep : drop d (edition1 .walked k) ≡ P .parted .w ++ (P .parted .b ∷ P .parted .s) = ap (drop d) (P .word) ∙ drop-append-seam (pathOf xs) (P .rest) ∙ P .parted .left in
               let Z2 = since-take prefix-kind (T .heap) (since-take node4-kind (w .heap) (since-start (w .heap)) T) U in
-              let Z3 = fork-since (pathOf xs ++ P .parted .w) [] place4 old taken-two G refl room-two (P .legal) (begins-here k k' (pathOf xs) (P .word) (P .word') (P .parted)) Z2
+              let Z3 = fork-since (pathOf xs ++ P .parted .w) [] place4 old taken-two G refl room-two (P .legal) (begins-here k (pathOf xs) (P .word) (P .parted)) Z2
               (λ a. omega (arith, sum-cons (cover a) b2 (b4 ∷ []), sum-cons (cover a) b4 [])) in
               let Z4 = since-write (Y .only) (λ a l u. omega (arith, cover-body a top Prefix place2 (omega arith) (omega arith), sum-cons (cover a) b1 (b2 ∷ b4 ∷ []), sum-cons (cover a) b2 (b4 ∷ []))) Z3 in
               record {
@@ -244,7 +244,7 @@ module _ {f : List ℕ} {st : State} {w : Stands edition1 f st} {k : List ℕ} {
                 accounts = accounts (Leaf ∷ Node4 ∷ Prefix ∷ []) bs
                     (record { takes = tt; frees = λ s. refl; kindsIn = tt; slotsIn = holders-in w xs old (P .is) opened; freesIn = λ z. omega (arith, sum-none z); rewritesIn = holders-some w xs old (P .is) });
                 look = prefix-look k (P .parted .w) (P .parted .b ∷ P .parted .s) d top place2 knot deep
-                    ∙ fork-look k (d + length (P .parted .w)) m place4 (P .parted .b) new (P .parted .c) old (byte-here k k' (pathOf xs) (P .word) (P .word') (P .parted)) (P .parted .apart)
+                    ∙ fork-look k (d + length (P .parted .w)) m place4 (P .parted .b) new (P .parted .c) old (byte-here k (pathOf xs) (P .word) (P .parted)) (P .parted .apart)
                     ∙ leaf-look edition1 (G .leaf) (placeFrom view2 (listOf view2 Leaf)) (taken view2 Leaf .nums .B) k v (d + length (P .parted .w) + 1);
                 fromB = λ z. from-three h0 k v e8;
               }

@@ -3,3 +3,4 @@ pub mod erase;
 pub mod format;
 mod left;
 pub mod look;
+pub mod put;

@@ -1,0 +1,239 @@
+-- The image of a good frame: of no records it is what format leaves; else the root's tree is packed from slot 1 and from D on, the header says
+-- how far, and all else is zero. Assumes nothing.
+use Prim.Native.Nat.{ℕ, _+_, _-_, _*_, _<_, _≤_}
+use mathlib.Core.Path.{_≡_, refl, sym, ap, subst, _∙_}
+use mathlib.Core.List.{List, [], _++_}
+use mathlib.Core.Option.{Option, none, some}
+use mathlib.Core.Logic.{inr}
+use native.Mathlib.Omega.{arith}
+use native.Mathlib.Decide.{decLe}
+use lib.ListN.{length}
+use Rattle.layout.specs.Place.{dataStart}
+use Rattle.layout.specs.Kind.{Leaf, Prefix, bodySize}
+use Rattle.model.specs.Edition.{edition1}
+use Rattle.model.specs.Tree.{Art}
+use Rattle.model.specs.Records.{recordsOf}
+use Rattle.model.specs.State.{State}
+use Rattle.model.specs.Image.{numbers, packedTree, slots, size, entries, bodies, header, image, imageOf}
+use Rattle.model.specs.Item.{Item, body, onSlot, cover, sum}
+use Rattle.model.specs.Body.{Zero}
+use Rattle.model.specs.Frame.{Lay, LayKids, Root, bare, tree, rootArt, rootSlot, rootItems, slotOf, art, items, itemsAll, freed, Tree, RootAt}
+use Rattle.model.specs.Frame.Lay.{leaf, prefix, node}
+use Rattle.model.specs.Frame.LayKids.{nil, kid}
+use Rattle.model.proofs.Well.{Well}
+use Rattle.model.proofs.GoodState.{GoodAt}
+use Rattle.model.proofs.ItemLaws.{in-yes, sum-app}
+use Rattle.model.proofs.Edition1.{lawful1}
+use Rattle.model.proofs.StandsGood.{tree-well, stands-good, stands-heads}
+use Rattle.model.proofs.StateLaws.{pack-fits, image-is}
+use Rattle.model.proofs.PackStands.{empty-none}
+use Rattle.model.proofs.PackedLaws.{packed-well}
+use Rattle.model.proofs.PackedBytes.{length-entries}
+use Rattle.model.proofs.UniqueLaws.{tree-unique}
+use Rattle.node.specs.Moved.{Cleared}
+use Rattle.blank.specs.Limits.{Limits}
+use Rattle.pack_body.specs.Part.{HeaderWritten}
+use Rattle.pack_body.proofs.HasLaws.{has-only}
+use Rattle.pack_body.proofs.ImageParts.{Parts, image-of-parts}
+use Rattle.pack.specs.declared.bodies.Next.{Next}
+use Rattle.pack.specs.Laid.{Laid}
+use Rattle.pack.specs.Walk.{longestWalk, SlotIn, Inside, InsideAll, packedLay, TreeReady, TreePacked}
+use Rattle.pack.specs.Image.{Known, Imaged}
+use Rattle.pack.proofs.LaidLaws.{laid-as}
+use Rattle.pack.proofs.WalkLaws.{length-packed}
+
+-- ---- entries and Leaves of a good frame lie in it
+
+-- some of the items of a good frame: their slots are 1 to u, and they end before b
+record Among (u b : ℕ) (is : List Item) : Type 0 where
+  pub zeroth : sum (onSlot 0) is ≡ 0
+  pub past : (s : ℕ) → u < s → sum (onSlot s) is ≡ 0
+  pub high : (a : ℕ) → b ≤ a → sum (cover a) is ≡ 0
+
+-- fewer of them
+among-less : {u b : ℕ} {is js : List Item} → ((w : Item → ℕ) → sum w js ≤ sum w is) → Among u b is → Among u b js
+among-less h A =
+    record { zeroth = omega (arith, h (onSlot 0), A .zeroth); past = λ s l. omega (arith, h (onSlot s), A .past s l); high = λ a l. omega (arith, h (cover a), A .high a l) }
+
+module _ (f : List ℕ) (u b : ℕ) (table : 64 + 4 * u ≤ length f) (within : b ≤ length f) where
+  module _ (s kind o : ℕ) (is : List Item) (h : (w : Item → ℕ) → w (body s kind o) ≤ sum w is) (A : Among u b is) where
+    slot-inside : SlotIn f s
+    unfolding onSlot
+    slot-inside =
+        record {
+          first = elim (decLe 1 s) [ yes p ↦ p | no p ↦ absurd (omega (arith, in-yes s 1 0 (omega arith) (omega arith), h (onSlot 0), A .zeroth)) ];
+          last = elim (decLe s u) [ yes p ↦ omega arith | no p ↦ absurd (omega (arith, in-yes s 1 s (omega arith) (omega arith), h (onSlot s), A .past s (omega arith))) ];
+        }
+
+    body-inside : 1 ≤ bodySize kind → o + bodySize kind ≤ length f
+    unfolding cover
+    body-inside n = elim (decLe (o + bodySize kind) b) [
+      | yes p ↦ omega arith
+      | no p ↦ let a = o + (bodySize kind - 1) in absurd (omega (arith, in-yes o (bodySize kind) a (omega arith) (omega arith), h (cover a), A .high a (omega arith)))
+    ]
+
+  mutual
+    unfolding Inside InsideAll items itemsAll sum
+
+    inside-tree : (l : Lay) → Among u b (items l) → Inside f l
+    inside-tree (leaf s o e k v) A =
+        (slot-inside s Leaf o (items (leaf s o e k v)) (λ w. omega arith) A, body-inside s Leaf o (items (leaf s o e k v)) (λ w. omega arith) A (omega arith))
+    inside-tree (prefix s o p l) A = (slot-inside s Prefix o (items (prefix s o p l)) (λ w. omega arith) A, inside-tree l (among-less (λ w. omega arith) A))
+    inside-tree (node s o kind ks) A = (slot-inside s kind o (items (node s o kind ks)) (λ w. omega arith) A, inside-all ks (among-less (λ w. omega arith) A))
+
+    inside-all : (ks : LayKids) → Among u b (itemsAll ks) → InsideAll f ks
+    inside-all nil A = tt
+    inside-all (kid c j l ks) A =
+        (inside-tree l (among-less (λ w. omega (arith, sum-app w (items l) (itemsAll ks))) A), inside-all ks (among-less (λ w. omega (arith, sum-app w (items l) (itemsAll ks))) A))
+
+-- ---- no records
+
+module _ {f : List ℕ} {capacity records root : ℕ} (K : Known f capacity records root) {n : ℕ} (long : n ≡ length f) where
+  full-length : n ≡ K .state .F
+  full-length = long ∙ stands-heads edition1 f (K .state) (K .stands) .size
+
+  pub known-limits : Limits n capacity
+  known-limits =
+      let H = stands-heads edition1 f (K .state) (K .stands) in
+      let k = K .N in let b = H .bumpIn in let e = full-length in
+      record { long = rw e (H .limits); slots = rw k (H .slotCap); room = omega arith }
+
+  pub image-empty : {out : List ℕ} → records ≡ 0 → out ≡ image edition1 n capacity [] → Imaged f out
+  image-empty z e =
+      let s = K .state in
+      let t : s .tree ≡ none = empty-none lawful1 f s (K .stands) .0 (sym (K .R) ∙ z) in
+      record {
+        state = s;
+        stands = K .stands;
+        is = e ∙ (ap (λ (m : ℕ). image edition1 m capacity []) full-length ∙ (ap (λ (m : ℕ). image edition1 (s .F) m []) (K .N) ∙ ap (λ (x : Option Art). image edition1 (s .F) (s .N) (recordsOf x)) (sym t)));
+      }
+
+-- ---- one record or more
+
+-- a root that is no EmptyRoot
+record TreeRoot (r : Root) : Type 0 where
+  pub lay : Lay
+  pub is : r ≡ tree lay
+
+tree-root : (r : Root) → (rootArt r ≡ none → ⊥) → TreeRoot r
+tree-root (bare s o) h = absurd (h refl)
+tree-root (tree l) h = record { lay = l; is = refl }
+
+-- where packing starts
+abbrev pub startOf : ℕ → Next
+startOf capacity = record { slot = 1; place = dataStart capacity }
+
+module _ {f : List ℕ} {capacity records root : ℕ} (K : Known f capacity records root) (more : 1 ≤ records) where
+  tree-is : K .state .tree ≡ rootArt (K .stands .root)
+  tree-is = ap (λ (s : State). s .tree) (K .stands .state)
+
+  rooted : TreeRoot (K .stands .root)
+  rooted =
+      tree-root (K .stands .root) (λ z.
+      let e : K .state .R ≡ 0 = empty-none lawful1 f (K .state) (K .stands) .1 (tree-is ∙ z) in
+      let r = K .R in omega arith)
+
+  abbrev lay : Lay
+  lay = rooted .lay
+
+  abbrev packedRoot : Art
+  packedRoot = packedLay lay
+
+  root-tree : Tree edition1 f [] lay
+  unfolding RootAt
+  root-tree = rw (rooted .is) at (K .stands .rootAt)
+
+  root-slot : slotOf lay ≡ root
+  root-slot = sym (K .slot ∙ ap rootSlot (rooted .is))
+
+  some-tree : K .state .tree ≡ some (art lay)
+  some-tree = tree-is ∙ ap rootArt (rooted .is)
+
+  root-well : Well edition1 packedRoot []
+  root-well = packed-well lawful1 (art lay) [] (tree-well edition1 f (K .stands .bytes) [] lay root-tree)
+
+  root-fits : (slots packedRoot ≤ capacity) × (dataStart capacity + size packedRoot ≤ length f)
+  root-fits =
+      let s = K .state in
+      let G : GoodAt edition1 s (some (art lay)) = subst (λ (t : Option Art). GoodAt edition1 s t) some-tree (stands-good edition1 f s (K .stands)) in
+      let q = pack-fits lawful1 s (art lay) G in
+      let n = K .N in let e = full-length K refl in
+      (omega (arith, q .0), omega (arith, q .1))
+
+  root-inside : Inside f lay
+  unfolding rootItems
+  root-inside =
+      let H = K .stands .heap .header in
+      let S = K .stands .heap .sound in
+      let a = H .size in let b = H .givenIn in let c = H .bumpIn in
+      let m = K .stands .nums in
+      inside-tree f (m .U) (m .B) (omega arith) (omega arith) lay
+      (among-less {is = rootItems (K .stands .root) ++ freed 1 (K .stands .lists)}
+      (λ w. omega (arith, sum-app w (rootItems (K .stands .root)) (freed 1 (K .stands .lists)), ap (λ (r : Root). sum w (rootItems r)) (rooted .is)))
+      (record { zeroth = S .zeroth; past = S .past; high = S .high }))
+
+  module _ {n : ℕ} (long : n ≡ length f) {out zeroed : List ℕ} (same : length out ≡ n) (C : Cleared out zeroed 0 n) where
+    pub image-start : TreeReady f root longestWalk zeroed (startOf capacity)
+    image-start =
+        let L = known-limits K long .long in
+        let z = C .rest .size in
+        let q = root-fits in
+        record {
+          lay = lay;
+          path = [];
+          tree = root-tree;
+          slotIs = root-slot;
+          inside = root-inside;
+          bytes = K .stands .bytes;
+          deep = refl;
+          room = record { first = omega arith; table = omega arith; fits = omega arith; limit = omega arith; zeros = λ a l k. C .zeros a (omega arith) (omega arith) };
+        }
+
+    module _ {packed : List ℕ} {end : Next} (P : TreePacked f root zeroed (startOf capacity) packed end) where
+      laid : Laid (entries packedRoot (dataStart capacity)) (bodies packedRoot 1 (dataStart capacity)) (startOf capacity) zeroed packed end
+      laid =
+          let same : P .lay ≡ lay = tree-unique edition1 f (P .path) [] (P .lay) lay (P .tree) root-tree (P .slotIs ∙ sym root-slot) in
+          laid-as (ap (λ (l : Lay). entries (packedLay l) (dataStart capacity)) same) (ap (λ (l : Lay). bodies (packedLay l) 1 (dataStart capacity)) same) (P .laid)
+
+      end-slot : end .slot ≡ 1 + slots packedRoot
+      end-slot = laid .slotIs ∙ ap (λ (n : ℕ). 1 + n) (length-entries packedRoot (dataStart capacity))
+
+      end-place : end .place ≡ dataStart capacity + size packedRoot
+      end-place = laid .placeIs ∙ ap (λ (n : ℕ). dataStart capacity + n) (length-packed f [] lay (K .stands .bytes) root-tree 1 (dataStart capacity))
+
+      pub head-zero : (64 ≤ length packed) × Zero packed 0 64 × (capacity ≤ 10240)
+      head-zero =
+          let L = known-limits K long in
+          let a = L .long in let b = L .slots in
+          let z = C .rest .size in let y = laid .long in
+          (omega arith, λ i l. laid .below (0 + i) (omega arith) ∙ C .zeros (0 + i) (omega arith) (omega arith), omega arith)
+
+      pub image-made : {out' : List ℕ} → HeaderWritten packed out' n capacity (end .place) (end .slot - 1) records → Imaged f out'
+      image-made {out'} W =
+          let s = K .state in
+          let a = packedRoot in
+          let O = W .only in
+          let z = C .rest .size in let y = laid .long in let x = O .size in
+          let q = root-fits in
+          let es = end-slot in
+          let u : end .slot - 1 ≡ slots a = omega arith in
+          let E = length-entries a (dataStart capacity) in
+          let B = length-packed f [] lay (K .stands .bytes) root-tree 1 (dataStart capacity) in
+          let parts : Parts n capacity records a out' = record {
+            long = omega arith;
+            slotsFit = q .0;
+            bytesFit = omega arith;
+            head = rw (sym end-place, sym u) (W .is);
+            table = has-only O (numbers 4 (entries a (dataStart capacity))) (inr (omega arith)) (laid .table);
+            bodiesAt = has-only O (bodies a 1 (dataStart capacity)) (inr (omega arith)) (laid .text);
+            above = λ i l k. O .above i (omega arith) ∙ (laid .between i (omega arith) k ∙ C .zeros i (omega arith) (omega arith));
+            rest = λ i l k. O .above i (omega arith) ∙ (laid .above i (omega arith) ∙ C .zeros i (omega arith) (omega arith));
+          } in
+          record {
+            state = s;
+            stands = K .stands;
+            is = image-of-parts n capacity records a out' root-well parts
+                ∙ (ap (λ (m : ℕ). imageOf edition1 m capacity records (some a)) (full-length K long) ∙ (ap (λ (m : ℕ). imageOf edition1 (s .F) m records (some a)) (K .N)
+                ∙ (ap (λ (m : ℕ). imageOf edition1 (s .F) (s .N) m (some a)) (K .R) ∙ (ap (λ (t : Option Art). imageOf edition1 (s .F) (s .N) (s .R) (packedTree t)) (sym some-tree)
+                ∙ sym (image-is lawful1 s (stands-good edition1 f s (K .stands)))))));
+          }

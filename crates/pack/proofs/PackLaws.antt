@@ -1,0 +1,59 @@
+-- The ends of packing: refused by the check, refused for the output's length, done. Assumes nothing.
+use Prim.Native.Nat.{ℕ}
+use mathlib.Core.Path.{_≡_, refl, ap, _∙_}
+use mathlib.Core.List.{List}
+use native.Mathlib.Omega.{arith}
+use native.Mathlib.Decide.{ℕ-discrete}
+use lib.ListN.{length}
+use Rattle.fields.specs.declared.header.Header.{Header}
+use Rattle.model.specs.Edition.{edition1}
+use Rattle.model.specs.Records.{recordsOf}
+use Rattle.model.specs.State.{State}
+use Rattle.model.specs.Image.{image}
+use Rattle.model.specs.Frame.{Good}
+use Rattle.model.specs.Promise.{Told, CheckPromise, PackPromise}
+use Rattle.model.proofs.StringLaws.{clash}
+use Rattle.model.proofs.UniqueLaws.{stands-unique}
+use Rattle.audit.specs.Audit.{AuditTold}
+use Rattle.pack.specs.Image.{Known, Imaged}
+
+-- ---- the check refuses
+
+refused : (f o : List ℕ) (n : ℕ) → CheckPromise edition1 f n → (n ≡ 0 → ⊥) → PackPromise edition1 f o n o
+refused f o n p ne = record { told = p .told; output7 = λ g x. absurd (ne (p .good0 g)); packed0 = λ s w e. absurd (ne (p .good0 (s, w))); kept = λ x. refl }
+
+module _ {f : List ℕ} {free : List ℕ} {h : Header} {m n : ℕ} (e : n ≡ m) (A : AuditTold f m free h) where
+  promised : CheckPromise edition1 f n
+  promised = rw e (A .promise)
+
+  pub pack-one : (o : List ℕ) → n ≡ 1 → PackPromise edition1 f o 1 o
+  pack-one o z = refused f o 1 (rw z at promised) (λ x. omega arith)
+
+  pub pack-two : (o : List ℕ) → (n ≡ 1 → ⊥) → (n ≡ 0 → ⊥) → PackPromise edition1 f o 2 o
+  pack-two o x y =
+      let z : n ≡ 2 = elim (ℕ-discrete n 2) [ yes p ↦ p | no p ↦ absurd (y (promised .good0 (promised .told .good x p))) ] in
+      refused f o 2 (rw z at promised) (λ w. omega arith)
+
+  -- ---- the frame is good
+
+  module _ (z : n ≡ 0) where
+    good : Good edition1 f
+    good = promised .told .good (λ x. omega arith) (λ x. omega arith)
+
+    told-good : (k : ℕ) → Told edition1 f k
+    told-good k = record { length1 = λ x. absurd (omega (arith, promised .told .length1 x)); bad2 = λ l x. absurd (x good); good = λ a b. good }
+
+    pub known : Known f (h .«slot_capacity») (h .records) (h .root)
+    known = let R = A .room (good .0) (good .1) in record { state = good .0; stands = good .1; N = R .N; R = R .R; slot = R .slot }
+
+    pub pack-seven : (o : List ℕ) → (length o ≡ length f → ⊥) → PackPromise edition1 f o 7 o
+    pack-seven o d = record { told = told-good 7; output7 = λ g x. refl; packed0 = λ s w x. absurd (d x); kept = λ x. refl }
+
+    pub pack-done : (o : List ℕ) {o' : List ℕ} → length o ≡ length f → Imaged f o' → PackPromise edition1 f o 0 o'
+    pack-done o l I =
+        record {
+          told = told-good 0;
+          output7 = λ g x. absurd (x l);
+          packed0 = λ s w x. (refl, I .is ∙ ap (λ (t : State). image edition1 (t .F) (t .N) (recordsOf (t .tree))) (stands-unique edition1 f (I .state) s (I .stands) w));
+          kept = λ x. clash (cc);
+        }

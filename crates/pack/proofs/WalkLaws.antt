@@ -1,0 +1,209 @@
+-- One law for each case of the tree at a slot: a Leaf, a Prefix with the node below, an inner node. Assumes nothing.
+use Prim.Native.Nat.{ℕ, _+_, _-_, _≤_}
+use mathlib.Core.Path.{_≡_, refl, sym, ap, _∙_}
+use mathlib.Core.List.{List, [], _∷_, _++_}
+use native.Mathlib.Omega.{arith}
+use lib.ListN.{length, length-append}
+use Rattle.layout.specs.Number.{le, Bytes}
+use Rattle.layout.specs.Place.{prefixChild, prefixLength}
+use Rattle.layout.specs.Kind.{Leaf, Prefix, bodySize}
+use Rattle.layout.specs.Entry.{highOf, placeOf, entryOf}
+use Rattle.model.specs.Edition.{edition1}
+use Rattle.model.specs.Image.{digits, padded, slots, size, entries, bodies}
+use Rattle.model.specs.Frame.{Lay, LayKids, slotOf, art, Entry, Tree}
+use Rattle.model.specs.Frame.Lay.{leaf, prefix, node}
+use Rattle.model.proofs.Edition1.{lawful1}
+use Rattle.model.proofs.StandsGood.{tree-well}
+use Rattle.model.proofs.PackedLaws.{packed-well}
+use Rattle.model.proofs.PackedBytes.{length-bodies, length-entries}
+use Rattle.model.proofs.UniqueLaws.{tree-unique}
+use Rattle.audit.proofs.TreeLaws.{node-short}
+use Rattle.pack.specs.declared.bodies.Next.{Next}
+use Rattle.pack.specs.Laid.{Room, Laid, LeafFits, LeafLaid, PrefixFits, PrefixLaid}
+use Rattle.pack.specs.Walk.{SlotIn, Inside, packedLay, TreeReady, TreePacked, NodeReady, NodePacked}
+use Rattle.pack.proofs.BodiesLaws.{length-prefix}
+use Rattle.pack.proofs.LaidLaws.{laid-as, laid-join, room-first, room-rest}
+
+-- ---- which case it is, by the entry
+
+-- the entry of a tree's slot, said of the slot
+entry-at : (f : List ℕ) (s' s kind kind' o o' : ℕ) → s' ≡ s → highOf f s ≡ kind' → placeOf f s ≡ o' → Entry f s' kind o → (kind ≡ kind') × (o ≡ o')
+entry-at f s' s kind kind' o o' q h p E = let F : Entry f s kind o = rw q at E in (sym (F .kindIs) ∙ h, sym (F .placeIs) ∙ p)
+
+pub record IsLeaf (s o : ℕ) (l : Lay) : Type 0 where
+  pub extent : ℕ
+  pub key : List ℕ
+  pub value : List ℕ
+  pub is : l ≡ leaf s o extent key value
+
+pub record IsPrefix (s o : ℕ) (l : Lay) : Type 0 where
+  pub bytes : List ℕ
+  pub below : Lay
+  pub is : l ≡ prefix s o bytes below
+
+pub record IsInner (s o kind : ℕ) (l : Lay) : Type 0 where
+  pub kids : LayKids
+  pub is : l ≡ node s o kind kids
+
+module _ (f path : List ℕ) (s o : ℕ) where
+  leaf-lay : (l : Lay) → Tree edition1 f path l → slotOf l ≡ s → highOf f s ≡ Leaf → placeOf f s ≡ o → IsLeaf s o l
+  unfolding Tree
+  leaf-lay (leaf s' o' e k v) T q h p = let w = entry-at f s' s Leaf Leaf o' o q h p (T .0) in let y = w .1 in record { extent = e; key = k; value = v; is = cc }
+  leaf-lay (prefix s' o' b l) T q h p = absurd (omega (arith, entry-at f s' s Prefix Leaf o' o q h p (T .0) .0))
+  leaf-lay (node s' o' kind ks) T q h p = absurd (omega (arith, entry-at f s' s kind Leaf o' o q h p (T .0) .0, T .1 .inner .range))
+
+  prefix-lay : (l : Lay) → Tree edition1 f path l → slotOf l ≡ s → highOf f s ≡ Prefix → placeOf f s ≡ o → IsPrefix s o l
+  unfolding Tree
+  prefix-lay (leaf s' o' e k v) T q h p = absurd (omega (arith, entry-at f s' s Leaf Prefix o' o q h p (T .0) .0))
+  prefix-lay (prefix s' o' b l) T q h p = let w = entry-at f s' s Prefix Prefix o' o q h p (T .0) in let y = w .1 in record { bytes = b; below = l; is = cc }
+  prefix-lay (node s' o' kind ks) T q h p = absurd (omega (arith, entry-at f s' s kind Prefix o' o q h p (T .0) .0, T .1 .inner .range))
+
+  inner-lay : (kind : ℕ) (l : Lay) → Tree edition1 f path l → slotOf l ≡ s → highOf f s ≡ kind → placeOf f s ≡ o → (kind ≡ Leaf → ⊥) → (kind ≡ Prefix → ⊥) → IsInner s o kind l
+  unfolding Tree
+  inner-lay kind (leaf s' o' e k v) T q h p x y = absurd (x (sym (entry-at f s' s Leaf kind o' o q h p (T .0) .0)))
+  inner-lay kind (prefix s' o' b l) T q h p x y = absurd (y (sym (entry-at f s' s Prefix kind o' o q h p (T .0) .0)))
+  inner-lay kind (node s' o' kind' ks) T q h p x y = let w = entry-at f s' s kind' kind o' o q h p (T .0) in let y = w .0 in let z = w .1 in record { kids = ks; is = cc }
+
+-- every slot's entry lies in the frame
+slot-in : (f : List ℕ) (s : ℕ) (l : Lay) → Inside f l → slotOf l ≡ s → SlotIn f s
+unfolding Inside
+slot-in f s (leaf s' o e k v) I q = rw q at (I .0)
+slot-in f s (prefix s' o p l) I q = rw q at (I .0)
+slot-in f s (node s' o kind ks) I q = rw q at (I .0)
+
+-- ---- lengths
+
+pub length-packed : (f path : List ℕ) (l : Lay) → Bytes f → Tree edition1 f path l → (s o : ℕ) → length (bodies (packedLay l) s o) ≡ size (packedLay l)
+length-packed f path l B T s o = length-bodies edition1 (packedLay l) path (packed-well lawful1 (art l) path (tree-well edition1 f B path l T)) s o
+
+-- a packed Prefix's body
+abbrev prefixBody : ℕ → List ℕ → List ℕ
+prefixBody child p = padded 16 (digits 4 child ++ digits 2 (length p)) ++ padded 112 p
+
+-- ---- the tree at slot s
+
+module _ {f : List ℕ} {s left : ℕ} {out : List ℕ} {at : Next} (T : TreeReady f s left out at) where
+  -- its entry lies in the frame
+  pub tree-slot : SlotIn f s
+  tree-slot = slot-in f s (T .lay) (T .inside) (T .slotIs)
+
+  -- a Leaf
+  module _ {o : ℕ} (h : highOf f s ≡ Leaf) (p : placeOf f s ≡ o) where
+    is-leaf : IsLeaf s o (T .lay)
+    is-leaf = leaf-lay f (T .path) s o (T .lay) (T .tree) (T .slotIs) h p
+
+    leaf-tree : Tree edition1 f (T .path) (leaf s o (is-leaf .extent) (is-leaf .key) (is-leaf .value))
+    leaf-tree = rw (is-leaf .is) at (T .tree)
+
+    pub leaf-fits : LeafFits f o out at
+    unfolding Tree Inside
+    leaf-fits =
+        let K = is-leaf in
+        let i : Inside f (leaf s o (K .extent) (K .key) (K .value)) = rw (K .is) at (T .inside) in
+        let R : Room 1 (size (packedLay (leaf s o (K .extent) (K .key) (K .value)))) at out = rw (K .is) at (T .room) in
+        record { extent = K .extent; key = K .key; value = K .value; inside = i .1; stands = leaf-tree .1 .at; room = R }
+
+    pub leaf-packed : {out' : List ℕ} {r : Next} → LeafLaid f o out at out' r → TreePacked f s out at out' r
+    unfolding Tree
+    leaf-packed L =
+        let K = is-leaf in
+        record { lay = leaf s o (K .extent) (K .key) (K .value); path = T .path; tree = leaf-tree; slotIs = refl; laid = L .of (K .extent) (K .key) (K .value) (leaf-tree .1 .at) }
+
+  -- a Prefix
+  module _ {o : ℕ} (h : highOf f s ≡ Prefix) (p : placeOf f s ≡ o) where
+    is-prefix : IsPrefix s o (T .lay)
+    is-prefix = prefix-lay f (T .path) s o (T .lay) (T .tree) (T .slotIs) h p
+
+    prefix-tree : Tree edition1 f (T .path) (prefix s o (is-prefix .bytes) (is-prefix .below))
+    prefix-tree = rw (is-prefix .is) at (T .tree)
+
+    prefix-room : Room (1 + slots (packedLay (is-prefix .below))) (bodySize Prefix + size (packedLay (is-prefix .below))) at out
+    prefix-room = rw (is-prefix .is) at (T .room)
+
+    prefix-inside : Inside f (prefix s o (is-prefix .bytes) (is-prefix .below))
+    prefix-inside = rw (is-prefix .is) at (T .inside)
+
+    pub prefix-fits : PrefixFits f o out at
+    unfolding Tree
+    prefix-fits = record { bytes = is-prefix .bytes; below = slotOf (is-prefix .below); stands = prefix-tree .1; room = room-first (omega arith) (omega arith) prefix-room }
+
+    pub prefix-in : o + 128 ≤ length f
+    unfolding Tree
+    prefix-in = prefix-tree .1 .room
+
+    -- its bytes are no more than the path has left
+    prefix-left : length (T .path) + length (is-prefix .bytes) ≤ 112
+    unfolding Tree
+    prefix-left = omega (arith, node-short f (T .path ++ is-prefix .bytes) (is-prefix .below) (T .bytes) (prefix-tree .2) (prefix-tree .3), length-append (T .path) (is-prefix .bytes))
+
+    module _ {c n : ℕ} (ec : c ≡ le 4 f (o + prefixChild)) (en : n ≡ le 2 f (o + prefixLength)) where
+      child-is : slotOf (is-prefix .below) ≡ c
+      unfolding Tree
+      child-is = sym (prefix-tree .1 .child) ∙ sym ec
+
+      long-is : n ≡ length (is-prefix .bytes)
+      unfolding Tree
+      long-is = en ∙ prefix-tree .1 .long
+
+      pub prefix-some : (1 ≤ n) × (n ≤ left)
+      unfolding Tree
+      prefix-some = let a = prefix-tree .1 .some in let b = long-is in let d = T .deep in let e = prefix-left in (omega arith, omega arith)
+
+      module _ {out' : List ℕ} {here : Next} (L : PrefixLaid f o out at out' here) where
+        head : Laid (entryOf Prefix (at .place) ∷ []) (prefixBody (at .slot + 1) (is-prefix .bytes)) at out out' here
+        unfolding Tree
+        head = L .of (is-prefix .bytes) (slotOf (is-prefix .below)) (prefix-tree .1)
+
+        head-long : length (prefixBody (at .slot + 1) (is-prefix .bytes)) ≡ 128
+        unfolding Tree
+        head-long = length-prefix (at .slot + 1) (is-prefix .bytes) (prefix-tree .1 .most)
+
+        pub prefix-below : TreeReady f c (left - n) out' here
+        unfolding Tree Inside
+        prefix-below =
+            record {
+              lay = is-prefix .below;
+              path = T .path ++ is-prefix .bytes;
+              tree = prefix-tree .3;
+              slotIs = child-is;
+              inside = prefix-inside .1;
+              bytes = T .bytes;
+              deep = (let d = T .deep in let e = prefix-left in let b = long-is in omega (arith, length-append (T .path) (is-prefix .bytes)));
+              room = room-rest (omega arith) (omega (arith, head-long)) prefix-room head;
+            }
+
+        pub prefix-packed : {out'' : List ℕ} {r : Next} → TreePacked f c out' here out'' r → TreePacked f s out at out'' r
+        unfolding Tree
+        prefix-packed {out''} {r} P =
+            let l = is-prefix .below in
+            let same : P .lay ≡ l = tree-unique edition1 f (P .path) (T .path ++ is-prefix .bytes) (P .lay) l (P .tree) (prefix-tree .3) (P .slotIs ∙ sym child-is) in
+            let es : here .slot ≡ at .slot + 1 = head .slotIs in
+            let ep : here .place ≡ at .place + bodySize Prefix = head .placeIs ∙ ap (λ (m : ℕ). at .place + m) head-long in
+            let low = prefix-room .table in
+            let D : Laid (entries (packedLay l) (at .place + bodySize Prefix)) (bodies (packedLay l) (at .slot + 1) (at .place + bodySize Prefix)) here out' out'' r = laid-as (cc) (cc) (P .laid) in
+            record {
+              lay = prefix s o (is-prefix .bytes) l;
+              path = T .path;
+              tree = prefix-tree;
+              slotIs = refl;
+              laid = laid-join (omega (arith, length-entries (packedLay l) (at .place + bodySize Prefix))) head D;
+            }
+
+  -- an inner node
+  module _ {o kind : ℕ} (h : highOf f s ≡ kind) (p : placeOf f s ≡ o) (x : kind ≡ Leaf → ⊥) (y : kind ≡ Prefix → ⊥) where
+    is-inner : IsInner s o kind (T .lay)
+    is-inner = inner-lay f (T .path) s o kind (T .lay) (T .tree) (T .slotIs) h p x y
+
+    inner-tree : Tree edition1 f (T .path) (node s o kind (is-inner .kids))
+    inner-tree = rw (is-inner .is) at (T .tree)
+
+    pub node-ready : NodeReady f o kind left out at
+    unfolding Tree Inside
+    node-ready =
+        let K = is-inner in
+        let i : Inside f (node s o kind (K .kids)) = rw (K .is) at (T .inside) in
+        record { kids = K .kids; path = T .path; of = inner-tree .1; trees = inner-tree .2; inside = i .1; bytes = T .bytes; deep = T .deep; room = rw (K .is) at (T .room) }
+
+    pub node-packed : {out' : List ℕ} {r : Next} → NodePacked f o kind out at out' r → TreePacked f s out at out' r
+    unfolding Tree
+    node-packed P = record { lay = node s o kind (P .kids); path = P .path; tree = (inner-tree .0, P .of, P .trees); slotIs = refl; laid = P .laid }

@@ -1,0 +1,44 @@
+-- One law for each step (ImageLaws). Assumes nothing.
+use mathlib.Core.Path.{refl}
+use native.Mathlib.Omega.{arith}
+use Rattle.pack.proofs.ImageLaws.{known-limits, image-start, head-zero, image-made}
+use borrow.Author.Needs.{needs}
+use Rattle.pack.proofs.image.of_tree.Statement.{statement}
+use Rattle.pack.proofs.image.of_tree.Tie as tie
+
+clear-requires : tie.Need-clear-requires
+clear-requires c κs = search needs
+
+mul-write : tie.Need-mul-write
+mul-write c = let P = c .before .before .before .before .before .before .pre in omega (arith, known-limits (P .0) (P .1) .slots)
+
+add-write : tie.Need-add-write
+add-write c = let P = c .before .before .before .before .before .before .pre in omega (arith, known-limits (P .0) (P .1) .slots)
+
+tree-requires : tie.Need-tree-requires
+tree-requires c κs = let P = c .before .before .before .before .before .before .before .pre in image-start (P .0) (P .2) (P .1) refl (c .before .before .before .clear .ensures)
+
+sub-write : tie.Need-sub-write
+sub-write c = search needs
+
+write-requires : tie.Need-write-requires
+write-requires c κs = let P = c .before .before .before .before .before .before .before .before .before .before .before .before .pre in head-zero (P .0) (P .2) (P .1) refl (c .before .before .before .before .before .before .before .before .clear .ensures) (c .before .before .before .before .tree .ensures)
+
+same-length : tie.Need-same-length
+same-length c = search needs
+
+returns : tie.Need-returns
+returns c = let P = c .before .before .before .before .before .before .before .before .before .before .before .before .before .before .before .pre in image-made (P .0) (P .2) (P .1) refl (c .before .before .before .before .before .before .before .before .before .before .before .clear .ensures) (c .before .before .before .before .before .before .before .tree .ensures) (c .before .before .write .ensures)
+
+pub of-tree-spec : {M : Type 1} → statement M
+of-tree-spec =
+    tie.close
+    (tie.spec
+    clear-requires
+    mul-write
+    add-write
+    tree-requires
+    sub-write
+    write-requires
+    same-length
+    returns)

@@ -1,0 +1,116 @@
+-- What packing counts on at a slot of the frame and at an inner node, what it leaves, and how far the run of a node's children is.
+use Prim.Native.Nat.{ℕ, _+_, _≤_}
+use mathlib.Core.Path.{_≡_}
+use mathlib.Core.List.{List, _∷_, _++_}
+use lib.ListN.{length, drop}
+use Rattle.layout.specs.Number.{Bytes}
+use Rattle.layout.specs.Place.{entryAt}
+use Rattle.layout.specs.Kind.{Leaf, bodySize}
+use Rattle.layout.specs.Entry.{entryOf}
+use Rattle.model.specs.Edition.{edition1}
+use Rattle.model.specs.Tree.{Art, Kids}
+use Rattle.model.specs.Image.{packed, packedKids, nodeOf, slots, slotsKids, size, sizeKids, bytesOf, childSlots, entries, entriesKids, bodies, bodiesKids}
+use Rattle.model.specs.Frame.{Lay, LayKids, slotOf, art, artKids, pairs, NodeOf, Tree, Trees}
+use Rattle.model.specs.Frame.Lay.{leaf, prefix, node}
+use Rattle.model.specs.Frame.LayKids.{nil, kid}
+use Rattle.node.specs.Kids.{Reached}
+use Rattle.pack_body.specs.Part.{partBody}
+use Rattle.pack.specs.declared.bodies.Next.{Next}
+use Rattle.pack.specs.Laid.{Room, Laid}
+
+-- the most bytes of a walked string: a key of 112 and one byte 0
+abbrev pub longestWalk : ℕ
+longestWalk = 113
+
+-- the slot's entry lies in f
+pub record SlotIn (f : List ℕ) (s : ℕ) : Type 0 where
+  pub first : 1 ≤ s
+  pub last : entryAt s + 4 ≤ length f
+
+-- every entry and every Leaf's body of a tree lies in f
+unfoldable mutual
+  pub Inside : List ℕ → Lay → Type 0
+  Inside f (leaf s o e k v) = SlotIn f s × (o + bodySize Leaf ≤ length f)
+  Inside f (prefix s o p l) = SlotIn f s × Inside f l
+  Inside f (node s o kind ks) = SlotIn f s × InsideAll f ks
+
+  pub InsideAll : List ℕ → LayKids → Type 0
+  InsideAll f nil = Unit {0}
+  InsideAll f (kid b j l ks) = Inside f l × InsideAll f ks
+
+-- ---- the packed trees of a tree and of children of the frame
+
+abbrev pub packedLay : Lay → Art
+packedLay l = packed (art l)
+
+abbrev pub packedRun : LayKids → Kids
+packedRun ks = packedKids (artKids ks)
+
+-- ---- the tree at slot s, where a path has so many bytes left
+
+pub record TreeReady (f : List ℕ) (s left : ℕ) (out : List ℕ) (at : Next) : Type 0 where
+  pub lay : Lay
+  pub path : List ℕ
+  pub tree : Tree edition1 f path lay
+  pub slotIs : slotOf lay ≡ s
+  pub inside : Inside f lay
+  pub bytes : Bytes f
+  pub deep : length path + left ≡ longestWalk
+  pub room : Room (slots (packedLay lay)) (size (packedLay lay)) at out
+
+pub record TreePacked (f : List ℕ) (s : ℕ) (out : List ℕ) (at : Next) (out' : List ℕ) (r : Next) : Type 0 where
+  pub lay : Lay
+  pub path : List ℕ
+  pub tree : Tree edition1 f path lay
+  pub slotIs : slotOf lay ≡ s
+  pub laid : Laid (entries (packedLay lay) (at .place)) (bodies (packedLay lay) (at .slot) (at .place)) at out out' r
+
+-- ---- the inner node of a kind whose body lies at o
+
+pub record NodeReady (f : List ℕ) (o kind left : ℕ) (out : List ℕ) (at : Next) : Type 0 where
+  pub kids : LayKids
+  pub path : List ℕ
+  pub of : NodeOf f o kind kids
+  pub trees : Trees edition1 f path kids
+  pub inside : InsideAll f kids
+  pub bytes : Bytes f
+  pub deep : length path + left ≡ longestWalk
+  pub room : Room (slots (nodeOf (packedRun kids))) (size (nodeOf (packedRun kids))) at out
+
+pub record NodePacked (f : List ℕ) (o kind : ℕ) (out : List ℕ) (at : Next) (out' : List ℕ) (r : Next) : Type 0 where
+  pub kids : LayKids
+  pub path : List ℕ
+  pub of : NodeOf f o kind kids
+  pub trees : Trees edition1 f path kids
+  pub laid : Laid (entries (nodeOf (packedRun kids)) (at .place)) (bodies (nodeOf (packedRun kids)) (at .slot) (at .place)) at out out' r
+
+-- its first i children are packed behind its body, which is of the kind `small` and so far names just these: bytes bs, slots ss, entries es,
+-- bodies and extents ds
+pub record Going (f : List ℕ) (o kind left n small : ℕ) (out : List ℕ) (at : Next) (i from : ℕ) (out' : List ℕ) (here : Next) : Type 0 where
+  pub kids : LayKids
+  pub path : List ℕ
+  pub of : NodeOf f o kind kids
+  pub trees : Trees edition1 f path kids
+  pub bytes : Bytes f
+  pub deep : length path + left ≡ longestWalk
+  pub counted : length (pairs kids) ≡ n
+  pub most : i ≤ n
+  pub reached : Reached (pairs kids) i from
+  pub low : from ≤ 256
+  pub rest : LayKids
+  pub restIs : pairs rest ≡ drop i (pairs kids)
+  pub restTrees : Trees edition1 f path rest
+  pub restInside : InsideAll f rest
+  pub bs : List ℕ
+  pub ss : List ℕ
+  pub es : List ℕ
+  pub ds : List ℕ
+  pub bytesLong : length bs ≡ i
+  pub slotsLong : length ss ≡ i
+  pub bytesAre : bs ++ bytesOf (packedRun rest) ≡ bytesOf (packedRun kids)
+  pub slotsAre : ss ++ childSlots (here .slot) (packedRun rest) ≡ childSlots (at .slot + 1) (packedRun kids)
+  pub entriesAre : es ++ entriesKids (packedRun rest) (here .place) ≡ entriesKids (packedRun kids) (at .place + bodySize small)
+  pub bodiesAre : ds ++ bodiesKids (packedRun rest) (here .slot) (here .place) ≡ bodiesKids (packedRun kids) (at .slot + 1) (at .place + bodySize small)
+  pub laid : Laid (entryOf small (at .place) ∷ es) (partBody small n bs ss ++ ds) at out out' here
+  pub table : entryAt (here .slot + slotsKids (packedRun rest)) ≤ at .place
+  pub room : Room (slotsKids (packedRun rest)) (sizeKids (packedRun rest)) here out'

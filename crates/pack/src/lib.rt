@@ -1,0 +1,31 @@
+// Packing (document 01, "The packed image"): the records of a good frame, laid out anew in another slice. The frame is only read.
+pub mod bodies;
+pub mod image;
+pub mod walk;
+
+use answers::Pack;
+use answers::Refusal;
+ghost use Rattle.answers.specs.Number.{packNumber};
+ghost use Rattle.model.specs.Edition.{edition1};
+ghost use Rattle.model.specs.Promise.{PackPromise};
+
+// "Each packed body is no larger than the live one, so packing has no answer 6."
+pub fn pack(frame: &[u8], out: &mut [u8]) -> Pack
+    ensures { λ r. ⌜ PackPromise edition1 (now (frame .entry)) (now (out .entry)) (packNumber r) (now (out .exit)) ⌝ }
+{
+    let a = audit::check(frame);
+    let verdict = a.verdict;
+    let n = answers::check_number(verdict);
+    if n == 1 {
+        return Pack::Refused(Refusal::Length);
+    }
+    if n != 0 {
+        return Pack::Refused(Refusal::Frame);
+    }
+    if out.len() != frame.len() {
+        return Pack::Refused(Refusal::Output);
+    }
+    let h = a.header;
+    image::write(frame, out, h.slot_capacity, h.records, h.root);
+    Pack::Done
+}

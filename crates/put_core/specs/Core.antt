@@ -1,0 +1,48 @@
+-- Put on a good frame whose room is known: what it counts on, and what it leaves.
+use Prim.Native.Nat.{ℕ}
+use mathlib.Core.Path.{_≡_}
+use mathlib.Core.List.{List, _++_}
+use mathlib.Core.Bool.{true, false}
+use lib.ListN.{length}
+use lib.Dec.{ltb}
+use Rattle.model.specs.Edition.{edition1, Legal, LegalValue}
+use Rattle.model.specs.State.{State, Done, putChange, callPut}
+use Rattle.model.specs.Frame.{Stands}
+use Rattle.model.specs.Touch.{Outside, putTouch, findAt, extentAt}
+use Rattle.model.specs.Promise.{changes}
+use Rattle.room.specs.declared.fit.Room.{Room}
+use Rattle.room.specs.Fit.{RoomOf}
+use Rattle.descent.specs.declared.spot.Spot.{Spot}
+use Rattle.descent.specs.Spot.{SpotAt}
+use Rattle.leaf_new.specs.Put.{PutReady}
+
+-- a good frame with its room, and a legal key and value
+pub record Roomed (f k v : List ℕ) (r : Room) : Type 0 where
+  pub st : State
+  pub stands : Stands edition1 f st
+  pub legal : Legal edition1 k
+  pub legalValue : LegalValue v
+  pub room : RoomOf r st
+
+-- there is room for the put, and the descent of the key ended at p
+pub record PutSpot (f k v : List ℕ) (p : Spot) : Type 0 where
+  pub ready : PutReady f k v
+  pub spot : SpotAt k (ready .stands .root) p
+
+-- at an inner node without the byte
+pub record AtNode (f k v : List ℕ) (p : Spot) : Type 0 where
+  pub put : PutSpot f k v p
+  pub ends : p .end ≡ 4
+
+-- f' stands for the state of d, and after a number that may change the frame every byte is as before but those that the put touches
+abbrev pub Left : (f k v : List ℕ) (n : ℕ) (f' : List ℕ) (s : State) → Stands edition1 f s → Done → Type 0
+Left f k v n f' s w d =
+    (w' : Stands edition1 f' (d .state)) × (changes n ≡ true → let c = putChange edition1 s k v in
+    Outside f f' (w .root) (w' .root) (w .lists) (w' .lists) (c .takes ++ c .frees) (putTouch edition1 (w .root) k v) (extentAt (length k) (findAt edition1 (w' .root) k)) (ltb 0 (c .extent)))
+
+-- The clauses of put's promise for a legal key and value: the number, the state after, what is settled of the bytes, and that a
+-- refused put changes nothing.
+pub record PutMade (f k v : List ℕ) (n : ℕ) (f' : List ℕ) : Type 0 where
+  pub answer : (s : State) → Stands edition1 f s → n ≡ callPut edition1 s k v .answer
+  pub after : (s : State) (w : Stands edition1 f s) → Left f k v n f' s w (callPut edition1 s k v)
+  pub kept : changes n ≡ false → f' ≡ f
