@@ -9,7 +9,7 @@ use lib.ListN.{length, take, drop}
 use Rattle.layout.specs.Kind.{shrinkMark}
 use Rattle.model.specs.Strings.{pick}
 use Rattle.model.specs.Edition.{edition1}
-use Rattle.model.specs.Tree.{Art, Change, Left}
+use Rattle.model.specs.Tree.{Art}
 use Rattle.model.specs.State as state
 use Rattle.model.specs.State.{State, Done, done, room, findIn, eraseChange, eraseIn, callErase}
 use Rattle.model.specs.Records.{recordsOf}

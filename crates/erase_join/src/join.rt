@@ -17,7 +17,7 @@ ghost use Rattle.erase_join.specs.Erase.{Pair};
 ghost use Rattle.erase_join.specs.Lone.{Couple, AtSpot};
 
 // Of the two children of a Node4 the one that is not at byte b.
-fn other_child(f: &[u8], o: usize, b: u8) -> Child
+pub fn other_child(f: &[u8], o: usize, b: u8) -> Child
     requires { ⌜ Couple (now f) o b ⌝ }
     ensures { λ r. ⌜ (r .byte < 256) × ((ks : List (ℕ × ℕ)) → InnerAt (now (f .entry)) o Node4 ks → removeKid b ks ≡ (r .byte, r .slot) ∷ []) ⌝ }
 {

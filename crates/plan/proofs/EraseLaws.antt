@@ -1,11 +1,10 @@
 -- An erase happens in the node that holds the Leaf, and what is left of that node tells what the erase takes. Assumes nothing.
-use Prim.Native.Nat.{ℕ, suc, _+_, _-_, _<_, _≤_}
+use Prim.Native.Nat.{ℕ, _+_, _<_, _≤_}
 use mathlib.Core.Path.{_≡_, refl, sym, ap, subst, _∙_}
 use mathlib.Core.List.{List, [], _∷_, _++_, append-assoc}
 use mathlib.Core.Bool.{false}
 use native.Mathlib.Omega.{arith}
 use lib.ListN.{length}
-use borrow.Author.Tests.{eq-eqb, ne-eqb, lt-ltb, le-ltb}
 use Rattle.layout.specs.Place.{entryAt}
 use Rattle.layout.specs.Kind.{Leaf, Prefix, fewest, shrinkMark, kindDown, Inner}
 use Rattle.layout.specs.Kind.Inner.{node4, node16, node48, node256}
@@ -15,15 +14,14 @@ use Rattle.model.specs.Edition.{edition1}
 use Rattle.model.specs.Tree.{Art, Kids, Change, Left, count, carried, extentOf, lessOne, loneChild, underPrefix, eraseTree}
 use Rattle.model.specs.Tree.Left.{gone, one, kept}
 use Rattle.model.specs.State.{State, eraseChange}
-use Rattle.model.specs.Body.{InnerAt, Asc, childIn}
-use Rattle.model.specs.Frame.{Lay, LayKids, Root, IsNode, tree, slotOf, art, artKids, pairs, NodeOf, Tree, Trees, Heap, viewOf, Numbers, Stands}
+use Rattle.model.specs.Body.{InnerAt, childIn}
+use Rattle.model.specs.Frame.{Lay, LayKids, Root, IsNode, tree, slotOf, art, artKids, pairs, NodeOf, Tree, Trees, Heap, viewOf, Stands}
 use Rattle.model.specs.Frame.Lay.{leaf, prefix, node}
 use Rattle.model.specs.Frame.LayKids.{nil, kid}
 use Rattle.model.specs.Touch.{hasByte}
 use Rattle.model.proofs.StringLaws.{same-refl, clash}
 use Rattle.model.proofs.StandsGood.{length-pairs}
-use Rattle.node.specs.Kids.{removeKid, nextKid}
-use Rattle.inner.specs.Inner.{NodeSome}
+use Rattle.node.specs.Kids.{removeKid}
 use Rattle.inner.proofs.InnerLaws.{inner-asc}
 use Rattle.room.specs.declared.fit.Needs.{Needs}
 use Rattle.room.specs.Fit.{Asks}
@@ -33,7 +31,7 @@ use Rattle.between.specs.Work.{Around}
 use Rattle.between.specs.Lead.{Leads, NotUnder}
 use Rattle.between.proofs.TreeLaws.{node-parts, kid-parts}
 use Rattle.between.proofs.HoleLaws.{art-plug, plug-among, path-among, hole-out}
-use Rattle.between.proofs.KidsLaws.{art-app, app-left, app-remove, remove-len, remove-trees}
+use Rattle.between.proofs.KidsLaws.{art-app, app-left, app-look, app-remove, remove-len, remove-trees}
 use Rattle.between.proofs.WorkLaws.{stands-tree}
 use Rattle.between.proofs.LeadLaws.{leads-byte, leads-of}
 use Rattle.between.proofs.EraseLaws.{withNow, node-erase, less-stays, less-shrinks, plug-erase, plug-lone, plug-under-lone}
@@ -41,28 +39,9 @@ use Rattle.descent.specs.declared.spot.Spot.{Spot}
 use Rattle.descent.specs.declared.spot.Body.{Body}
 use Rattle.descent.specs.Spot.{Capped, Topped, InTree, SpotAt}
 use Rattle.descent.proofs.SeatLaws.{kindIn, Seat, seat}
+use Rattle.erase_join.specs.Lone.{Couple}
 use Rattle.plan.specs.Erase.{EraseFrom, PairFrom, Erasing, ErasePlan}
 use Rattle.plan.proofs.PutLaws.{inner-fits}
-
--- ---- the first child that is not at byte b
-
-next-head : (lo : ℕ) (ks : List (ℕ × ℕ)) → Asc lo ks → nextKid lo ks .1 ≡ childIn ks 0
-unfolding nextKid Asc
-next-head lo [] A = refl
-next-head lo (x ∷ ks) A = rw (le-ltb (x .0) lo (A .0)) refl
-
-pub other-first : (b : ℕ) (ks : List (ℕ × ℕ)) → (nextKid 0 ks .0 ≡ b → ⊥) → nextKid 0 ks .1 ≡ childIn (removeKid b ks) 0
-unfolding nextKid removeKid
-other-first b [] n = refl
-other-first b (x ∷ ks) n = let z = le-ltb (x .0) 0 (omega arith) in let m : x .0 ≡ b → ⊥ = rw z at n in rw (z, ne-eqb (x .0) b m) refl
-
-pub other-second : (b : ℕ) (ks : List (ℕ × ℕ)) → b < 256 → Asc 0 ks → nextKid 0 ks .0 ≡ b → nextKid (b + 1) ks .1 ≡ childIn (removeKid b ks) 0
-unfolding nextKid removeKid Asc
-other-second b [] l A e = absurd (omega arith)
-other-second b (x ∷ ks) l A e =
-    let m : x .0 ≡ b = rw (le-ltb (x .0) 0 (omega arith)) at e in
-    let z : suc (x .0) ≡ b + 1 = omega arith in
-    rw (eq-eqb (x .0) b m, lt-ltb (x .0) (b + 1) (omega arith)) (next-head (b + 1) ks (rw z at (A .3)))
 
 -- ---- what is left of the node, in the model
 
@@ -301,12 +280,14 @@ module _ {f k : List ℕ} {st : State} {s : Spot} (W : Stands edition1 f st) (S 
         let R : W .root ≡ tree (plug xs (A .child)) = q ∙ ap tree z in
         seat xs (pathOf xs) (A .child) (subst (λ (r : Root). Heap f (viewOf (W .nums) (W .lists) r)) R (W .heap)) (hole-out edition1 f xs (A .child) (stands-tree W (plug xs (A .child)) R) .2)
 
-    pub child-slot : (r : ℕ) → r ≡ childIn (removeKid (s .byte) (pairs kids)) 0 → r ≡ slotOf child
-    unfolding pairs
-    child-slot r e = e ∙ ap (λ (z : List (ℕ × ℕ)). childIn z 0) (app-remove (s .byte) (D .place) lost-leaf 0 (D .before) (D .after) (inner-asc (pairs kids) (node-of .inner)) ∙ ap pairs (left-alone .is))
+    -- c, r: the byte and slot that are left in the body
+    module _ (c r : ℕ) (is : removeKid (s .byte) (pairs kids) ≡ (c, r) ∷ []) where
+      pub child-slot : r ≡ slotOf child
+      unfolding pairs
+      child-slot = ap (λ (z : List (ℕ × ℕ)). childIn z 0) (sym is ∙ app-remove (s .byte) (D .place) lost-leaf 0 (D .before) (D .after) (inner-asc (pairs kids) (node-of .inner)) ∙ ap pairs (left-alone .is))
 
-    child-kind : (r high : ℕ) → r ≡ childIn (removeKid (s .byte) (pairs kids)) 0 → high ≡ highOf f r → high ≡ kindIn child
-    child-kind r high e h = h ∙ ap (highOf f) (child-slot r e) ∙ child-seat .entry .kindIs
+      child-kind : (high : ℕ) → high ≡ highOf f r → high ≡ kindIn child
+      child-kind high h = h ∙ ap (highOf f) child-slot ∙ child-seat .entry .kindIs
 
     child-low : IsNode child → 4 ≤ kindIn child
     child-low =
@@ -321,17 +302,17 @@ module _ {f k : List ℕ} {st : State} {s : Spot} (W : Stands edition1 f st) (S 
           let a = left-alone in
           rw art-is (closes-capped (s .node .kind) (D .before) (s .byte) (D .place) (D .after) (D .up) (D .value) (a .byte) (a .place) (a .child) (s .above) leads first (a .is) (D .top .capped c) A)
 
-      module _ (r high : ℕ) (is : r ≡ childIn (removeKid (s .byte) (pairs kids)) 0) (read : high ≡ highOf f r) (bare : s .above .slot ≡ 0) where
+      module _ (c r high : ℕ) (is : removeKid (s .byte) (pairs kids) ≡ (c, r) ∷ []) (read : high ≡ highOf f r) (bare : s .above .slot ≡ 0) where
         pub end-leaf : high < 4 → Asks n [] 0 → Erasing k (art l) n
-        end-leaf c A =
+        end-leaf g A =
             let a = left-alone in
-            let z = child-kind r high is read in
+            let z = child-kind c r is high read in
             rw art-is (closes-leaf (s .node .kind) (D .before) (s .byte) (D .place) (D .after) (D .up) leads first (D .value) (a .byte) (a .place) (a .child) (a .is) (D .top .without bare) (omega arith) child-low A)
 
         pub end-node : 4 ≤ high → Asks n (Prefix ∷ []) 0 → Erasing k (art l) n
-        end-node c A =
+        end-node g A =
             let a = left-alone in
-            let z = child-kind r high is read in
+            let z = child-kind c r is high read in
             rw art-is (closes-node (s .node .kind) (D .before) (s .byte) (D .place) (D .after) (D .up) leads first (D .value) (a .byte) (a .place) (a .child) (a .is) (D .top .without bare) (omega arith) A)
 
 -- ---- the code's ends
@@ -340,11 +321,8 @@ module _ {f k : List ℕ} {s : Spot} (P : EraseFrom f k s) where
   abbrev in-tree : InTree k (P .stands .root) s
   in-tree = P .spot .inTree (λ z. omega (arith, P .found))
 
-  pub node-some : NodeSome f (s .node .place) (s .node .kind)
-  node-some = record { kids = pairs (kids (P .stands) (P .spot) (P .found) (P .held) (in-tree .lay) (in-tree .is)); node = node-of (P .stands) (P .spot) (P .found) (P .held) (in-tree .lay) (in-tree .is) .inner }
-
   pub node-fits : (s .node .place + 2 ≤ length f) × (s .node .kind < 9)
-  node-fits = let N = node-some in inner-fits (N .kids) (N .node)
+  node-fits = inner-fits _ (node-of (P .stands) (P .spot) (P .found) (P .held) (in-tree .lay) (in-tree .is) .inner)
 
   -- m: the children that are counted
   module _ (m : ℕ) (q : (kind : ℕ) (ks : List (ℕ × ℕ)) → InnerAt f (s .node .place) kind ks → m ≡ length ks) where
@@ -370,8 +348,17 @@ module _ {f k : List ℕ} {s : Spot} (P : PairFrom f k s) where
   from = P .from
 
   module _ {st : State} (W : Stands edition1 f st) (S : SpotAt k (W .root) s) (l : Lay) (e : W .root ≡ tree l) where
-    two-there : length (pairs (kids W S (from .found) (from .held) l e)) ≡ 2
-    two-there = P .two _ (node-of W S (from .found) (from .held) l e .inner)
+    abbrev pair : List (ℕ × ℕ)
+    pair = pairs (kids W S (from .found) (from .held) l e)
+
+    pair-at : InnerAt f (s .node .place) (s .node .kind) pair
+    pair-at = node-of W S (from .found) (from .held) l e .inner
+
+    four-at : InnerAt f (s .node .place) 4 pair
+    four-at = subst (λ i. InnerAt f (s .node .place) i pair) (P .kind) pair-at
+
+    two-there : length pair ≡ 2
+    two-there = P .two pair pair-at
 
   pub plan-under : {n : Needs} → (s .above .slot ≡ 0 → ⊥) → Asks n [] 0 → ErasePlan f k s n
   plan-under c A =
@@ -380,8 +367,25 @@ module _ {f k : List ℕ} {s : Spot} (P : PairFrom f k s) where
         erasing = λ st W S l e. end-under W S (from .found) (from .held) l e (two-there W S l e) (omega arith) A;
       }
 
-  -- r: the other child
-  module _ (r : ℕ) (q : (ks : List (ℕ × ℕ)) → InnerAt f (s .node .place) (s .node .kind) ks → r ≡ childIn (removeKid (s .byte) ks) 0) where
+  pub couple : Couple f (s .node .place) (s .byte)
+  couple =
+      let W = from .stands in
+      let S = from .spot in
+      let I = in-tree from in
+      let D = losing W S (from .found) (from .held) (I .lay) (I .is) in
+      record {
+        kids = pair W S (I .lay) (I .is);
+        node = four-at W S (I .lay) (I .is);
+        two = two-there W S (I .lay) (I .is);
+        child = s .here .slot;
+        has = app-look (s .byte) (D .place) (leaf (s .here .slot) (s .here .place) (D .extent) k (D .value)) 0 (D .before) (D .after) (inner-asc (pair W S (I .lay) (I .is)) (pair-at W S (I .lay) (I .is)));
+      }
+
+  -- the other child: its byte c and slot r
+  module _ (c r : ℕ) (q : (ks : List (ℕ × ℕ)) → InnerAt f (s .node .place) 4 ks → removeKid (s .byte) ks ≡ (c, r) ∷ []) where
+    left-there : {st : State} (W : Stands edition1 f st) (S : SpotAt k (W .root) s) (l : Lay) (e : W .root ≡ tree l) → removeKid (s .byte) (pair W S l e) ≡ (c, r) ∷ []
+    left-there W S l e = q (pair W S l e) (four-at W S l e)
+
     pub other-entry : (1 ≤ r) × (entryAt r + 4 ≤ length f)
     other-entry =
         let W = from .stands in
@@ -389,20 +393,20 @@ module _ {f k : List ℕ} {s : Spot} (P : PairFrom f k s) where
         let I = in-tree from in
         let two = two-there W S (I .lay) (I .is) in
         let C = child-seat W S (from .found) (from .held) (I .lay) (I .is) two in
-        let z = child-slot W S (from .found) (from .held) (I .lay) (I .is) two r (q _ (node-of W S (from .found) (from .held) (I .lay) (I .is) .inner)) in
+        let z = child-slot W S (from .found) (from .held) (I .lay) (I .is) two c r (left-there W S (I .lay) (I .is)) in
         rw z (C .low, C .table)
 
     module _ (high : ℕ) (h : high ≡ highOf f r) (bare : s .above .slot ≡ 0) where
       pub plan-leaf : {n : Needs} → high < 4 → Asks n [] 0 → ErasePlan f k s n
-      plan-leaf c A =
+      plan-leaf g A =
           record {
             small = asks-small A (omega arith) (omega arith);
-            erasing = λ st W S l e. end-leaf W S (from .found) (from .held) l e (two-there W S l e) r high (q _ (node-of W S (from .found) (from .held) l e .inner)) h bare c A;
+            erasing = λ st W S l e. end-leaf W S (from .found) (from .held) l e (two-there W S l e) c r high (left-there W S l e) h bare g A;
           }
 
       pub plan-node : {n : Needs} → 4 ≤ high → Asks n (Prefix ∷ []) 0 → ErasePlan f k s n
-      plan-node c A =
+      plan-node g A =
           record {
             small = asks-small A (omega arith) (omega arith);
-            erasing = λ st W S l e. end-node W S (from .found) (from .held) l e (two-there W S l e) r high (q _ (node-of W S (from .found) (from .held) l e .inner)) h bare c A;
+            erasing = λ st W S l e. end-node W S (from .found) (from .held) l e (two-there W S l e) c r high (left-there W S l e) h bare g A;
           }

@@ -1,12 +1,12 @@
 -- A put does what stands at the end of its descent, and the plan's needs are its takes and its extent. Assumes nothing.
 use Prim.Native.Nat.{ℕ, suc, _+_, _-_, _<_, _≤_}
 use mathlib.Core.Path.{_≡_, refl, sym, ap, _∙_}
-use mathlib.Core.List.{List, [], _∷_, _++_}
+use mathlib.Core.List.{List, [], _∷_}
 use mathlib.Core.Bool.{Bool, true, false}
 use native.Mathlib.Omega.{arith}
 use lib.ListN.{length, getD, drop, length-drop}
 use lib.Seq.{getD-drop}
-use lib.Dec.{ltb, eqb}
+use lib.Dec.{eqb}
 use borrow.Author.Tests.{eq-eqb, ne-eqb, lt-ltb, le-ltb}
 use Rattle.layout.specs.Number.{le}
 use Rattle.layout.specs.Place.{leafValue, prefixLength}
@@ -16,7 +16,7 @@ use Rattle.model.specs.Edition.{edition1}
 use Rattle.model.specs.Tree.{Art, Change, over, extentOf, putLeaf, cutPrefix, putTree}
 use Rattle.model.specs.State.{State, putIn, putChange}
 use Rattle.model.specs.Body.{InnerAt, PrefixAt}
-use Rattle.model.specs.Frame.{Lay, LayKids, Root, bare, tree, art, artKids, pairs, rootArt, slotOf, Tree, Stands}
+use Rattle.model.specs.Frame.{Lay, art, pairs, rootArt, slotOf, Tree, Stands}
 use Rattle.model.specs.Frame.Lay.{leaf, prefix, node}
 use Rattle.model.proofs.StringLaws.{bool-cases, ltb-cases, same-refl, same-true}
 use Rattle.model.proofs.Edition1.{lawful1}
@@ -24,7 +24,7 @@ use Rattle.inner.proofs.InnerLaws.{inner-room}
 use Rattle.room.specs.declared.fit.Needs.{Needs}
 use Rattle.room.specs.Fit.{Asks}
 use Rattle.room.proofs.FitLaws.{nine, asks-small}
-use Rattle.between.specs.Hole.{plug, pathOf, artIn}
+use Rattle.between.specs.Hole.{pathOf, artIn}
 use Rattle.between.proofs.TreeLaws.{leaf-parts, prefix-parts, node-parts}
 use Rattle.between.proofs.HoleLaws.{art-plug}
 use Rattle.between.proofs.KidsLaws.{look-none}

@@ -1,31 +1,12 @@
 // The plan of an erase.
 use descent::spot::Spot;
+use erase_join::join;
 use inner::look;
-use inner::visit;
 use layout::entry::Entry;
 use layout::kind;
 use layout::kind::Kind;
 use room::fit::Needs;
-ghost use mathlib.Core.Path.{_≡_};
-ghost use mathlib.Core.List.{List};
-ghost use Prim.Native.Nat.{ℕ};
-ghost use Rattle.model.specs.Body.{InnerAt, childIn};
-ghost use Rattle.node.specs.Kids.{removeKid};
-ghost use Rattle.inner.specs.Inner.{NodeSome};
 ghost use Rattle.plan.specs.Erase.{EraseFrom, PairFrom, ErasePlan};
-
-// The first child of an inner node that is not at byte b.
-fn other_child(f: &[u8], o: usize, kind: usize, b: u8) -> usize
-    requires { ⌜ NodeSome (now f) o kind ⌝ }
-    ensures { λ r. ⌜ ((ks : List (ℕ × ℕ)) → InnerAt (now (f .entry)) o kind ks → r ≡ childIn (removeKid b ks) 0) ⌝ }
-{
-    let first = visit::next_child(f, o, kind, 0);
-    if first.byte != b as usize {
-        return first.slot;
-    }
-    let second = visit::next_child(f, o, kind, first.byte + 1);
-    second.slot
-}
 
 // "A Node4 that falls to one child is freed. .. If it is an inner node, a Prefix above takes the byte; where there is none, a Prefix is
 // needed."
@@ -39,8 +20,9 @@ fn joining(f: &[u8], key: &[u8], spot: Spot) -> Needs
         return none;
     }
     let node = spot.node;
-    let other = Entry::read(f, other_child(f, node.place, node.kind, spot.byte));
-    if other.high < Kind::NODE4 {
+    let other = join::other_child(f, node.place, spot.byte);
+    let entry = Entry::read(f, other.slot);
+    if entry.high < Kind::NODE4 {
         return none;
     }
     none.with(Kind::PREFIX)

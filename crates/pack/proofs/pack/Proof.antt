@@ -21,13 +21,16 @@ returns-3 : tie.Need-returns-3
 returns-3 c = pack-seven (c .before .before .before .check-number .ensures) (c .before .before .before .before .check .ensures) (omega arith) _ (λ z. omega arith)
 
 write-requires : tie.Need-write-requires
-write-requires c κs = (known (c .before .before .before .before .before .check-number .ensures) (c .before .before .before .before .before .before .check .ensures) (omega arith), omega arith)
+write-requires c κs =
+    let n = c .before .before .before .before .before in (known (n .check-number .ensures) (n .before .check .ensures) (omega arith), omega arith)
 
 same-length : tie.Need-same-length
 same-length c = search needs
 
 returns-4 : tie.Need-returns-4
-returns-4 c = pack-done (c .before .before .before .before .before .before .before .before .check-number .ensures) (c .before .before .before .before .before .before .before .before .before .check .ensures) (omega arith) _ (omega arith) (c .before .before .write .ensures)
+returns-4 c =
+    let n = c .before .before .before .before .before .before .before .before in
+    pack-done (n .check-number .ensures) (n .before .check .ensures) (omega arith) _ (omega arith) (c .before .before .write .ensures)
 
 pub pack-spec : {M : Type 1} → statement M
 pack-spec =

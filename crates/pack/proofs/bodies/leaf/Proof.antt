@@ -25,13 +25,19 @@ add-t11 : tie.Need-add-t11
 add-t11 c = search needs
 
 add-t14 : tie.Need-add-t14
-add-t14 c = omega (arith, leaf-end (c .before .before .before .before .before .before .before .before .before .before .before .pre) (c .before .before .before .before .before .before .before .write .ensures) (c .before .before .before .copy .ensures))
+add-t14 c =
+    let b = c .before .before .before in
+    let w = b .before .before .before .before in
+    let z = w .before .before .before .before in omega (arith, leaf-end (z .pre) (w .write .ensures) (b .copy .ensures))
 
 same-length : tie.Need-same-length
 same-length c = search needs
 
 returns : tie.Need-returns
-returns c = leaf-laid (c .before .before .before .before .before .before .before .before .before .before .before .pre) (c .before .before .before .before .before .before .before .write .ensures) (c .before .before .before .copy .ensures) refl refl
+returns c =
+    let b = c .before .before .before in
+    let w = b .before .before .before .before in
+    let z = w .before .before .before .before in leaf-laid (z .pre) (w .write .ensures) (b .copy .ensures) refl refl
 
 pub leaf-spec : {M : Type 1} → statement M
 leaf-spec =

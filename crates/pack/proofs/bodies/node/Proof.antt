@@ -34,7 +34,11 @@ same-length : tie.Need-same-length
 same-length c = search needs
 
 returns : tie.Need-returns
-returns c = node-laid (c .before .before .before .before .before .before .before .before .before .before .before .pre) (c .before .before .before .before .before .before .before .before .write .ensures) (c .before .before .before .before .before .before .before .before .before .before .before .args .n) (c .before .before .before .before .start .ensures) refl (ap (λ (n : ℕ). c .before .before .before .before .before .before .before .before .before .before .before .args .next .place + n) (c .body-size .ensures))
+returns c =
+    let b = c .before .before .before .before in
+    let w = b .before .before .before .before in
+    let z = w .before .before .before in
+    node-laid (z .pre) (w .write .ensures) (z .args .n) (b .start .ensures) refl (ap (λ (n : ℕ). z .args .next .place + n) (c .body-size .ensures))
 
 pub node-spec : {M : Type 1} → statement M
 node-spec =

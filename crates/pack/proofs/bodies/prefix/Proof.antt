@@ -33,7 +33,10 @@ same-length : tie.Need-same-length
 same-length c = search needs
 
 returns : tie.Need-returns
-returns c = prefix-laid (c .before .before .before .before .before .before .before .before .before .before .before .before .pre) (c .before .before .before .before .before .before .before .before .write .ensures) (c .before .before .before .copy .ensures) refl refl
+returns c =
+    let b = c .before .before .before in
+    let w = b .before .before .before .before .before in
+    let z = w .before .before .before .before in prefix-laid (z .pre) (w .write .ensures) (b .copy .ensures) refl refl
 
 pub prefix-spec : {M : Type 1} → statement M
 prefix-spec =

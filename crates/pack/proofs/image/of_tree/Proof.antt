@@ -22,13 +22,19 @@ sub-write : tie.Need-sub-write
 sub-write c = search needs
 
 write-requires : tie.Need-write-requires
-write-requires c κs = let P = c .before .before .before .before .before .before .before .before .before .before .before .before .pre in head-zero (P .0) (P .2) (P .1) refl (c .before .before .before .before .before .before .before .before .clear .ensures) (c .before .before .before .before .tree .ensures)
+write-requires c κs =
+    let w = c .before .before .before .before in
+    let k = w .before .before .before .before in
+    let P = k .before .before .before .before .pre in head-zero (P .0) (P .2) (P .1) refl (k .clear .ensures) (w .tree .ensures)
 
 same-length : tie.Need-same-length
 same-length c = search needs
 
 returns : tie.Need-returns
-returns c = let P = c .before .before .before .before .before .before .before .before .before .before .before .before .before .before .before .pre in image-made (P .0) (P .2) (P .1) refl (c .before .before .before .before .before .before .before .before .before .before .before .clear .ensures) (c .before .before .before .before .before .before .before .tree .ensures) (c .before .before .write .ensures)
+returns c =
+    let w = c .before .before .before .before .before .before .before in
+    let k = w .before .before .before .before in
+    let P = k .before .before .before .before .pre in image-made (P .0) (P .2) (P .1) refl (k .clear .ensures) (w .tree .ensures) (c .before .before .write .ensures)
 
 pub of-tree-spec : {M : Type 1} → statement M
 of-tree-spec =

@@ -71,60 +71,84 @@ module _ (t : ℕ) where
 
   run-node-requires : run-lts.Need-node-requires (of-run t) (run-at t) run.Post Inv-loop μ-loop
   run-node-requires c κs =
-      let z = c .before .before .before .before .before in let P = z .pre .1 in let n = c .before .before .count .ensures .1 (z .args .kind) (pairs (P .kids)) (P .of .inner) in node-fits P n (c .before .smallest .ensures)
+      let s = c .before in
+      let z = s .before .before .before .before in
+      let P = z .pre .1 in
+      node-fits P (s .before .count .ensures .1 (z .args .kind) (pairs (P .kids)) (P .of .inner)) (s .smallest .ensures)
 
   run-loop-holds : run-lts.Need-loop-holds (of-run t) (run-at t) run.Post Inv-loop μ-loop
   run-loop-holds c = (refl, λ e G. G)
 
   run-child-at-requires : run-lts.Need-child-at-requires (of-run t) (run-at t) run.Post Inv-loop μ-loop
   run-child-at-requires c κs =
-      let z = c .before .before .before .before .before .before .before .before .before .before in let P = z .pre .1 in let n = c .before .before .before .before .before .before .before .count .ensures .1 (z .args .kind) (pairs (P .kids)) (P .of .inner) in
-      let s = c .before .before .before .before .before .before .smallest .ensures in
-      let G = c .before .loop .inv .1 (z .args .out .now) (going-start P n s (c .before .before .before .before .node .ensures)) in going-visit G (c .loop-test .taken)
+      let l = c .before in
+      let b = l .before .before .before in
+      let s = b .before .before in
+      let z = s .before .before .before .before in
+      let P = z .pre .1 in
+      let n = s .before .count .ensures .1 (z .args .kind) (pairs (P .kids)) (P .of .inner) in
+      let G = l .loop .inv .1 (z .args .out .now) (going-start P n (s .smallest .ensures) (b .node .ensures)) in
+      going-visit G (c .loop-test .taken)
 
   run-cast-child : run-lts.Need-cast-child (of-run t) (run-at t) run.Post Inv-loop μ-loop
   run-cast-child c = omega (arith, c .before .before .child-at .ensures .0)
 
   run-child-requires : run-lts.Need-child-requires (of-run t) (run-at t) run.Post Inv-loop μ-loop
   run-child-requires c κs =
-      let z = c .before .before .before .before .before .before .before .before .before .before .before .before .before in let P = z .pre .1 in let n = c .before .before .before .before .before .before .before .before .before .before .count .ensures .1 (z .args .kind) (pairs (P .kids)) (P .of .inner) in
-      let s = c .before .before .before .before .before .before .before .before .before .smallest .ensures in
-      let G = c .before .before .before .before .loop .inv .1 (z .args .out .now) (going-start P n s (c .before .before .before .before .before .before .before .node .ensures)) in going-child G s (c .before .before .before .loop-test .taken)
+      let l = c .before .before .before .before in
+      let b = l .before .before .before in
+      let s = b .before .before in
+      let z = s .before .before .before .before in
+      let P = z .pre .1 in
+      let n = s .before .count .ensures .1 (z .args .kind) (pairs (P .kids)) (P .of .inner) in
+      let G = l .loop .inv .1 (z .args .out .now) (going-start P n (s .smallest .ensures) (b .node .ensures)) in
+      going-child G (s .smallest .ensures) (c .before .before .before .loop-test .taken)
 
   run-sub-tree : run-lts.Need-sub-tree (of-run t) (run-at t) run.Post Inv-loop μ-loop
   run-sub-tree c =
-      let z = c .before .before .before .before .before .before .before .before .before .before .before .before .before .before .before .before .before in let P = z .pre .1 in let d = P .deep in omega (arith, node-left (P .of) (P .path) (P .bytes) (P .trees))
+      let z = c .before .before .before .before .before .before .before .before .before .before .before .before .before .before .before .before .before in
+      let P = z .pre .1 in
+      let d = P .deep in omega (arith, node-left (P .of) (P .path) (P .bytes) (P .trees))
 
   run-tree-requires : run-lts.Need-tree-requires (of-run t) (run-at t) run.Post Inv-loop μ-loop
   run-tree-requires c κs =
-      let z = c .before .before .before .before .before .before .before .before .before .before .before .before .before .before .before .before .before in let P = z .pre .1 in let n = c .before .before .before .before .before .before .before .before .before .before .before .before .before .before .count .ensures .1 (z .args .kind) (pairs (P .kids)) (P .of .inner) in
-      let s = c .before .before .before .before .before .before .before .before .before .before .before .before .before .smallest .ensures in
-      let G = c .before .before .before .before .before .before .before .before .loop .inv .1 (z .args .out .now) (going-start P n s (c .before .before .before .before .before .before .before .before .before .before .before .node .ensures)) in
-      let k = c .before .before .before .before .before .before .child-at .ensures in
-      let w = k .1 (pairs (G .kids)) (G .of .inner) (G .reached) in
+      let w = c .before .before .before in
+      let k = w .before .before .before in
+      let e = k .child-at .ensures in
+      let l = c .before .before .before .before .before .before .before .before in
+      let b = l .before .before .before in
+      let s = b .before .before in
+      let z = s .before .before .before .before in
+      let P = z .pre .1 in
+      let n = s .before .count .ensures .1 (z .args .kind) (pairs (P .kids)) (P .of .inner) in
+      let G = l .loop .inv .1 (z .args .out .now) (going-start P n (s .smallest .ensures) (b .node .ensures)) in
       let d = P .deep in
-      (omega (arith, z .pre .0, node-left (P .of) (P .path) (P .bytes) (P .trees)), going-tree G s (c .before .before .before .before .before .before .before .loop-test .taken) (k .0) (w .0) (w .1) (c .before .before .before .child .ensures))
+      let u = e .1 (pairs (G .kids)) (G .of .inner) (G .reached) in
+      (omega (arith, z .pre .0, node-left (P .of) (P .path) (P .bytes) (P .trees)), going-tree G (s .smallest .ensures) (k .before .loop-test .taken) (e .0) (u .0) (u .1) (w .child .ensures))
 
   run-add-from : run-lts.Need-add-from (of-run t) (run-at t) run.Post Inv-loop μ-loop
   run-add-from c = omega (arith, c .before .before .before .before .before .before .before .before .before .before .child-at .ensures .0)
 
   run-add-i : run-lts.Need-add-i (of-run t) (run-at t) run.Post Inv-loop μ-loop
-  run-add-i c = omega (arith, c .before .before .before .before .before .before .before .before .before .before .before .loop-test .taken, c .before .before .before .before .before .before .before .before .before .before .before .before .before .before .before .before .before .before .count .ensures .0)
+  run-add-i c =
+      let m = c .before .before .before .before .before .before .before .before .before .before .before in omega (arith, m .loop-test .taken, m .before .before .before .before .before .before .before .count .ensures .0)
 
   run-loop-less : run-lts.Need-loop-less (of-run t) (run-at t) run.Post Inv-loop μ-loop
   run-loop-less c = omega (arith, c .before .before .before .before .before .before .before .before .before .before .before .loop-test .taken)
 
   run-loop-again : run-lts.Need-loop-again (of-run t) (run-at t) run.Post Inv-loop μ-loop
   run-loop-again c =
-      let s = c .before .before .before .before .before .before .before .before .before .before .before .before .before .before .before .before .before .smallest .ensures in
-      let v = c .before .before .before .before .before .before .before .before .before .before .before .before .loop .inv in
-      let k = c .before .before .before .before .before .before .before .before .before .before .child-at .ensures in
-      let W = c .before .before .before .before .before .before .before .child .ensures in
-      let T = c .before .before .before .tree .ensures in (
-        omega (arith, v .0, W .only .size, T .laid .long),
-        λ e start.
-            let G = v .1 e start in
-            let w = k .1 (pairs (G .kids)) (G .of .inner) (G .reached) in going-next G s (c .before .before .before .before .before .before .before .before .before .before .before .loop-test .taken) (k .0) (w .0) (w .1) W T,
+      let y = c .before .before .before in
+      let w = y .before .before .before .before in
+      let k = w .before .before .before in
+      let l = k .before .before in
+      let v = l .loop .inv in
+      let e = k .child-at .ensures in
+      let s = l .before .before .before .before .before .smallest .ensures in (
+        omega (arith, v .0, w .child .ensures .only .size, y .tree .ensures .laid .long),
+        λ o start.
+            let G = v .1 o start in
+            let u = e .1 (pairs (G .kids)) (G .of .inner) (G .reached) in going-next G s (k .before .loop-test .taken) (e .0) (u .0) (u .1) (w .child .ensures) (y .tree .ensures),
       )
 
   run-same-length : run-lts.Need-same-length (of-run t) (run-at t) run.Post Inv-loop μ-loop
@@ -132,78 +156,114 @@ module _ (t : ℕ) where
 
   run-returns : run-lts.Need-returns (of-run t) (run-at t) run.Post Inv-loop μ-loop
   run-returns c =
-      let z = c .before .before .before .before .before .before .before .before .before .before in let P = z .pre .1 in let n = c .before .before .before .before .before .before .before .count .ensures .1 (z .args .kind) (pairs (P .kids)) (P .of .inner) in
-      let s = c .before .before .before .before .before .before .smallest .ensures in
-      let G = c .before .loop .inv .1 (z .args .out .now) (going-start P n s (c .before .before .before .before .node .ensures)) in let m = G .most in going-end G s (omega (arith, c .loop-test .left))
+      let l = c .before in
+      let b = l .before .before .before in
+      let s = b .before .before in
+      let z = s .before .before .before .before in
+      let P = z .pre .1 in
+      let n = s .before .count .ensures .1 (z .args .kind) (pairs (P .kids)) (P .of .inner) in
+      let G = l .loop .inv .1 (z .args .out .now) (going-start P n (s .smallest .ensures) (b .node .ensures)) in
+      let m = G .most in going-end G (s .smallest .ensures) (omega (arith, c .loop-test .left))
 
   tree-read-requires : tree-lts.Need-read-requires (of-tree t) (tree-at t) tree.Post
   tree-read-requires c κs = let S = tree-slot (c .before .before .pre .1) in (S .first, S .last)
 
   tree-leaf-requires : tree-lts.Need-leaf-requires (of-tree t) (tree-at t) tree.Post
   tree-leaf-requires c κs =
-      let P = c .before .before .before .before .before .before .pre .1 in
-      let e = c .before .before .before .read .ensures in leaf-fits P (sym (e .0) ∙ c .before .if1 .taken) (sym (e .1))
+      let i = c .before in
+      let r = i .before .before in
+      let P = r .before .before .before .pre .1 in
+      let h = sym (r .read .ensures .0) ∙ i .if1 .taken in
+      let o = sym (r .read .ensures .1) in
+      leaf-fits P h o
 
   tree-same-length : tree-lts.Need-same-length (of-tree t) (tree-at t) tree.Post
   tree-same-length c = search needs
 
   tree-returns : tree-lts.Need-returns (of-tree t) (tree-at t) tree.Post
   tree-returns c =
-      let P = c .before .before .before .before .before .before .before .before .before .pre .1 in
-      let e = c .before .before .before .before .before .before .read .ensures in leaf-packed P (sym (e .0) ∙ c .before .before .before .before .if1 .taken) (sym (e .1)) (c .before .before .leaf .ensures)
+      let i = c .before .before .before .before in
+      let r = i .before .before in
+      let P = r .before .before .before .pre .1 in
+      let h = sym (r .read .ensures .0) ∙ i .if1 .taken in
+      let o = sym (r .read .ensures .1) in
+      leaf-packed P h o (c .before .before .leaf .ensures)
 
   tree-prefix-requires : tree-lts.Need-prefix-requires (of-tree t) (tree-at t) tree.Post
   tree-prefix-requires c κs =
-      let P = c .before .before .before .before .before .before .before .before .pre .1 in
-      let e = c .before .before .before .before .before .read .ensures in prefix-fits P (sym (e .0) ∙ c .before .if2 .taken) (sym (e .1))
+      let i = c .before in
+      let r = i .before .before .before .before in
+      let P = r .before .before .before .pre .1 in
+      let h = sym (r .read .ensures .0) ∙ i .if2 .taken in
+      let o = sym (r .read .ensures .1) in
+      prefix-fits P h o
 
   tree-child-requires : tree-lts.Need-child-requires (of-tree t) (tree-at t) tree.Post
   tree-child-requires c κs =
-      let P = c .before .before .before .before .before .before .before .before .before .before .before .before .pre .1 in
-      let e = c .before .before .before .before .before .before .before .before .before .read .ensures in prefix-in P (sym (e .0) ∙ c .before .before .before .before .before .if2 .taken) (sym (e .1))
+      let i = c .before .before .before .before .before in
+      let r = i .before .before .before .before in
+      let P = r .before .before .before .pre .1 in
+      let h = sym (r .read .ensures .0) ∙ i .if2 .taken in
+      let o = sym (r .read .ensures .1) in
+      prefix-in P h o
 
   tree-length-requires : tree-lts.Need-length-requires (of-tree t) (tree-at t) tree.Post
   tree-length-requires c κs =
-      let P = c .before .before .before .before .before .before .before .before .before .before .before .before .before .pre .1 in
-      let e = c .before .before .before .before .before .before .before .before .before .before .read .ensures in prefix-in P (sym (e .0) ∙ c .before .before .before .before .before .before .if2 .taken) (sym (e .1))
+      let i = c .before .before .before .before .before .before in
+      let r = i .before .before .before .before in
+      let P = r .before .before .before .pre .1 in
+      let h = sym (r .read .ensures .0) ∙ i .if2 .taken in
+      let o = sym (r .read .ensures .1) in
+      prefix-in P h o
 
   tree-sub-tree : tree-lts.Need-sub-tree (of-tree t) (tree-at t) tree.Post
   tree-sub-tree c =
-      let P = c .before .before .before .before .before .before .before .before .before .before .before .before .before .before .pre .1 in
-      let e = c .before .before .before .before .before .before .before .before .before .before .before .read .ensures in prefix-some P (sym (e .0) ∙ c .before .before .before .before .before .before .before .if2 .taken) (sym (e .1)) (c .before .child .ensures .0) (c .length .ensures .0) .1
+      let i = c .before .before .before .before .before .before .before in
+      let r = i .before .before .before .before in
+      let P = r .before .before .before .pre .1 in
+      let h = sym (r .read .ensures .0) ∙ i .if2 .taken in
+      let o = sym (r .read .ensures .1) in
+      prefix-some P h o (c .before .child .ensures .0) (c .length .ensures .0) .1
 
   tree-tree-requires : tree-lts.Need-tree-requires (of-tree t) (tree-at t) tree.Post
   tree-tree-requires c κs =
-      let z = c .before .before .before .before .before .before .before .before .before .before .before .before .before .before in
-      let P = z .pre .1 in
-      let e = c .before .before .before .before .before .before .before .before .before .before .before .read .ensures in
-      let h = sym (e .0) ∙ c .before .before .before .before .before .before .before .if2 .taken in
+      let i = c .before .before .before .before .before .before .before in
+      let r = i .before .before .before .before in
+      let P = r .before .before .before .pre .1 in
+      let h = sym (r .read .ensures .0) ∙ i .if2 .taken in
+      let o = sym (r .read .ensures .1) in
       let k = c .before .child .ensures .0 in
       let n = c .length .ensures .0 in
-      (omega (arith, z .pre .0, prefix-some P h (sym (e .1)) k n), prefix-below P h (sym (e .1)) k n (c .before .before .before .before .before .prefix .ensures))
+      (omega (arith, r .before .before .before .pre .0, prefix-some P h o k n), prefix-below P h o k n (c .before .before .before .before .before .prefix .ensures))
 
   tree-same-length-2 : tree-lts.Need-same-length-2 (of-tree t) (tree-at t) tree.Post
   tree-same-length-2 c = search needs
 
   tree-returns-2 : tree-lts.Need-returns-2 (of-tree t) (tree-at t) tree.Post
   tree-returns-2 c =
-      let P = c .before .before .before .before .before .before .before .before .before .before .before .before .before .before .before .before .before .pre .1 in
-      let e = c .before .before .before .before .before .before .before .before .before .before .before .before .before .before .read .ensures in prefix-packed P (sym (e .0) ∙ c .before .before .before .before .before .before .before .before .before .before .if2 .taken) (sym (e .1)) (c .before .before .before .before .child .ensures .0) (c .before .before .before .length .ensures .0) (c .before .before .before .before .before .before .before .before .prefix .ensures) (c .before .before .tree .ensures)
+      let n = c .before .before .before in
+      let q = n .before .before .before .before .before in
+      let i = q .before .before in
+      let r = i .before .before .before .before in
+      let P = r .before .before .before .pre .1 in
+      prefix-packed P (sym (r .read .ensures .0) ∙ i .if2 .taken) (sym (r .read .ensures .1)) (n .before .child .ensures .0) (n .length .ensures .0) (q .prefix .ensures) (c .before .before .tree .ensures)
 
   tree-run-requires : tree-lts.Need-run-requires (of-tree t) (tree-at t) tree.Post
   tree-run-requires c κs =
-      let z = c .before .before .before .before .before .before .before .before in
-      let P = z .pre .1 in
-      let e = c .before .before .before .before .before .read .ensures in
-      (omega (arith, z .pre .0), node-ready P (sym (e .0)) (sym (e .1)) (c .before .before .before .if1 .left) (c .before .if2 .left))
+      let i = c .before in
+      let r = i .before .before .before .before in
+      let z = r .before .before .before in
+      (omega (arith, z .pre .0), node-ready (z .pre .1) (sym (r .read .ensures .0)) (sym (r .read .ensures .1)) (i .before .before .if1 .left) (i .if2 .left))
 
   tree-same-length-3 : tree-lts.Need-same-length-3 (of-tree t) (tree-at t) tree.Post
   tree-same-length-3 c = search needs
 
   tree-returns-3 : tree-lts.Need-returns-3 (of-tree t) (tree-at t) tree.Post
   tree-returns-3 c =
-      let P = c .before .before .before .before .before .before .before .before .before .before .before .pre .1 in
-      let e = c .before .before .before .before .before .before .before .before .read .ensures in node-packed P (sym (e .0)) (sym (e .1)) (c .before .before .before .before .before .before .if1 .left) (c .before .before .before .before .if2 .left) (c .before .before .run .ensures)
+      let i = c .before .before .before .before in
+      let r = i .before .before .before .before in
+      let z = r .before .before .before in
+      node-packed (z .pre .1) (sym (r .read .ensures .0)) (sym (r .read .ensures .1)) (i .before .before .if1 .left) (i .if2 .left) (c .before .before .run .ensures)
 
 pub +run+tree-spec : {M : Type 1} → statement M
 +run+tree-spec =

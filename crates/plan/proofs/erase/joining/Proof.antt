@@ -2,7 +2,7 @@
 use mathlib.Core.List.{[]}
 use native.Mathlib.Omega.{arith}
 use Rattle.room.proofs.FitLaws.{asks-small}
-use Rattle.plan.proofs.EraseLaws.{node-some, plan-under, other-entry, plan-leaf, plan-node}
+use Rattle.plan.proofs.EraseLaws.{plan-under, couple, other-entry, plan-leaf, plan-node}
 use borrow.Author.Needs.{needs}
 use Rattle.plan.proofs.erase.joining.Statement.{statement}
 use Rattle.plan.proofs.erase.joining.Tie as tie
@@ -14,16 +14,16 @@ returns : tie.Need-returns
 returns c = plan-under (c .before .before .before .before .before .before .pre) (c .if1 .taken) (c .before .before .before .none .ensures)
 
 other-child-requires : tie.Need-other-child-requires
-other-child-requires c κs = node-some (c .before .before .before .before .before .before .before .pre .from)
+other-child-requires c κs = couple (c .before .before .before .before .before .before .before .pre)
 
 read-requires : tie.Need-read-requires
-read-requires c κs = let r = c .other-child in other-entry (c .before .before .before .before .before .before .before .before .pre) (r .result) (r .ensures)
+read-requires c κs = let r = c .other-child in other-entry (c .before .before .before .before .before .before .before .before .pre) (r .result .byte) (r .result .slot) (r .ensures .1)
 
 returns-2 : tie.Need-returns-2
 returns-2 c =
     let o = c .before .before .before in
     let e = c .before .before .read in
-    plan-leaf (o .before .before .before .before .before .before .before .before .pre) (o .other-child .result) (o .other-child .ensures) (e .result .high) (e .ensures .0) (o .before .before .if1 .left) (c .if2 .taken)
+    plan-leaf (o .before .before .before .before .before .before .before .before .pre) (o .other-child .result .byte) (o .other-child .result .slot) (o .other-child .ensures .1) (e .result .high) (e .ensures .0) (o .before .before .if1 .left) (c .if2 .taken)
     (o .before .before .before .before .before .none .ensures)
 
 with-requires : tie.Need-with-requires
@@ -33,7 +33,7 @@ returns-3 : tie.Need-returns-3
 returns-3 c =
     let o = c .before .before .before .before in
     let e = c .before .before .before .read in
-    plan-node (o .before .before .before .before .before .before .before .before .pre) (o .other-child .result) (o .other-child .ensures) (e .result .high) (e .ensures .0) (o .before .before .if1 .left) (c .before .if2 .left)
+    plan-node (o .before .before .before .before .before .before .before .before .pre) (o .other-child .result .byte) (o .other-child .result .slot) (o .other-child .ensures .1) (e .result .high) (e .ensures .0) (o .before .before .if1 .left) (c .before .if2 .left)
     (c .with .ensures [] 0 (o .before .before .before .before .before .none .ensures))
 
 pub joining-spec : {M : Type 1} → statement M
