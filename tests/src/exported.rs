@@ -5,7 +5,7 @@
 //! store, so that the mix can be compared. Nothing else has to be changed
 //! when a call is added there.
 
-use crate::compare::{self, Calls};
+use crate::compare::Calls;
 
 /// The calls that come from the archive, as `exported.txt` names them.
 pub fn names() -> Vec<&'static str> {
@@ -61,21 +61,21 @@ impl Calls for Exported {
         #[cfg(exported_frame_format)]
         return unsafe { c::frame_format(frame.as_mut_ptr(), frame.len(), f, n) };
         #[cfg(not(exported_frame_format))]
-        compare::Second.format(frame, f, n)
+        crate::compare::Second.format(frame, f, n)
     }
 
     fn check(&self, frame: &[u8]) -> u32 {
         #[cfg(exported_frame_check)]
         return unsafe { c::frame_check(frame.as_ptr(), frame.len()) };
         #[cfg(not(exported_frame_check))]
-        compare::Second.check(frame)
+        crate::compare::Second.check(frame)
     }
 
     fn look_up(&self, frame: &[u8], key: &[u8]) -> (u32, u64, u64) {
         #[cfg(exported_frame_look_up)]
         return look_up_by_all_lengths(frame, key);
         #[cfg(not(exported_frame_look_up))]
-        compare::Second.look_up(frame, key)
+        crate::compare::Second.look_up(frame, key)
     }
 
     fn put(&self, frame: &mut [u8], key: &[u8], value: &[u8]) -> u32 {
@@ -91,21 +91,21 @@ impl Calls for Exported {
             )
         };
         #[cfg(not(exported_frame_put))]
-        compare::Second.put(frame, key, value)
+        crate::compare::Second.put(frame, key, value)
     }
 
     fn erase(&self, frame: &mut [u8], key: &[u8]) -> u32 {
         #[cfg(exported_frame_erase)]
         return unsafe { c::frame_erase(frame.as_mut_ptr(), frame.len(), key.as_ptr(), key.len()) };
         #[cfg(not(exported_frame_erase))]
-        compare::Second.erase(frame, key)
+        crate::compare::Second.erase(frame, key)
     }
 
     fn pack(&self, frame: &[u8], out: &mut [u8]) -> u32 {
         #[cfg(exported_frame_pack)]
         return unsafe { c::frame_pack(frame.as_ptr(), frame.len(), out.as_mut_ptr(), out.len()) };
         #[cfg(not(exported_frame_pack))]
-        compare::Second.pack(frame, out)
+        crate::compare::Second.pack(frame, out)
     }
 }
 

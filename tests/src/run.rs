@@ -5,7 +5,7 @@
 
 use crate::compare::{Calls, Compared, Comparer};
 use crate::tally::Tally;
-use crate::{damage, history, worked};
+use crate::{damage, history, orders, worked};
 use std::env;
 
 /// Which random calls are made, and how many.
@@ -44,6 +44,7 @@ pub fn all_stages(calls: &dyn Calls, effort: Effort) -> Compared<Tally> {
     history::scratched_frames(&mut comparer, seed, rounds * 100)?;
     history::arbitrary_bytes(&mut comparer, seed, rounds * 500)?;
     history::large_frames(&mut comparer, seed, rounds * 2)?;
+    orders::same_records(&mut comparer, seed, rounds * 4)?;
     Ok(std::mem::take(&mut comparer.tally))
 }
 

@@ -1,0 +1,242 @@
+//! A settings store in one lent frame of bytes: named records that are put, looked up, erased and packed by proved calls.
+//!
+//! A frame has F bytes, a multiple of 8 from 1,024 to 524,288, and N slots, an even number from 8 to 10,240; 64 + 4 N + 8 is at
+//! most F. A key has 1 to 112 bytes, none of them 0. A value has 0 to 65,535 bytes. Nothing is allocated, and everything that is
+//! kept stands in the frame: store its bytes anywhere, and [`Frame::open`] them again later.
+//!
+//! ```
+//! use frame_store::{Erase, Frame, Put, Refusal};
+//!
+//! let mut bytes = [0; 1024];
+//! let mut frame = Frame::format(&mut bytes, 8)?;
+//! assert_eq!(frame.put(b"line.rate", b"100")?, Put::New);
+//! assert_eq!(frame.put(b"line.rate", b"250")?, Put::Replaced);
+//! assert_eq!(frame.look_up(b"line.rate")?, Some(&b"250"[..]));
+//! assert_eq!(frame.erase(b"line.mode")?, Erase::Absent);
+//! assert_eq!(frame.put(b"", b"100"), Err(Refusal::KeyLength));
+//! # Ok::<(), Refusal>(())
+//! ```
+//!
+//! Any bytes may be lent: each call checks the whole frame first, and one that is not good is refused. A refused call has changed
+//! nothing. That lent bytes do not overlap, which the calls ask of a C program, follows here from Rust's borrows.
+#![no_std]
+#![warn(missing_docs)]
+#![deny(unsafe_code)]
+
+mod calls;
+
+use core::fmt;
+use core::ops::Range;
+
+/// Why a call was refused; nothing was changed then. If several apply, it is the first in the order of this list.
+#[derive(Clone, Copy, PartialEq, Eq, Hash, Debug)]
+pub enum Refusal {
+    /// 1: format: F or N against the limits. Else: the slice's length is no frame's, or not the one that the frame holds.
+    Length,
+    /// 2: the bytes are not a good frame.
+    Frame,
+    /// 3: the key has no byte, or more than 112.
+    KeyLength,
+    /// 4: the key holds a byte 0.
+    KeyZero,
+    /// 5: the value has more than 65,535 bytes.
+    ValueLength,
+    /// 7: pack: the output is not as long as the frame.
+    Output,
+    /// 6: not enough slots or bytes are left for what the call needs.
+    Room,
+}
+
+impl Refusal {
+    /// The number that the exported call gives.
+    pub fn number(self) -> u32 {
+        match self {
+            Refusal::Length => 1,
+            Refusal::Frame => 2,
+            Refusal::KeyLength => 3,
+            Refusal::KeyZero => 4,
+            Refusal::ValueLength => 5,
+            Refusal::Room => 6,
+            Refusal::Output => 7,
+        }
+    }
+
+    const ALL: [Refusal; 7] = [
+        Refusal::Length,
+        Refusal::Frame,
+        Refusal::KeyLength,
+        Refusal::KeyZero,
+        Refusal::ValueLength,
+        Refusal::Output,
+        Refusal::Room,
+    ];
+
+    fn of_number(number: u32) -> Refusal {
+        let found = Refusal::ALL.into_iter().find(|refusal| refusal.number() == number);
+        found.expect("the calls give no other number")
+    }
+}
+
+impl fmt::Display for Refusal {
+    fn fmt(&self, to: &mut fmt::Formatter<'_>) -> fmt::Result {
+        to.write_str(match self {
+            Refusal::Length => {
+                "the frame's length or slots are outside the limits, or not those of the frame"
+            }
+            Refusal::Frame => "the bytes are not a good frame",
+            Refusal::KeyLength => "the key has no byte, or more than 112",
+            Refusal::KeyZero => "the key holds a byte 0",
+            Refusal::ValueLength => "the value has more than 65,535 bytes",
+            Refusal::Output => "the output is not as long as the frame",
+            Refusal::Room => "there is no room",
+        })
+    }
+}
+
+impl core::error::Error for Refusal {}
+
+/// What a put did.
+#[derive(Clone, Copy, PartialEq, Eq, Hash, Debug)]
+pub enum Put {
+    /// 0: the key was new.
+    New,
+    /// 9: the key was there, and has the new value now.
+    Replaced,
+}
+
+/// What an erase did.
+#[derive(Clone, Copy, PartialEq, Eq, Hash, Debug)]
+pub enum Erase {
+    /// 0: the record is gone.
+    Done,
+    /// 8: there was no such key.
+    Absent,
+}
+
+const DONE: u32 = 0;
+const ABSENT: u32 = 8;
+const REPLACED: u32 = 9;
+
+/// A good frame over lent bytes, to read.
+#[derive(Clone, Copy)]
+pub struct View<'a> {
+    bytes: &'a [u8],
+}
+
+impl<'a> View<'a> {
+    /// Lends a frame that is there, if it is a good one.
+    pub fn open(bytes: &'a [u8]) -> Result<View<'a>, Refusal> {
+        check(bytes)?;
+        Ok(View { bytes })
+    }
+
+    /// The value of a key, as a part of the lent bytes.
+    pub fn look_up(self, key: &[u8]) -> Result<Option<&'a [u8]>, Refusal> {
+        Ok(self.place(key)?.map(|place| &self.bytes[place]))
+    }
+
+    /// Where the value of a key stands, counted from the frame's start.
+    pub fn place(self, key: &[u8]) -> Result<Option<Range<usize>>, Refusal> {
+        match calls::look_up(self.bytes, key) {
+            (DONE, [place, length]) => {
+                let place = usize::try_from(place).expect("a place in a frame");
+                let length = usize::try_from(length).expect("a length in a frame");
+                Ok(Some(place..place + length))
+            }
+            (ABSENT, _) => Ok(None),
+            (refused, _) => Err(Refusal::of_number(refused)),
+        }
+    }
+
+    /// Writes the packed image of the records to `out`, which is as long as the frame: one string of bytes for one set of records,
+    /// F and N, and itself a good frame with all room that can be had given back.
+    pub fn pack<'b>(self, out: &'b mut [u8]) -> Result<Frame<'b>, Refusal> {
+        match calls::pack(self.bytes, out) {
+            DONE => Ok(Frame { bytes: out }),
+            refused => Err(Refusal::of_number(refused)),
+        }
+    }
+
+    /// The frame's bytes, to be stored.
+    pub fn bytes(self) -> &'a [u8] {
+        self.bytes
+    }
+}
+
+/// A good frame over lent bytes, to read and to change.
+pub struct Frame<'a> {
+    bytes: &'a mut [u8],
+}
+
+impl<'a> Frame<'a> {
+    /// Makes an empty frame with this many slots out of all the bytes that are lent.
+    pub fn format(bytes: &'a mut [u8], slots: usize) -> Result<Frame<'a>, Refusal> {
+        let length = bytes.len();
+        match calls::format(bytes, length, slots) {
+            DONE => Ok(Frame { bytes }),
+            refused => Err(Refusal::of_number(refused)),
+        }
+    }
+
+    /// Lends a frame that is there, if it is a good one.
+    pub fn open(bytes: &'a mut [u8]) -> Result<Frame<'a>, Refusal> {
+        check(bytes)?;
+        Ok(Frame { bytes })
+    }
+
+    /// Puts a record, new or in place of the one with this key.
+    pub fn put(&mut self, key: &[u8], value: &[u8]) -> Result<Put, Refusal> {
+        match calls::put(self.bytes, key, value) {
+            DONE => Ok(Put::New),
+            REPLACED => Ok(Put::Replaced),
+            refused => Err(Refusal::of_number(refused)),
+        }
+    }
+
+    /// Takes a record out. This can be refused for room: a smaller node or a longer prefix may be needed.
+    pub fn erase(&mut self, key: &[u8]) -> Result<Erase, Refusal> {
+        match calls::erase(self.bytes, key) {
+            DONE => Ok(Erase::Done),
+            ABSENT => Ok(Erase::Absent),
+            refused => Err(Refusal::of_number(refused)),
+        }
+    }
+
+    /// The same frame, to read.
+    pub fn view(&self) -> View<'_> {
+        View { bytes: self.bytes }
+    }
+
+    /// The value of a key, as a part of the frame.
+    pub fn look_up(&self, key: &[u8]) -> Result<Option<&[u8]>, Refusal> {
+        self.view().look_up(key)
+    }
+
+    /// Where the value of a key stands, counted from the frame's start.
+    pub fn place(&self, key: &[u8]) -> Result<Option<Range<usize>>, Refusal> {
+        self.view().place(key)
+    }
+
+    /// Writes the packed image of the records to `out`; see [`View::pack`]. This frame stays as it is.
+    pub fn pack<'b>(&self, out: &'b mut [u8]) -> Result<Frame<'b>, Refusal> {
+        self.view().pack(out)
+    }
+
+    /// The frame's bytes, to be stored.
+    pub fn bytes(&self) -> &[u8] {
+        self.bytes
+    }
+
+    /// Gives the lent bytes back.
+    pub fn into_bytes(self) -> &'a mut [u8] {
+        self.bytes
+    }
+}
+
+/// Whether the bytes are a good frame.
+pub fn check(bytes: &[u8]) -> Result<(), Refusal> {
+    match calls::check(bytes) {
+        DONE => Ok(()),
+        refused => Err(Refusal::of_number(refused)),
+    }
+}

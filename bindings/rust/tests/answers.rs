@@ -1,0 +1,117 @@
+//! Every answer of every call, through the safe calls.
+#![forbid(unsafe_code)]
+
+use frame_store::{check, Erase, Frame, Put, Refusal, View};
+
+const F: usize = 1_024;
+const N: usize = 8;
+
+fn empty(bytes: &mut [u8]) -> Frame<'_> {
+    Frame::format(bytes, N).expect("F and N are within the limits")
+}
+
+#[test]
+fn format_and_open() {
+    let mut bytes = [7; F];
+    assert_eq!(Frame::open(&mut bytes).err(), Some(Refusal::Length));
+    assert_eq!(Frame::format(&mut bytes, N + 1).err(), Some(Refusal::Length));
+    assert_eq!(Frame::format(&mut bytes[..F - 8], N).err(), Some(Refusal::Length));
+    assert_eq!(bytes, [7; F], "a refused call changes nothing");
+    empty(&mut bytes);
+    assert_eq!(check(&bytes), Ok(()));
+    assert_eq!(check(&bytes[..F - 8]), Err(Refusal::Length));
+    assert!(Frame::open(&mut bytes).is_ok());
+    bytes[20] = 2;
+    assert_eq!(check(&bytes), Err(Refusal::Frame));
+    assert_eq!(View::open(&bytes).err(), Some(Refusal::Frame));
+}
+
+#[test]
+fn put_look_up_and_erase() -> Result<(), Refusal> {
+    let mut bytes = [0; F];
+    let mut frame = empty(&mut bytes);
+    assert_eq!(frame.put(b"a", b"1")?, Put::New);
+    assert_eq!(frame.put(b"ab", b"")?, Put::New);
+    assert_eq!(frame.put(b"a", b"11")?, Put::Replaced);
+    assert_eq!(frame.look_up(b"a")?, Some(&b"11"[..]));
+    assert_eq!(frame.look_up(b"ab")?, Some(&b""[..]));
+    assert_eq!(frame.look_up(b"b")?, None);
+    let place = frame.place(b"a")?.expect("the key is there");
+    assert_eq!(&frame.bytes()[place], b"11");
+    assert_eq!(frame.place(b"b")?, None);
+    assert_eq!(frame.erase(b"b")?, Erase::Absent);
+    assert_eq!(frame.erase(b"a")?, Erase::Done);
+    assert_eq!(frame.look_up(b"a")?, None);
+    assert_eq!(frame.erase(b"ab")?, Erase::Done);
+    let mut fresh = [1; F];
+    empty(&mut fresh);
+    assert_eq!(frame.into_bytes(), &fresh[..], "the last erase leaves what format leaves");
+    Ok(())
+}
+
+#[test]
+fn refusals_change_nothing() {
+    let mut bytes = [0; F];
+    let mut frame = empty(&mut bytes);
+    assert_eq!(frame.put(b"k", &[5; F - 96 - 8 - 16 - 1]), Ok(Put::New), "no byte is left");
+    let before = frame.bytes().to_vec();
+    assert_eq!(frame.put(b"", b"v"), Err(Refusal::KeyLength));
+    assert_eq!(frame.put(&[b'k'; 113], b"v"), Err(Refusal::KeyLength));
+    assert_eq!(frame.put(b"k\0", b"v"), Err(Refusal::KeyZero));
+    assert_eq!(frame.put(b"v", &[0; 65_536]), Err(Refusal::ValueLength));
+    assert_eq!(frame.put(b"v", b"v"), Err(Refusal::Room));
+    assert_eq!(frame.look_up(b""), Err(Refusal::KeyLength));
+    assert_eq!(frame.place(b"\0"), Err(Refusal::KeyZero));
+    assert_eq!(frame.erase(b""), Err(Refusal::KeyLength));
+    assert_eq!(frame.erase(b"\0"), Err(Refusal::KeyZero));
+    assert_eq!(frame.pack(&mut [0; F + 8]).err(), Some(Refusal::Output));
+    assert_eq!(frame.bytes(), before);
+}
+
+#[test]
+fn two_orders_pack_to_one_image() -> Result<(), Refusal> {
+    let records = [(b"a", b"1"), (b"b", b"2"), (b"c", b"3")];
+    let (mut one, mut other) = ([0; F], [0; F]);
+    let (mut one, mut other) = (empty(&mut one), empty(&mut other));
+    for (key, value) in records {
+        one.put(key, value)?;
+    }
+    for (key, value) in records.into_iter().rev() {
+        other.put(key, b"before")?;
+        other.put(key, value)?;
+    }
+    let (mut left, mut right) = ([1; F], [2; F]);
+    let packed = one.pack(&mut left)?;
+    assert_eq!(packed.bytes(), other.pack(&mut right)?.bytes());
+    assert_eq!(packed.look_up(b"b")?, Some(&b"2"[..]));
+    Ok(())
+}
+
+#[test]
+fn lengths_are_unsigned() -> Result<(), Refusal> {
+    let mut bytes = vec![0; 524_288];
+    let mut frame = Frame::format(&mut bytes, 10_240)?;
+    for length in [32_767, 32_768, 65_535] {
+        let value = vec![9; length];
+        frame.put(b"fw", &value)?;
+        assert_eq!(frame.look_up(b"fw")?, Some(&value[..]));
+    }
+    Ok(())
+}
+
+#[test]
+fn every_refusal_has_its_number_and_words() {
+    let all = [
+        (Refusal::Length, 1),
+        (Refusal::Frame, 2),
+        (Refusal::KeyLength, 3),
+        (Refusal::KeyZero, 4),
+        (Refusal::ValueLength, 5),
+        (Refusal::Room, 6),
+        (Refusal::Output, 7),
+    ];
+    for (refusal, number) in all {
+        assert_eq!(refusal.number(), number);
+        assert!(!refusal.to_string().is_empty());
+    }
+}

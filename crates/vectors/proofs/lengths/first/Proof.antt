@@ -1,0 +1,16 @@
+-- `lengths::first` is safe: the part is as long as asked. Assumes nothing.
+use mathlib.Core.Path.{sym}
+use native.Mathlib.Omega.{arith}
+use lib.Seq.{length-take-le}
+use borrow.Author.Needs.{needs}
+use Rattle.vectors.proofs.lengths.first.Statement.{statement}
+use Rattle.vectors.proofs.lengths.first.Tie as tie
+
+slice-aggregate-result : tie.Need-slice-aggregate-result
+slice-aggregate-result c = sym (length-take-le _ _ (omega arith))
+
+returns : tie.Need-returns
+returns c = search needs
+
+pub first-spec : {M : Type 1} → statement M
+first-spec = tie.close (tie.spec slice-aggregate-result returns)

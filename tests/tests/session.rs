@@ -1,0 +1,110 @@
+//! The session program held to a second reading of its paragraph, over the
+//! second store and over the exported calls.
+
+use second_store::compare::{Calls, Second};
+use second_store::exported::Exported;
+use second_store::random::Random;
+use second_store::run::Effort;
+use second_store::session::{output, script};
+use std::io::Write;
+use std::path::PathBuf;
+use std::process::{Command, Stdio};
+
+/// The programs of crates/ whose input and output are stored.
+const STORED: [&str; 2] = ["session", "session_script"];
+/// Names the built program, if it stands elsewhere.
+const PROGRAM_VARIABLE: &str = "FRAME_SESSION";
+const SCRIPTS: u64 = 60;
+
+fn root() -> PathBuf {
+    PathBuf::from(env!("CARGO_MANIFEST_DIR")).join("..")
+}
+
+fn stored(program: &str, stream: &str) -> Option<Vec<u8>> {
+    std::fs::read(root().join("crates").join(program).join(stream)).ok()
+}
+
+/// The first line in which two outputs differ.
+fn assert_same(found: &[u8], expected: &[u8], of: &str) {
+    let lines = |bytes: &[u8]| -> Vec<String> {
+        bytes.split(|byte| *byte == b'\n').map(|l| l.escape_ascii().to_string()).collect()
+    };
+    let (found_lines, expected_lines) = (lines(found), lines(expected));
+    for (at, (one, other)) in found_lines.iter().zip(&expected_lines).enumerate() {
+        assert_eq!(one, other, "{of}: line {at}");
+    }
+    assert_eq!(found_lines.len(), expected_lines.len(), "{of}: number of lines");
+}
+
+/// Past the test harness, so that it is read even where the test passes.
+fn say(text: &str) {
+    let _ = writeln!(std::io::stderr(), "{text}");
+}
+
+#[test]
+fn the_printed_example_is_answered_as_printed() {
+    let input = b"f 1024 8\np a 1\np b 2\ng a\ne c\nk\n";
+    let printed = b"frame session 1\n0\n0\n0\n0 1\n8\n0 3 168 2\n";
+    for calls in [&Second as &dyn Calls, &Exported] {
+        assert_same(&output(calls, input), printed, "the example of document 01");
+    }
+    if let Some(stdin) = stored("session", "stdin") {
+        assert_eq!(stdin, input);
+    }
+}
+
+#[test]
+fn stored_scripts_are_answered_as_stored() {
+    for program in STORED {
+        let (Some(stdin), Some(stdout)) = (stored(program, "stdin"), stored(program, "stdout"))
+        else {
+            say(&format!("crates/{program} is not there: its script is not compared"));
+            continue;
+        };
+        for calls in [&Second as &dyn Calls, &Exported] {
+            assert_same(&output(calls, &stdin), &stdout, program);
+        }
+    }
+}
+
+#[test]
+fn the_built_program_agrees_on_random_scripts() {
+    let built = root().join("target/bin/session");
+    let program = std::env::var(PROGRAM_VARIABLE).map_or(built, PathBuf::from);
+    if !program.is_file() {
+        say(&format!("{} is not built: random scripts are not compared", program.display()));
+        return;
+    }
+    let Effort { seed, rounds } = Effort::from_environment();
+    for round in 0..rounds * SCRIPTS {
+        let mut random = Random::new(seed.wrapping_mul(7_919).wrapping_add(round));
+        let input = script(&mut random);
+        let of = format!("script of seed {seed}, round {round}");
+        assert_same(&run(&program, &input, &mut random), &output(&Second, &input), &of);
+    }
+    assert_same(&run(&program, b"", &mut Random::new(seed)), &output(&Second, b""), "no input");
+}
+
+/// What the program writes if its input comes in pieces of random lengths.
+fn run(program: &PathBuf, input: &[u8], random: &mut Random) -> Vec<u8> {
+    let mut child = Command::new(program)
+        .stdin(Stdio::piped())
+        .stdout(Stdio::piped())
+        .spawn()
+        .expect("the program starts");
+    let mut stdin = child.stdin.take().expect("the program has an input");
+    let most = *random.pick(&[1, 7, 300, 5_000]);
+    std::thread::scope(|scope| {
+        scope.spawn(move || {
+            let mut left = input;
+            while !left.is_empty() {
+                let (piece, rest) = left.split_at(random.from_to(1, most).min(left.len()));
+                stdin.write_all(piece).expect("the program reads its input");
+                left = rest;
+            }
+        });
+        let ended = child.wait_with_output().expect("the program ends");
+        assert!(ended.status.success(), "the program ends with {}", ended.status);
+        ended.stdout
+    })
+}

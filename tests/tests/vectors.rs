@@ -1,0 +1,184 @@
+//! What the program `vectors` writes, told a second time: the second store
+//! goes through the same steps, and the lines that document 01 prints figures
+//! for are held to those figures.
+
+use second_store::layout::{get16, get32, get_entry, AT_B, AT_R, AT_ROOT, AT_U, AT_X};
+use second_store::store;
+use std::fmt::Write;
+use std::path::Path;
+
+const SMALL: (usize, usize) = (1_024, 8);
+const LARGE: (usize, usize) = (524_288, 10_240);
+const WIDE: (usize, usize) = (16_384, 100);
+const LONG: usize = 65_536;
+const MOST_CHILDREN: u8 = 49;
+
+/// The figures of "Worked frames": a step, and what its line begins with.
+const PRINTED: [&str; 16] = [
+    "W1 format: 0 U 1 B 104 ",
+    "W2 put a=1: 0 U 2 B 128 ",
+    "W3 put b=2: 0 U 4 B 176 ",
+    "W4 put ab=3: 0 U 6 B 224 ",
+    "W5 put ac=4: 0 U 7 B 248 ",
+    "W6 pack W5: 0 U 6 B 240 ",
+    "W6 entry 1: 524300",
+    "W6 entry 3: 131090",
+    "W7 W5, put ad=5: 0 U 8 B 272 ",
+    "W8 put ae=6: 6 U 8 B 272 ",
+    "W9 W5, erase ab: 0 U 7 B 248 R 3 X 8",
+    "W9 put ad=5: 0 U 7 B 256 ",
+    "W10 erase x: 0 U 7 B 352 R 2 X 8",
+    "W11 put fw: 0 U 2 B 73824 ",
+    "value of 65536: 5 ",
+    "key of 113: 3 ",
+];
+
+/// Children and the kind they are kept in, on the way up and down.
+const UP: [(u8, usize); 6] = [(4, 4), (5, 5), (16, 5), (17, 6), (48, 6), (49, 7)];
+const DOWN: [(u8, usize); 6] = [(38, 7), (37, 6), (13, 6), (12, 5), (4, 5), (3, 4)];
+
+struct Told {
+    text: String,
+}
+
+impl Told {
+    fn counts(&mut self, given: u32, frame: &[u8]) {
+        let [u, b, r, x] = [AT_U, AT_B, AT_R, AT_X].map(|at| get32(frame, at));
+        write!(self.text, ": {given} U {u} B {b} R {r} X {x}").expect("a text takes more");
+    }
+
+    fn line(&mut self, step: &str, given: u32, frame: &[u8]) {
+        self.text += step;
+        self.counts(given, frame);
+        self.text += "\n";
+    }
+
+    fn format(&mut self, step: &str, (f, n): (usize, usize)) -> Vec<u8> {
+        let mut frame = vec![0; f];
+        let given = store::format(&mut frame, f, n);
+        self.line(step, given, &frame);
+        frame
+    }
+
+    fn put(&mut self, step: &str, frame: &mut [u8], key: &[u8], value: &[u8]) {
+        let given = store::put(frame, key, value);
+        self.line(step, given, frame);
+    }
+
+    fn erase(&mut self, step: &str, frame: &mut [u8], key: &[u8]) {
+        let given = store::erase(frame, key);
+        self.line(step, given, frame);
+    }
+
+    fn look_up(&mut self, frame: &[u8], key: &[u8], expected: &[u8]) {
+        let (given, _, long) = store::look_up(frame, key);
+        let same = if store::value(frame, key) == expected { "the same" } else { "not the same" };
+        writeln!(self.text, "  looked up: {given} long {long} {same}").expect("a text takes more");
+    }
+
+    fn children(&mut self, children: u8, given: u32, frame: &[u8]) {
+        write!(self.text, "children {children}").expect("a text takes more");
+        self.counts(given, frame);
+        let kind = get_entry(frame, get16(frame, AT_ROOT)).1;
+        writeln!(self.text, " kind {kind}").expect("a text takes more");
+    }
+
+    fn worked(&mut self) {
+        let mut frame = self.format("W1 format", SMALL);
+        self.put("W2 put a=1", &mut frame, b"a", b"1");
+        self.put("W3 put b=2", &mut frame, b"b", b"2");
+        self.put("W4 put ab=3", &mut frame, b"ab", b"3");
+        self.put("W5 put ac=4", &mut frame, b"ac", b"4");
+        let mut packed = vec![0; frame.len()];
+        let given = store::pack(&frame, &mut packed);
+        self.line("W6 pack W5", given, &packed);
+        for (slot, at) in [(1, 64), (3, 72)] {
+            writeln!(self.text, "W6 entry {slot}: {}", get32(&packed, at)).expect("a text");
+        }
+        let mut other = frame.clone();
+        self.put("W7 W5, put ad=5", &mut frame, b"ad", b"5");
+        self.put("W8 put ae=6", &mut frame, b"ae", b"6");
+        self.erase("W9 W5, erase ab", &mut other, b"ab");
+        self.put("W9 put ad=5", &mut other, b"ad", b"5");
+        let mut frame = self.format("W10 format", SMALL);
+        self.put("W10 put x=1", &mut frame, b"x", b"1");
+        self.put("W10 put ab=2", &mut frame, b"ab", b"2");
+        self.put("W10 put ac=3", &mut frame, b"ac", b"3");
+        self.erase("W10 erase x", &mut frame, b"x");
+    }
+
+    fn lengths(&mut self) {
+        let value: Vec<u8> = (0..LONG).map(|i| (i % 251) as u8).collect();
+        let mut frame = self.format("W11 format", LARGE);
+        self.put("W11 put fw", &mut frame, b"fw", &value[..32_768]);
+        for (key, length) in [(b"a", 32_767), (b"b", 32_768), (b"c", 65_535), (b"d", LONG)] {
+            self.put(&format!("value of {length}"), &mut frame, key, &value[..length]);
+            self.look_up(&frame, key, &value[..length]);
+        }
+        for length in [112, 113] {
+            let key = vec![b'k'; length];
+            self.put(&format!("key of {length}"), &mut frame, &key, b"v");
+            self.look_up(&frame, &key, b"v");
+        }
+    }
+
+    fn growth_and_shrinking(&mut self) {
+        let mut frame = self.format("children 0", WIDE);
+        for n in 1..=MOST_CHILDREN {
+            let given = store::put(&mut frame, &[n], b"v");
+            self.children(n, given, &frame);
+        }
+        for n in (1..=MOST_CHILDREN).rev() {
+            let given = store::erase(&mut frame, &[n]);
+            self.children(n - 1, given, &frame);
+        }
+    }
+}
+
+fn told() -> String {
+    let mut told = Told { text: String::new() };
+    told.worked();
+    told.lengths();
+    told.growth_and_shrinking();
+    told.text
+}
+
+#[test]
+fn the_lines_have_the_printed_figures() {
+    let told = told();
+    for printed in PRINTED {
+        assert!(told.lines().any(|line| line.starts_with(printed)), "no line {printed}");
+    }
+    let lines: Vec<&str> = told.lines().collect();
+    let top = lines.iter().position(|line| line.starts_with("children 49: "));
+    let top = top.expect("a line for the most children");
+    for (part, expected) in [(&lines[..=top], UP), (&lines[top..], DOWN)] {
+        for (children, kind) in expected {
+            let start = format!("children {children}: 0 ");
+            let line = part.iter().find(|line| line.starts_with(&start)).expect("a line");
+            assert!(line.ends_with(&format!(" kind {kind}")), "{line}");
+        }
+    }
+    for accepted in ["value of 32767", "value of 32768", "value of 65535", "key of 112"] {
+        let start = format!("{accepted}: 0 ");
+        assert!(lines.iter().any(|line| line.starts_with(&start)), "no line {start}");
+    }
+}
+
+#[test]
+fn the_stored_lines_are_the_same() {
+    let root = Path::new(env!("CARGO_MANIFEST_DIR")).join("..");
+    let Ok(stored) = std::fs::read_to_string(root.join("crates/vectors/stdout")) else {
+        return;
+    };
+    for (at, (stored, told)) in stored.lines().zip(told().lines()).enumerate() {
+        assert_eq!(stored, told, "line {at}");
+    }
+    assert_eq!(stored, told());
+}
+
+#[test]
+#[ignore = "writes the lines out, for a stored file that has to be made anew"]
+fn write_the_lines() {
+    print!("{}", told());
+}
