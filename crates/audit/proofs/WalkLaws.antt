@@ -32,7 +32,7 @@ use Rattle.census.specs.declared.Sums.{Sums}
 use Rattle.census.specs.Told.{Tidy, Tally, BodyTold, ExtentTold, Told}
 use Rattle.census.proofs.TakeLaws.{extent-in}
 use Rattle.census.proofs.ToldLaws.{tidy-slot, tidy-part, grown-none, told-no, told-yes, told-as, told-on, told-first, body-sited}
-use Rattle.audit.specs.Walk.{Live, InnerSlot, Kept, Extended, TreeItems, Below, RunItems, Under}
+use Rattle.audit.specs.Walk.{Live, InnerSlot, Kept, Extended, TreeItems, Below, RunItems, Under, At}
 use Rattle.audit.proofs.TreeLaws.{tree-first, leaf-of, leaf-is, prefix-of, prefix-is, node-of, node-is, node-short, node-kind, kind-node}
 
 -- ---- a slot
@@ -54,11 +54,11 @@ module _ {f path : List ℕ} {s d u b : ℕ} {m : List ℕ} {t : Sums} where
   visit-slot n h = told-no n (λ is B zs T Y. let w = tree-slot zs is T Y in h (w .0) (w .1))
 
   module _ {kind o : ℕ} (ek : kind ≡ highOf f s) (eo : o ≡ placeOf f s) where
-    pub visit-kind : {m' : List ℕ} {r : Sums} → r .good ≡ false → (Live kind → ⊥) → Told (TreeItems f path s) (TreeItems f path s) f d u b m t m' r
+    visit-kind : {m' : List ℕ} {r : Sums} → r .good ≡ false → (Live kind → ⊥) → Told (TreeItems f path s) (TreeItems f path s) f d u b m t m' r
     visit-kind n h = told-no n (λ is B zs T Y. h (rw ek (tree-first T .2)))
 
     module _ {m' : List ℕ} {t' : Sums} (T : BodyTold d u b kind o m t m' t') where
-      pub visit-body : {m'' : List ℕ} {r : Sums} → t' .good ≡ false → r .good ≡ false → Told (TreeItems f path s) (TreeItems f path s) f d u b m t m'' r
+      visit-body : {m'' : List ℕ} {r : Sums} → t' .good ≡ false → r .good ≡ false → Told (TreeItems f path s) (TreeItems f path s) f d u b m t m'' r
       visit-body n k =
           told-no k
           (λ is B zs W Y.
@@ -67,12 +67,35 @@ module _ {f path : List ℕ} {s d u b : ℕ} {m : List ℕ} {t : Sums} where
           T .fails n is B s
           (tidy-part ys (body s kind o ∷ is) (λ v. omega (arith, sum-app v zs is, ap (sum v) (w .2), sum-cons v (body s kind o) ys, sum-app v ys (body s kind o ∷ is), sum-cons v (body s kind o) is)) Y))
 
-      pub visit-on : {m'' : List ℕ} {r : Sums} → t' .good ≡ true → 1 ≤ s → s ≤ u → Live kind → Under f path kind o d u b m' t' m'' r → Told (TreeItems f path s) (TreeItems f path s) f d u b m t m'' r
+      visit-on : {m'' : List ℕ} {r : Sums} → t' .good ≡ true → 1 ≤ s → s ≤ u → Live kind → Under f path kind o d u b m' t' m'' r → Told (TreeItems f path s) (TreeItems f path s) f d u b m t m'' r
       visit-on g a z L R =
           let h = L .some in
           let l = L .last in
           told-on (body s kind o ∷ []) (T .grown g s) (body-sited s kind o a z (sym eo) h (omega arith) (T .low g) (T .high g), tt) (λ ys W. W) (λ zs is Y W. tree-split zs ek eo W)
           (R .of s (entry-made ek eo))
+
+-- what was refused below is refused here
+pub told-again : {H P : List Item → Type 0} {f : List ℕ} {d u b : ℕ} {m : List ℕ} {t : Sums} {m' m'' : List ℕ} {r r' : Sums} → r .good ≡ false → r' .good ≡ false → Told H P f d u b m t m' r → Told H P f d u b m t m'' r'
+told-again n k T = told-no k (T .fails n)
+
+-- what stands at a place, of whatever slot
+module _ {f path : List ℕ} {kind o d u b : ℕ} {m : List ℕ} {t : Sums} where
+  pub at-kind : {m' : List ℕ} {r : Sums} → r .good ≡ false → (Live kind → ⊥) → At f path kind o d u b m t m' r
+  at-kind n h = record { of = λ s E a z. visit-kind (sym (E .kindIs)) (sym (E .placeIs)) n h }
+
+  module _ {m' : List ℕ} {t' : Sums} (T : BodyTold d u b kind o m t m' t') where
+    pub at-body : {m'' : List ℕ} {r : Sums} → t' .good ≡ false → r .good ≡ false → At f path kind o d u b m t m'' r
+    at-body n k = record { of = λ s E a z. visit-body (sym (E .kindIs)) (sym (E .placeIs)) T n k }
+
+    pub at-on : {m'' : List ℕ} {r : Sums} → t' .good ≡ true → Live kind → Under f path kind o d u b m' t' m'' r → At f path kind o d u b m t m'' r
+    at-on g L R = record { of = λ s E a z. visit-on (sym (E .kindIs)) (sym (E .placeIs)) T g a z L R }
+
+pub slot-at : {f path : List ℕ} {s kind k o d u b : ℕ} {m : List ℕ} {t : Sums} {m' : List ℕ} {r : Sums} → kind ≡ highOf f s → o ≡ placeOf f s → 1 ≤ s → s ≤ u → kind ≡ k
+    → At f path k o d u b m t m' r → Told (TreeItems f path s) (TreeItems f path s) f d u b m t m' r
+slot-at {f} {path} {s} ek eo a z e A = A .of s (entry-made (sym e ∙ ek) eo) a z
+
+pub live-leaf : Live 1
+live-leaf = record { some = omega arith; last = omega arith; crossing = λ e. omega arith }
 
 pub under-as : {f path : List ℕ} {kind k o d u b : ℕ} {m : List ℕ} {t : Sums} {m' : List ℕ} {r : Sums} → kind ≡ k → Under f path k o d u b m t m' r → Under f path kind o d u b m t m' r
 under-as e R = rw e R

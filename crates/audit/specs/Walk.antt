@@ -54,3 +54,7 @@ pub record RunItems (f path : List ℕ) (o kind : ℕ) (ks : List (ℕ × ℕ)) 
 -- what is told of a body of the kind at o: of whatever slot it is, what stands below
 pub record Under (f path : List ℕ) (kind o d u b : ℕ) (m : List ℕ) (t : Sums) (m' : List ℕ) (t' : Sums) : Type 0 where
   pub of : (s : ℕ) → Entry f s kind o → Told (Below f path s kind o) (Below f path s kind o) f d u b m t m' t'
+
+-- the same with the body itself: of whatever slot it is, all that stands there
+pub record At (f path : List ℕ) (kind o d u b : ℕ) (m : List ℕ) (t : Sums) (m' : List ℕ) (t' : Sums) : Type 0 where
+  pub of : (s : ℕ) → Entry f s kind o → 1 ≤ s → s ≤ u → Told (TreeItems f path s) (TreeItems f path s) f d u b m t m' t'

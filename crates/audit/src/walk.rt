@@ -1,6 +1,7 @@
 // The live tree, parent first and children in byte order. The path that leads to a body stands in a lent buffer; what is left of its 113
 // bytes falls with every step down.
 use census::Sums;
+use census::kept;
 use census::refused;
 use census::take;
 use fields::body::Prefix;
@@ -12,12 +13,12 @@ use shape::leaf::leaf_good;
 use shape::prefix::prefix_good;
 use shape_inner::inner_good;
 ghost use mathlib.Core.Path.{_≡_};
-ghost use Prim.Native.Nat.{_+_, _*_, _<_, _≤_};
+ghost use Prim.Native.Nat.{_+_, _*_, _%_, _<_, _≤_};
 ghost use lib.ListN.{length, take};
 ghost use Rattle.layout.specs.Kind.{bodySize};
 ghost use Rattle.shape.specs.Decides.{Decides};
 ghost use Rattle.census.specs.Told.{Ground, Limits, Tally, Told};
-ghost use Rattle.audit.specs.Walk.{Live, InnerSlot, Kept, Extended, Under, TreeItems};
+ghost use Rattle.audit.specs.Walk.{Live, InnerSlot, Kept, Extended, Under, At, TreeItems};
 
 // The longest path to an inner node.
 const DEEPEST: usize = 112;
@@ -65,7 +66,7 @@ fn extend(path: &mut [u8], depth: usize, f: &[u8], at: usize, n: usize)
     }
 }
 
-// The Leaf whose body lies at o: its extent.
+// The Leaf whose body lies at o: its body and its extent.
 fn leaf(
     f: &[u8],
     map: &mut [u64],
@@ -77,14 +78,18 @@ fn leaf(
     b: usize,
     t: Sums,
 ) -> Sums
-    requires { ⌜ Ground (now f) d u b × Limits d u b (length (now map)) × Tally u 1 t × (depth ≤ length (now path)) × (o + 16 ≤ b) ⌝ }
-    ensures { λ r. ⌜ Under (now (f .entry)) (take depth (now (path .entry))) 1 o d u b (now (map .entry)) t (now (map .exit)) r ⌝ }
+    requires { ⌜ Ground (now f) d u b × Limits d u b (length (now map)) × Tally u 0 t × (depth ≤ length (now path)) × (o % 8 ≡ 0) × (o < 1048576) ⌝ }
+    ensures { λ r. ⌜ At (now (f .entry)) (take depth (now (path .entry))) 1 o d u b (now (map .entry)) t (now (map .exit)) r ⌝ }
 {
+    let r = take::body(map, Kind::LEAF, o, d, u, b, t);
+    if !r.good {
+        return refused();
+    }
     let l = leaf_good(f, o, path, depth, d, b);
     if !l.good {
         return refused();
     }
-    take::extent(map, l.extent, l.size, d, u, b, t)
+    take::extent(map, l.extent, l.size, d, u, b, r)
 }
 
 // The Prefix whose body lies at o: the inner node below.
@@ -114,7 +119,12 @@ fn prefix(
         return refused();
     }
     extend(path, depth, f, o + Prefix::BYTES, n);
-    visit(f, map, path, depth + n, c, d, u, b, t)
+    let e = Entry::read(f, c);
+    let r = deep(f, map, path, depth + n, e.high, e.place, d, u, b, t);
+    if !r.good {
+        return refused();
+    }
+    kept(r)
 }
 
 // The inner node whose body lies at o: its children.
@@ -157,8 +167,37 @@ fn node(
     sums
 }
 
-// The tree at slot s, to which the first bytes of the path lead, as many as depth.
-pub fn visit(
+// What stands at o, of a kind other than a Leaf's: its body, and all below.
+pub fn deep(
+    f: &[u8],
+    map: &mut [u64],
+    path: &mut [u8],
+    depth: usize,
+    kind: usize,
+    o: usize,
+    d: usize,
+    u: usize,
+    b: usize,
+    t: Sums,
+) -> Sums
+    requires { ⌜ Ground (now f) d u b × Limits d u b (length (now map)) × Tally u 0 t × (113 ≤ length (now path)) × (depth ≤ 113) × (kind ≡ 1 → ⊥) × (o % 8 ≡ 0) × (o < 1048576) ⌝ }
+    ensures { λ r. ⌜ Kept depth (now (path .entry)) (now (path .exit)) × At (now (f .entry)) (take depth (now (path .entry))) kind o d u b (now (map .entry)) t (now (map .exit)) r ⌝ }
+{
+    if !live(kind) {
+        return refused();
+    }
+    let r = take::body(map, kind, o, d, u, b, t);
+    if !r.good {
+        return refused();
+    }
+    if kind == Kind::PREFIX {
+        return prefix(f, map, path, depth, o, d, u, b, r);
+    }
+    node(f, map, path, depth, o, kind, d, u, b, r)
+}
+
+// The tree at slot s, to which the first bytes of the path lead, as many as depth. Most slots are Leaves, and no call is made for one.
+fn visit(
     f: &[u8],
     map: &mut [u64],
     path: &mut [u8],
@@ -180,20 +219,13 @@ pub fn visit(
         return refused();
     }
     let e = Entry::read(f, s);
-    let kind = e.high;
-    let o = e.place;
-    if !live(kind) {
-        return refused();
+    if e.high == Kind::LEAF {
+        return leaf(f, map, path, depth, e.place, d, u, b, t);
     }
-    let r = take::body(map, kind, o, d, u, b, t);
+    let k = kept(t);
+    let r = deep(f, map, path, depth, e.high, e.place, d, u, b, k);
     if !r.good {
         return refused();
     }
-    if kind == Kind::LEAF {
-        return leaf(f, map, path, depth, o, d, u, b, r);
-    }
-    if kind == Kind::PREFIX {
-        return prefix(f, map, path, depth, o, d, u, b, r);
-    }
-    node(f, map, path, depth, o, kind, d, u, b, r)
+    kept(r)
 }

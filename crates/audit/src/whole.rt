@@ -1,5 +1,5 @@
 // The root with all below it, the lists of freed slots, and the sums over both.
-use crate::walk::visit;
+use crate::walk::deep;
 use census::Sums;
 use census::freed::lists;
 use census::refused;
@@ -7,21 +7,21 @@ use census::take;
 use fields::header::Header;
 use layout::entry::Entry;
 use layout::kind::Kind;
+use shape::leaf::lone_good;
 use shape::zero::zero_eight;
 ghost use mathlib.Core.Path.{_≡_};
 ghost use mathlib.Core.List.{[]};
 ghost use Prim.Native.Nat.{_+_, _-_, _*_, _%_, _<_, _≤_};
 ghost use lib.ListN.{length};
-ghost use Rattle.layout.specs.Number.{Bytes};
 ghost use Rattle.claims.specs.Units.{Seen};
 ghost use Rattle.census.specs.Told.{Ground, Limits, Tally, Told};
-ghost use Rattle.audit.specs.Walk.{Under};
+ghost use Rattle.audit.specs.Walk.{At};
 ghost use Rattle.audit.specs.Audit.{HeaderFits, RootItems, EmptyTold, Closes, WholeTold};
 
 pub struct Whole {
-    pub good: bool,
     // how many slots each list has, by kind
     pub free: [usize; Kind::TABLE],
+    pub good: bool,
 }
 
 // An EmptyRoot whose body lies at o.
@@ -39,6 +39,22 @@ fn empty(f: &[u8], map: &mut [u64], o: usize, d: usize, u: usize, b: usize, t: S
     r
 }
 
+// A Leaf whose body lies at o, to which no path leads.
+fn lone(f: &[u8], map: &mut [u64], o: usize, d: usize, u: usize, b: usize, t: Sums) -> Sums
+    requires { ⌜ Ground (now f) d u b × Limits d u b (length (now map)) × Tally u 0 t × (o % 8 ≡ 0) × (o < 1048576) ⌝ }
+    ensures { λ r. ⌜ At (now (f .entry)) [] 1 o d u b (now (map .entry)) t (now (map .exit)) r ⌝ }
+{
+    let r = take::body(map, Kind::LEAF, o, d, u, b, t);
+    if !r.good {
+        return refused();
+    }
+    let l = lone_good(f, o, d, b);
+    if !l.good {
+        return refused();
+    }
+    take::extent(map, l.extent, l.size, d, u, b, r)
+}
+
 // The root slot: "EmptyRoot stands only at the root".
 fn root(f: &[u8], map: &mut [u64], s: usize, d: usize, u: usize, b: usize, t: Sums) -> Sums
     requires { ⌜ Ground (now f) d u b × Limits d u b (length (now map)) × Tally u 0 t ⌝ }
@@ -54,8 +70,11 @@ fn root(f: &[u8], map: &mut [u64], s: usize, d: usize, u: usize, b: usize, t: Su
     if e.high == Kind::EMPTY_ROOT {
         return empty(f, map, e.place, d, u, b, t);
     }
+    if e.high == Kind::LEAF {
+        return lone(f, map, e.place, d, u, b, t);
+    }
     let mut path: [u8; 113] = [0; 113];
-    visit(f, map, &mut path, 0, s, d, u, b, t)
+    deep(f, map, &mut path, 0, e.high, e.place, d, u, b, t)
 }
 
 // "B - D equals the sizes of all of them plus X", U slots in all, and R Leaves.
@@ -90,8 +109,8 @@ fn over(f: &[u8], map: &mut [u64]) -> Whole
     let r = root(f, map, Header::root(f), d, u, b, start);
     if !r.good {
         return Whole {
-            good: false,
             free: none,
+            good: false,
         };
     }
     let l = lists(f, map, d, u, b, r);
@@ -99,15 +118,23 @@ fn over(f: &[u8], map: &mut [u64]) -> Whole
     let free = l.free;
     if !sums.good {
         return Whole {
-            good: false,
             free: none,
+            good: false,
         };
     }
     let good = closes(f, sums.slots, sums.bytes, r.leaves);
     Whole {
-        good: good,
         free: free,
+        good: good,
     }
+}
+
+fn smallest(f: &[u8]) -> Whole
+    requires { ⌜ HeaderFits (now f) × (length (now f) ≤ 4096) ⌝ }
+    ensures { λ r. ⌜ WholeTold (now (f .entry)) (r .good) (r .free) ⌝ }
+{
+    let mut map: [u64; 8] = [0; 8];
+    over(f, &mut map)
 }
 
 fn small(f: &[u8]) -> Whole
@@ -131,6 +158,9 @@ pub fn all(f: &[u8]) -> Whole
     requires { ⌜ HeaderFits (now f) ⌝ }
     ensures { λ r. ⌜ WholeTold (now (f .entry)) (r .good) (r .free) ⌝ }
 {
+    if f.len() <= 4096 {
+        return smallest(f);
+    }
     if f.len() <= 16384 {
         return small(f);
     }

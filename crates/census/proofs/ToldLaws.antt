@@ -101,6 +101,13 @@ module _ {H P : List Item → Type 0} {f : List ℕ} {d u b : ℕ} {m : List ℕ
         fails = λ n is B xs x. T .fails n is B xs (p xs x);
       }
 
+  -- the same from counts rebuilt, and with them
+  pub told-from : {t' : Sums} → t' ≡ t → Told H P f d u b m t' m' r → Told H P f d u b m t m' r
+  told-from e T = rw (sym e) T
+
+  pub told-to : {r' : Sums} → r' ≡ r → Told H P f d u b m t m' r → Told H P f d u b m t m' r'
+  told-to e T = rw e T
+
 -- from what is told of the rest, what is told of the whole
 abbrev pub Leads : (List Item → Type 0) → (List Item → Type 0) → (List Item → Type 0) → (List Item → Type 0) → List ℕ → ℕ → ℕ → ℕ → List ℕ → Sums → List ℕ → Sums → Type 0
 Leads H P H' P' f d u b m t m' t' = (m'' : List ℕ) (r : Sums) → Told H P f d u b m t m'' r → Told H' P' f d u b m' t' m'' r
@@ -143,6 +150,9 @@ body-sited {f} s kind o a z e h l low high =
     let n = size-least kind h l in
     let q : o % 8 ≡ 0 = sym (ap (λ (x : ℕ). x % 8) e) ∙ place-eighth _ in
     record { eighth = body-eighth s kind o q; within = record { low = low; high = high }; slotted = (a, z, e, omega arith) }
+
+pub tally-to : {u x : ℕ} {t t' : Sums} → t' ≡ t → Tally u x t → Tally u x t'
+tally-to e T = rw e T
 
 -- a body that is no Leaf's, or a freed one, brings no extent
 pub tally-body : {u : ℕ} {t : Sums} → Tally u 1 t → Tally u 0 t

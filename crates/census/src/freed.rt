@@ -1,5 +1,6 @@
 // The lists of freed slots: "the list it is on tells the kind"; the high 15 bits of an entry are the next slot, and 0 ends a list.
 use crate::Sums;
+use crate::kept;
 use crate::refused;
 use crate::take;
 use fields::header::Header;
@@ -32,7 +33,7 @@ fn chain(
     ensures { λ r. ⌜ Told (ChainItems (now (f .entry)) kind head) (ChainItems (now (f .entry)) kind head) (now (f .entry)) d u b (now (map .entry)) t (now (map .exit)) r ⌝ }
 {
     let mut s = head;
-    let mut sums = t;
+    let mut sums = kept(t);
     while s != 0 {
         if u < s {
             return refused();
@@ -60,7 +61,7 @@ fn list(f: &[u8], map: &mut [u64], kind: usize, d: usize, u: usize, b: usize, t:
     if head != 0 {
         return refused();
     }
-    t
+    kept(t)
 }
 
 // All eight, and how many slots each has.
@@ -69,7 +70,7 @@ pub fn lists(f: &[u8], map: &mut [u64], d: usize, u: usize, b: usize, t: Sums) -
     ensures { λ r. ⌜ Told (CountedItems (now (f .entry)) (r .free)) (FreedItems (now (f .entry)) 1) (now (f .entry)) d u b (now (map .entry)) t (now (map .exit)) (r .sums) ⌝ }
 {
     let mut free: [usize; Kind::TABLE] = [0; Kind::TABLE];
-    let mut sums = t;
+    let mut sums = kept(t);
     let mut kind = 1;
     while kind < Kind::TABLE {
         let r = list(f, map, kind, d, u, b, sums);

@@ -4,7 +4,7 @@ pub mod freed;
 pub mod take;
 
 ghost use mathlib.Core.Path.{_≡_};
-ghost use mathlib.Core.Bool.{false};
+ghost use mathlib.Core.Bool.{true, false};
 
 // What has been counted so far; not good: a refusal, and the counts say nothing.
 pub struct Sums {
@@ -25,5 +25,18 @@ pub fn refused() -> Sums
         slots: 0,
         bytes: 0,
         leaves: 0,
+    }
+}
+
+// The same counts, one after the other: a copy of the whole would carry along the bytes between them.
+pub fn kept(t: Sums) -> Sums
+    requires { ⌜ t .good ≡ true ⌝ }
+    ensures { λ r. ⌜ r ≡ t ⌝ }
+{
+    Sums {
+        good: true,
+        slots: t.slots,
+        bytes: t.bytes,
+        leaves: t.leaves,
     }
 }

@@ -2,7 +2,7 @@
 // live extent claims its units; a unit that is claimed twice is refused.
 ghost use mathlib.Core.Path.{_≡_};
 ghost use mathlib.Core.Bool.{true, false};
-ghost use Prim.Native.Nat.{_+_, _*_, _^_, _<_, _≤_};
+ghost use Prim.Native.Nat.{_+_, _*_, _%_, _^_, _<_, _≤_};
 ghost use lib.ListN.{length};
 ghost use Rattle.claims.specs.Units.{Mask, Run, Claimed, Taken};
 
@@ -23,8 +23,23 @@ fn within(at: usize, left: usize) -> usize
     if left < room { left } else { room }
 }
 
-// Marks count units from the unit `from` on. False if one of them has its mark already: the map is then of no more use.
-pub fn claim(map: &mut [u64], from: usize, count: usize) -> bool
+// Units that stand in one word.
+fn claim_word(map: &mut [u64], from: usize, count: usize) -> bool
+    requires { ⌜ (1 ≤ count) × (from % 64 + count ≤ 64) × (from + count ≤ 64 * length (now map)) ⌝ }
+    ensures { λ r. ⌜ (r ≡ true → Claimed from count (now (map .entry)) (now (map .exit))) × (r ≡ false → Taken from count (now (map .entry))) ⌝ }
+{
+    let bits = mask(from % 64, count);
+    let word = from / 64;
+    let old = map[word];
+    if old & bits != 0 {
+        return false;
+    }
+    map[word] = old | bits;
+    true
+}
+
+// Units that may stand in several words.
+fn claim_across(map: &mut [u64], from: usize, count: usize) -> bool
     requires { ⌜ (from + count ≤ 64 * length (now map)) × (from + count < 2 ^ 64) ⌝ }
     ensures { λ r. ⌜ (r ≡ true → Claimed from count (now (map .entry)) (now (map .exit))) × (r ≡ false → Taken from count (now (map .entry))) ⌝ }
 {
@@ -43,4 +58,18 @@ pub fn claim(map: &mut [u64], from: usize, count: usize) -> bool
         left -= n;
     }
     true
+}
+
+// Marks count units from the unit `from` on. False if one of them has its mark already: the map is then of no more use.
+pub fn claim(map: &mut [u64], from: usize, count: usize) -> bool
+    requires { ⌜ (from + count ≤ 64 * length (now map)) × (from + count < 2 ^ 64) ⌝ }
+    ensures { λ r. ⌜ (r ≡ true → Claimed from count (now (map .entry)) (now (map .exit))) × (r ≡ false → Taken from count (now (map .entry))) ⌝ }
+{
+    if count == 0 {
+        return true;
+    }
+    if from % 64 + count <= 64 {
+        return claim_word(map, from, count);
+    }
+    claim_across(map, from, count)
 }

@@ -24,7 +24,13 @@ pub fn sorted_bytes(kind: usize) -> usize
     requires { ⌜ kind < 6 ⌝ }
     ensures { λ r. ⌜ r ≡ sortedBytes kind ⌝ }
 {
-    SORTED_BYTES[kind]
+    if kind == Kind::NODE4 {
+        return SORTED_BYTES[Kind::NODE4];
+    }
+    if kind == Kind::NODE16 {
+        return SORTED_BYTES[Kind::NODE16];
+    }
+    SORTED_BYTES[0]
 }
 
 // How many children are in use.

@@ -44,6 +44,16 @@ module _ (x y : ℕ → ℕ) (lo hi : ℕ) where
   within : T (every (λ (k : ℕ). leb (x k) (y k)) (suc hi - lo) lo) → (k : ℕ) → lo ≤ k → k ≤ hi → x k ≤ y k
   within t k a b = leb→le (x k) (y k) (at (λ (k : ℕ). leb (x k) (y k)) (suc hi - lo) lo t k a (omega arith))
 
+-- a place of the tables that is no kind's
+low : (k : ℕ) → k < 9 → (k ≡ 5 → ⊥) → (k ≡ 6 → ⊥) → (k ≡ 7 → ⊥) → (k ≡ 8 → ⊥) → k < 5
+low k h d e f g = omega arith
+
+pub zeroth : (k : ℕ) → k < 9 → (k ≡ 1 → ⊥) → (k ≡ 2 → ⊥) → (k ≡ 3 → ⊥) → (k ≡ 4 → ⊥) → (k ≡ 5 → ⊥) → (k ≡ 6 → ⊥) → (k ≡ 7 → ⊥) → (k ≡ 8 → ⊥) → k ≡ 0
+zeroth k h w x y z d e f g = below k (low k h d e f g) w x y z
+  where
+    below : (k : ℕ) → k < 5 → (k ≡ 1 → ⊥) → (k ≡ 2 → ⊥) → (k ≡ 3 → ⊥) → (k ≡ 4 → ⊥) → k ≡ 0
+    below k h w x y z = omega arith
+
 -- ---- the rules
 
 -- every body keeps the next one at a multiple of 8

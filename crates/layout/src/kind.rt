@@ -1,6 +1,7 @@
 // The kinds of body and the tables over them, by kind: place 0 is no kind.
 ghost use mathlib.Core.Path.{_≡_};
 ghost use Prim.Native.Nat.{_<_};
+ghost use lib.ListN.{getD};
 ghost use Rattle.layout.specs.Kind.{bodySize, fewest, most, shrinkMark, kindUp, kindDown};
 
 pub struct Kind;
@@ -37,12 +38,44 @@ const KINDS_UP: [usize; Kind::TABLE] = [0, 0, 0, 0, 5, 6, 7, 0, 0];
 
 const KINDS_DOWN: [usize; Kind::TABLE] = [0, 0, 0, 0, 0, 4, 5, 6, 0];
 
+// What a table holds at a kind. Each place is asked for by its own number, so that a table is nowhere laid out to be indexed.
+fn held(table: [usize; Kind::TABLE], kind: usize) -> usize
+    requires { ⌜ kind < 9 ⌝ }
+    ensures { λ r. ⌜ r ≡ getD table kind 0 ⌝ }
+{
+    if kind == Kind::LEAF {
+        return table[Kind::LEAF];
+    }
+    if kind == Kind::PREFIX {
+        return table[Kind::PREFIX];
+    }
+    if kind == Kind::CROSSING {
+        return table[Kind::CROSSING];
+    }
+    if kind == Kind::NODE4 {
+        return table[Kind::NODE4];
+    }
+    if kind == Kind::NODE16 {
+        return table[Kind::NODE16];
+    }
+    if kind == Kind::NODE48 {
+        return table[Kind::NODE48];
+    }
+    if kind == Kind::NODE256 {
+        return table[Kind::NODE256];
+    }
+    if kind == Kind::EMPTY_ROOT {
+        return table[Kind::EMPTY_ROOT];
+    }
+    table[0]
+}
+
 // Bytes of a body.
 pub fn body_size(kind: usize) -> usize
     requires { ⌜ kind < 9 ⌝ }
     ensures { λ r. ⌜ r ≡ bodySize kind ⌝ }
 {
-    BODY_SIZES[kind]
+    held(BODY_SIZES, kind)
 }
 
 // Fewest children in use.
@@ -50,7 +83,7 @@ pub fn fewest_children(kind: usize) -> usize
     requires { ⌜ kind < 9 ⌝ }
     ensures { λ r. ⌜ r ≡ fewest kind ⌝ }
 {
-    FEWEST_CHILDREN[kind]
+    held(FEWEST_CHILDREN, kind)
 }
 
 // Most children in use.
@@ -58,7 +91,7 @@ pub fn most_children(kind: usize) -> usize
     requires { ⌜ kind < 9 ⌝ }
     ensures { λ r. ⌜ r ≡ most kind ⌝ }
 {
-    MOST_CHILDREN[kind]
+    held(MOST_CHILDREN, kind)
 }
 
 // The number of children at which an erase goes to the next kind down (of a Node4: to its only child).
@@ -66,7 +99,7 @@ pub fn shrink_mark(kind: usize) -> usize
     requires { ⌜ kind < 9 ⌝ }
     ensures { λ r. ⌜ r ≡ shrinkMark kind ⌝ }
 {
-    SHRINK_MARKS[kind]
+    held(SHRINK_MARKS, kind)
 }
 
 // The next larger inner kind.
@@ -74,7 +107,7 @@ pub fn kind_up(kind: usize) -> usize
     requires { ⌜ kind < 9 ⌝ }
     ensures { λ r. ⌜ r ≡ kindUp kind ⌝ }
 {
-    KINDS_UP[kind]
+    held(KINDS_UP, kind)
 }
 
 // The next smaller inner kind.
@@ -82,5 +115,5 @@ pub fn kind_down(kind: usize) -> usize
     requires { ⌜ kind < 9 ⌝ }
     ensures { λ r. ⌜ r ≡ kindDown kind ⌝ }
 {
-    KINDS_DOWN[kind]
+    held(KINDS_DOWN, kind)
 }

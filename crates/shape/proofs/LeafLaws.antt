@@ -13,44 +13,26 @@ use Rattle.layout.proofs.NumberLaws.{lt-or-le}
 use Rattle.model.specs.Edition.{edition1}
 use Rattle.model.specs.Tree.{up8}
 use Rattle.model.specs.Body.{LeafAt}
-use Rattle.shape.specs.Shape.{Blank, Clean, ExtentFits, Along, KeyHere, LeafHere, LeafTold}
+use Rattle.shape.specs.Shape.{Blank, Clean, ExtentFits, Follows, Ends, KeyHere, LeafHere, LeafTold}
 use Rattle.shape.proofs.DecideLaws.{clash}
-use Rattle.shape.proofs.ZeroLaws.{blank-zero, zero-blank, range-more, range-join}
+use Rattle.shape.proofs.ZeroLaws.{blank-zero, zero-blank}
 use Rattle.shape.proofs.BytesLaws.{bytesFrom, bytes-long, bytes-text, bytes-append, text-left, clean-has, has-clean, LegalKey, legal-key, key-legal, walked-at, BeginsAt, begins-at, at-begins}
-
--- ---- bytes along a path
-
-module _ (f : List ℕ) (e : ℕ) (path : List ℕ) where
-  pub along-none : Along f e path 0
-  along-none = record { same = λ i l. absurd (omega arith); clean = λ a x y. absurd (omega arith) }
-
-  pub along-more : (i : ℕ) → Along f e path i → byteAt f (e + i) ≡ getD path i 0 → (byteAt f (e + i) ≡ 0 → ⊥) → Along f e path (i + 1)
-  along-more i A s z =
-      record {
-        same = λ j l. range-more (λ (a : ℕ). byteAt f (e + a) ≡ getD path a 0) 0 i (λ k x y. A .same k y) s j (omega arith) l;
-        clean = λ a x y. range-more (λ (a : ℕ). byteAt f a ≡ 0 → ⊥) e (e + i) (A .clean) z a x (omega arith);
-      }
 
 -- ---- the key
 
 module _ (f : List ℕ) (e k : ℕ) (path : List ℕ) (depth : ℕ) where
-  pub key-along : (m : ℕ) → m ≤ depth → m ≤ k → KeyHere f e k path depth → Along f e path m
-  key-along m x y K =
-      record { same = λ i l. K .same i (omega arith) (omega arith); clean = λ a p q. K .clean a p (omega arith) }
+  pub key-end : KeyHere f e k path depth → Ends path k depth
+  key-end K = record { short = K .short; end = K .end }
 
-  -- the path ends within the key
-  pub key-within : depth ≤ k → Along f e path depth → Clean f (e + depth) (e + k) → KeyHere f e k path depth
-  key-within l A C =
-      record {
-        short = omega arith;
-        clean = range-join (λ (a : ℕ). byteAt f a ≡ 0 → ⊥) e (e + depth) (e + k) (A .clean) C;
-        same = λ i x y. A .same i x;
-        end = λ x. absurd (omega arith);
-      }
+  pub key-follows : (n : ℕ) → n ≤ depth → n ≤ k → KeyHere f e k path depth → Follows f e path 0 n
+  key-follows n x y K i p q = K .same i (omega arith) (omega arith)
 
-  -- or with the byte 0 behind it
-  pub key-whole : depth ≡ k + 1 → getD path k 0 ≡ 0 → Along f e path k → KeyHere f e k path depth
-  key-whole q z A = record { short = omega arith; clean = A .clean; same = λ i x y. A .same i y; end = λ x. z }
+  pub key-here : (n : ℕ) → ((i : ℕ) → i < depth → i < k → i < n) → Ends path k depth → Follows f e path 0 n → Clean f e (e + k) → KeyHere f e k path depth
+  key-here n h E F C = record { short = E .short; clean = C; same = λ i x y. F i (omega arith) (h i x y); end = E .end }
+
+-- no path at all
+pub key-lone : (f : List ℕ) (e k : ℕ) → Clean f e (e + k) → KeyHere f e k [] 0
+key-lone f e k C = record { short = omega arith; clean = C; same = λ i x y. absurd (omega arith); end = λ x. absurd (omega arith) }
 
 -- ---- the Leaf
 

@@ -3,6 +3,7 @@ use Prim.Native.Nat.{ℕ, _+_, _-_, _<_, _≤_}
 use mathlib.Core.Path.{_≡_, refl, subst, sym}
 use mathlib.Core.List.{List}
 use mathlib.Core.Logic.{⊎-elim}
+use mathlib.Core.Bool.{Bool, true, false}
 use native.Mathlib.Omega.{arith}
 use lib.Dec.{eqb}
 use lib.Bits.{bitOr, or-add-and, and-le-l, and-le-r}
@@ -11,7 +12,7 @@ use Rattle.layout.proofs.NumberLaws.{lt-or-le, le-zero, zero-le-bytes}
 use Rattle.model.specs.Body.{Zero}
 use Rattle.shape.specs.Decides.{Decides}
 use Rattle.shape.specs.Shape.{Blank}
-use Rattle.shape.proofs.DecideLaws.{by-eq}
+use Rattle.shape.proofs.DecideLaws.{granted, denied, handed, by-eq}
 
 -- ---- a property of every place of a range, as it grows by one
 
@@ -21,6 +22,31 @@ range-more P from i h p a x y =
 
 pub range-join : (P : ℕ → Type 0) (from m to : ℕ) → ((a : ℕ) → from ≤ a → a < m → P a) → ((a : ℕ) → m ≤ a → a < to → P a) → (a : ℕ) → from ≤ a → a < to → P a
 range-join P from m to h k a x y = ⊎-elim (λ l. h a x l) (λ l. k a l y) (lt-or-le a m)
+
+-- two ranges that meet or share places, the later one up to the end
+pub range-over : (P : ℕ → Type 0) (from m l to : ℕ) → l ≤ m → ((a : ℕ) → from ≤ a → a < m → P a) → ((a : ℕ) → l ≤ a → a < to → P a) → (a : ℕ) → from ≤ a → a < to → P a
+range-over P from m l to o h k = range-join P from m to h (λ a x y. k a (omega arith) y)
+
+-- a test of every place of a range, as it goes on by one place
+module _ (P : ℕ → Type 0) (from : ℕ) where
+  pub test-none : Decides ((a : ℕ) → from ≤ a → a < from + 0 → P a) true
+  test-none = granted (λ a x y. absurd (omega arith))
+
+  pub test-good : (i : ℕ) {r : Bool} → Decides ((a : ℕ) → from ≤ a → a < from + i → P a) r → P (from + i) → Decides ((a : ℕ) → from ≤ a → a < from + (i + 1) → P a) r
+  test-good i D p = handed D (λ h a x y. range-more P from (from + i) h p a x (omega arith)) (λ h a x y. h a x (omega arith))
+
+  pub test-bad : (i : ℕ) → (P (from + i) → ⊥) → Decides ((a : ℕ) → from ≤ a → a < from + (i + 1) → P a) false
+  test-bad i n = denied (λ h. n (h (from + i) (omega arith) (omega arith)))
+
+  -- the first part of a range fails, or the rest tells
+  pub test-part : {m to : ℕ} → m ≤ to → (((a : ℕ) → from ≤ a → a < m → P a) → ⊥) → Decides ((a : ℕ) → from ≤ a → a < to → P a) false
+  test-part l n = denied (λ h. n (λ a x y. h a x (omega arith)))
+
+  pub test-rest : {m l to end : ℕ} {r : Bool} → from ≤ l → l ≤ m → end ≡ to → ((a : ℕ) → from ≤ a → a < m → P a) → Decides ((a : ℕ) → l ≤ a → a < end → P a) r → Decides ((a : ℕ) → from ≤ a → a < to → P a) r
+  test-rest {m} {l} {to} {end} g o e h D = handed D (λ k. range-over P from m l to o h (λ a x y. k a x (omega arith))) (λ k a x y. k a (omega arith) (omega arith))
+
+  pub test-all : {m to : ℕ} {r : Bool} → m ≡ to → Decides ((a : ℕ) → from ≤ a → a < m → P a) r → Decides ((a : ℕ) → from ≤ a → a < to → P a) r
+  test-all e D = handed D (λ k a x y. k a x (omega arith)) (λ k a x y. k a x (omega arith))
 
 -- ---- zero bytes joined
 
@@ -70,11 +96,16 @@ zero-blank f o n h a x y = let e : o + (a - o) ≡ a = omega arith in rw e at (h
 
 -- ---- eight bytes as two numbers
 
-pub eight-low : (f : List ℕ) (at : ℕ) → Blank f at (at + 8) → le 4 f at ≡ 0
+eight-low : (f : List ℕ) (at : ℕ) → Blank f at (at + 8) → le 4 f at ≡ 0
 eight-low f at h = blank-le 4 f at (λ a x y. h a x (omega arith))
 
-pub eight-high : (f : List ℕ) (at : ℕ) → Blank f at (at + 8) → le 4 f (at + 4) ≡ 0
+eight-high : (f : List ℕ) (at : ℕ) → Blank f at (at + 8) → le 4 f (at + 4) ≡ 0
 eight-high f at h = blank-le 4 f (at + 4) (λ a x y. h a (omega arith) (omega arith))
 
-pub eight : (f : List ℕ) (at : ℕ) → le 4 f at ≡ 0 → le 4 f (at + 4) ≡ 0 → Blank f at (at + 8)
+eight : (f : List ℕ) (at : ℕ) → le 4 f at ≡ 0 → le 4 f (at + 4) ≡ 0 → Blank f at (at + 8)
 eight f at l h = range-join (λ (a : ℕ). byteAt f a ≡ 0) at (at + 4) (at + 8) (le-blank 4 f at l) (λ a x y. le-blank 4 f (at + 4) h a x (omega arith))
+
+pub eight-joined : (f : List ℕ) (at x y : ℕ) → x ≡ le 4 f at → y ≡ le 4 f (at + 4) → Decides (Blank f at (at + 8)) (eqb (bitOr x y) 0)
+eight-joined f at x y l h =
+    by-eq (bitOr x y) 0 (λ e. let p = or-left x y e in let q = or-right x y e in eight f at (omega arith) (omega arith))
+    (λ b. let p = eight-low f at b in let q = eight-high f at b in or-zero x y (omega arith) (omega arith))

@@ -68,10 +68,14 @@ pub record ExtentFits (e k size d b : ℕ) : Type 0 where
   pub some : 1 ≤ k
   pub most : k ≤ 112
 
--- the n bytes from e are the first n of a path, and none is 0
-pub record Along (f : List ℕ) (e : ℕ) (path : List ℕ) (n : ℕ) : Type 0 where
-  pub same : (i : ℕ) → i < n → byteAt f (e + i) ≡ getD path i 0
-  pub clean : Clean f e (e + n)
+-- the bytes from e are those of a path, at the places from..to
+abbrev pub Follows : List ℕ → ℕ → List ℕ → ℕ → ℕ → Type 0
+Follows f e path from to = (i : ℕ) → from ≤ i → i < to → byteAt f (e + i) ≡ getD path i 0
+
+-- the first depth bytes of a path are no more than k, or k and then a byte 0
+pub record Ends (path : List ℕ) (k depth : ℕ) : Type 0 where
+  pub short : depth ≤ k + 1
+  pub end : k < depth → getD path k 0 ≡ 0
 
 -- the walked string of the k bytes from e begins with the first depth bytes of a path
 pub record KeyHere (f : List ℕ) (e k : ℕ) (path : List ℕ) (depth : ℕ) : Type 0 where

@@ -1,10 +1,11 @@
 // A Leaf's body and its extent, against the path that leads to it.
 use crate::zero;
 use fields::body::Leaf;
-ghost use Prim.Native.Nat.{_+_, _≤_, _<_};
+ghost use Prim.Native.Nat.{ℕ, _+_, _≤_, _<_};
+ghost use mathlib.Core.List.{[]};
 ghost use lib.ListN.{length, take};
 ghost use Rattle.shape.specs.Decides.{Decides};
-ghost use Rattle.shape.specs.Shape.{ExtentFits, Along, KeyHere, LeafTold};
+ghost use Rattle.shape.specs.Shape.{ExtentFits, Follows, Ends, KeyHere, LeafTold};
 
 // the most bytes that a key has
 const KEY_MOST: usize = 112;
@@ -36,23 +37,80 @@ fn extent_fits(e: usize, k: usize, size: usize, d: usize, b: usize) -> bool
     e + size <= b
 }
 
-// The n bytes at e are those of the path, and none is 0.
-fn along(f: &[u8], e: usize, path: &[u8], n: usize) -> bool
-    requires { ⌜ (e + n ≤ length (now f)) × (n ≤ length (now path)) ⌝ }
-    ensures { λ r. ⌜ Decides (Along (now (f .entry)) e (now (path .entry)) n) r ⌝ }
+// The n bytes of the path from a place on are those of the key at e. All are looked at, so that several go at a time.
+fn alike(f: &[u8], e: usize, path: &[u8], from: usize, n: usize) -> bool
+    requires { ⌜ (e + from + n ≤ length (now f)) × (from + n ≤ length (now path)) ⌝ }
+    ensures { λ r. ⌜ Decides (Follows (now (f .entry)) e (now (path .entry)) from (from + n)) r ⌝ }
 {
+    let mut good = true;
     let mut i = 0;
     while i < n {
-        let c = f[e + i];
-        if c == 0 {
-            return false;
+        if f[e + from + i] == path[from + i] {
+            i += 1;
+            continue;
         }
-        if c != path[i] {
-            return false;
-        }
+        good = false;
         i += 1;
     }
-    true
+    good
+}
+
+// The first n bytes of the path, a few, are those of the key at e.
+fn follows_short(f: &[u8], e: usize, path: &[u8], n: usize) -> bool
+    requires { ⌜ (n < 8) × (e + n ≤ length (now f)) × (n ≤ length (now path)) ⌝ }
+    ensures { λ r. ⌜ Decides (Follows (now (f .entry)) e (now (path .entry)) 0 n) r ⌝ }
+{
+    if n < zero::QUARTER {
+        return alike(f, e, path, 0, n);
+    }
+    if !alike(f, e, path, 0, zero::QUARTER) {
+        return false;
+    }
+    alike(f, e, path, n - zero::QUARTER, zero::QUARTER)
+}
+
+// The first n bytes of the path are those of the key at e. In pieces, as `no_zero`.
+fn follows(f: &[u8], e: usize, path: &[u8], n: usize) -> bool
+    requires { ⌜ (e + n ≤ length (now f)) × (n ≤ length (now path)) ⌝ }
+    ensures { λ r. ⌜ Decides (Follows (now (f .entry)) e (now (path .entry)) 0 n) r ⌝ }
+{
+    if n < zero::HALF {
+        return follows_short(f, e, path, n);
+    }
+    if n < zero::PIECE {
+        if !alike(f, e, path, 0, zero::HALF) {
+            return false;
+        }
+        return alike(f, e, path, n - zero::HALF, zero::HALF);
+    }
+    let mut i = 0;
+    while i + zero::PIECE < n {
+        if !alike(f, e, path, i, zero::PIECE) {
+            return false;
+        }
+        i += zero::PIECE;
+    }
+    alike(f, e, path, n - zero::PIECE, zero::PIECE)
+}
+
+// A path of a depth ends within a key of k bytes, or with the byte 0 behind it.
+fn ends(path: &[u8], k: usize, depth: usize) -> bool
+    requires { ⌜ depth ≤ length (now path) ⌝ }
+    ensures { λ r. ⌜ Decides (Ends (now (path .entry)) k depth) r ⌝ }
+{
+    if depth <= k {
+        return true;
+    }
+    if depth != k + 1 {
+        return false;
+    }
+    path[k] == 0
+}
+
+fn lesser(a: usize, b: usize) -> usize
+    ensures { λ r. ⌜ (r ≤ a) × (r ≤ b) × ((i : ℕ) → i < a → i < b → i < r) ⌝ }
+{
+    if a < b { a } else { b }
 }
 
 // The k bytes at e are a legal key of that length, and its walked string, a byte 0 at its end, begins with the path.
@@ -60,19 +118,13 @@ fn key_good(f: &[u8], e: usize, k: usize, path: &[u8], depth: usize) -> bool
     requires { ⌜ (e + k ≤ length (now f)) × (depth ≤ length (now path)) ⌝ }
     ensures { λ r. ⌜ Decides (KeyHere (now (f .entry)) e k (now (path .entry)) depth) r ⌝ }
 {
-    if depth <= k {
-        if !along(f, e, path, depth) {
-            return false;
-        }
-        return zero::no_zero(f, e + depth, e + k);
-    }
-    if depth != k + 1 {
+    if !ends(path, k, depth) {
         return false;
     }
-    if path[k] != 0 {
+    if !follows(f, e, path, lesser(depth, k)) {
         return false;
     }
-    along(f, e, path, k)
+    zero::no_zero(f, e, e + k)
 }
 
 // The body at o is a Leaf's whose extent lies between d and b, and the path leads to it.
@@ -95,6 +147,35 @@ pub fn leaf_good(f: &[u8], o: usize, path: &[u8], depth: usize, d: usize, b: usi
         return none;
     }
     if !key_good(f, e, k, path, depth) {
+        return none;
+    }
+    LeafFound {
+        good: true,
+        extent: e,
+        size: size,
+    }
+}
+
+// The body at o is a Leaf's whose extent lies between d and b; no path leads to it, so that its key is only to be a legal one.
+pub fn lone_good(f: &[u8], o: usize, d: usize, b: usize) -> LeafFound
+    requires { ⌜ (o + 16 ≤ length (now f)) × (b ≤ length (now f)) ⌝ }
+    ensures { λ r. ⌜ LeafTold (now (f .entry)) [] o d b (r .good) (r .extent) (r .size) ⌝ }
+{
+    let none = LeafFound {
+        good: false,
+        extent: 0,
+        size: 0,
+    };
+    let e = Leaf::extent(f, o);
+    let k = Leaf::key_length(f, o);
+    let size = (k + Leaf::value_length(f, o) + 7) / 8 * 8;
+    if !extent_fits(e, k, size, d, b) {
+        return none;
+    }
+    if !zero::zero_eight(f, o + Leaf::ZERO) {
+        return none;
+    }
+    if !zero::full(f, e, k) {
         return none;
     }
     LeafFound {

@@ -1,5 +1,7 @@
 -- One law for each answer (RootLaws). Assumes nothing.
+use mathlib.Core.Path.{refl}
 use native.Mathlib.Omega.{arith}
+use Rattle.audit.proofs.WalkLaws.{slot-at}
 use Rattle.audit.proofs.RootLaws.{root-slot, root-empty, root-tree}
 use borrow.Author.Needs.{needs}
 use Rattle.audit.proofs.whole.root.Statement.{statement}
@@ -28,19 +30,33 @@ same-length c = search needs
 
 returns-3 : tie.Need-returns-3
 returns-3 c =
-    root-empty (omega (arith, c .before .before .before .before .before .before .before .before .if1 .left)) (omega (arith, c .before .before .before .before .before .before .before .if2 .left)) (c .before .before .before .before .before .before .read .ensures .0) (c .before .before .before .before .before .before .read .ensures .1) (c .before .before .before .before .if3 .taken) (c .before .before .empty .ensures)
+    let e = c .before .before .before .before .before .before .read .ensures in
+    root-empty (omega (arith, c .before .before .before .before .before .before .before .before .if1 .left)) (omega (arith, c .before .before .before .before .before .before .before .if2 .left)) (e .0) (e .1) (c .before .before .before .before .if3 .taken) (c .before .before .empty .ensures)
 
-slice-aggregate-visit : tie.Need-slice-aggregate-visit
-slice-aggregate-visit c = search needs
-
-visit-requires : tie.Need-visit-requires
-visit-requires c κs = search needs
+lone-requires : tie.Need-lone-requires
+lone-requires c κs = search needs
 
 same-length-2 : tie.Need-same-length-2
 same-length-2 c = search needs
 
 returns-4 : tie.Need-returns-4
-returns-4 c = root-tree (c .before .before .before .before .before .before .before .before .read .ensures .0) (c .before .before .before .before .before .before .if3 .left) (c .before .before .before .visit .ensures .1)
+returns-4 c =
+    let e = c .before .before .before .before .before .before .before .before .read .ensures in
+    root-tree (e .0) (c .before .before .before .before .before .before .if3 .left) (slot-at (e .0) (e .1) (omega (arith, c .before .before .before .before .before .before .before .before .before .before .if1 .left)) (omega (arith, c .before .before .before .before .before .before .before .before .before .if2 .left)) (c .before .before .before .before .if4 .taken) (c .before .before .lone .ensures))
+
+slice-aggregate-deep : tie.Need-slice-aggregate-deep
+slice-aggregate-deep c = search needs
+
+deep-requires : tie.Need-deep-requires
+deep-requires c κs = search needs
+
+same-length-3 : tie.Need-same-length-3
+same-length-3 c = search needs
+
+returns-5 : tie.Need-returns-5
+returns-5 c =
+    let e = c .before .before .before .before .before .before .before .before .before .before .read .ensures in
+    root-tree (e .0) (c .before .before .before .before .before .before .before .before .if3 .left) (slot-at (e .0) (e .1) (omega (arith, c .before .before .before .before .before .before .before .before .before .before .before .before .if1 .left)) (omega (arith, c .before .before .before .before .before .before .before .before .before .before .before .if2 .left)) refl (c .before .before .before .deep .ensures .1))
 
 pub root-spec : {M : Type 1} → statement M
 root-spec =
@@ -54,7 +70,10 @@ root-spec =
     empty-requires
     same-length
     returns-3
-    slice-aggregate-visit
-    visit-requires
+    lone-requires
     same-length-2
-    returns-4)
+    returns-4
+    slice-aggregate-deep
+    deep-requires
+    same-length-3
+    returns-5)

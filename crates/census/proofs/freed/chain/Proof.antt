@@ -6,7 +6,7 @@ use borrow.Author.Tests.{not-true, not-false}
 use lib.ListN.{length}
 use Rattle.census.specs.Told.{Tally}
 use Rattle.census.specs.Freed.{ChainItems}
-use Rattle.census.proofs.ToldLaws.{Leads, tally-body, body-slots, place-whole}
+use Rattle.census.proofs.ToldLaws.{Leads, told-from, tally-to, tally-body, body-slots, place-whole}
 use Rattle.census.proofs.FreedLaws.{chain-end, chain-past, chain-bad, chain-more}
 use borrow.Author.Needs.{needs}
 use Rattle.census.proofs.freed.chain.Statement.{statement}
@@ -20,8 +20,11 @@ Inv-loop f map₀ kind head d u b s₀ sums₀ map s sums =
 abbrev μ-loop : tie.MeasureT-loop
 μ-loop f map₀ kind head d u b s₀ sums₀ map s sums = u - sums .slots
 
+kept-requires : tie.Need-kept-requires Inv-loop μ-loop
+kept-requires c κs = c .before .before .pre .2 .good
+
 loop-holds : tie.Need-loop-holds Inv-loop μ-loop
-loop-holds c = (refl, c .before .before .pre .2, λ m r T. T)
+loop-holds c = (refl, tally-to (c .kept .ensures) (c .before .before .before .pre .2), λ m r T. T)
 
 refused-requires : tie.Need-refused-requires Inv-loop μ-loop
 refused-requires c κs = search needs
@@ -32,7 +35,7 @@ same-length c = search needs
 returns : tie.Need-returns Inv-loop μ-loop
 returns c =
     let l = c .before .before .before in
-    l .loop .inv .2 _ _ (chain-past (c .before .before .loop-test .taken) (c .refused .ensures) (c .before .if1 .taken))
+    told-from (l .before .kept .ensures) (l .loop .inv .2 _ _ (chain-past (c .before .before .loop-test .taken) (c .refused .ensures) (c .before .if1 .taken)))
 
 read-requires : tie.Need-read-requires Inv-loop μ-loop
 read-requires c κs = search needs
@@ -40,7 +43,7 @@ read-requires c κs = search needs
 body-requires : tie.Need-body-requires Inv-loop μ-loop
 body-requires c κs =
     let l = c .before .before .before .before in
-    let z = l .before .before .before in
+    let z = l .before .before .before .before in
     let L = z .pre .1 in
     let p = l .loop .inv .0 in
     (record { table = L .table; order = L .order; size = L .size; room = omega arith }, l .loop .inv .1, z .pre .3, z .pre .4, place-whole _ (l .loop .s) (c .before .read .ensures .1), c .before .read .ensures .3)
@@ -56,7 +59,7 @@ returns-2 c =
     let k = c .before .before .before .before .before in
     let e = k .before .before in
     let l = e .before .before .before in
-    l .loop .inv .2 _ _ (chain-bad (e .before .before .loop-test .taken) (e .read .ensures .1) (k .body .ensures) (not-true _ (c .before .if2 .taken)) (c .refused2 .ensures))
+    told-from (l .before .kept .ensures) (l .loop .inv .2 _ _ (chain-bad (e .before .before .loop-test .taken) (e .read .ensures .1) (k .body .ensures) (not-true _ (c .before .if2 .taken)) (c .refused2 .ensures)))
 
 loop-less : tie.Need-loop-less Inv-loop μ-loop
 loop-less c =
@@ -69,7 +72,7 @@ loop-again c =
     let k = c .before .before .before .before in
     let e = k .before .before in
     let l = e .before .before .before in
-    let z = l .before .before .before in
+    let z = l .before .before .before .before in
     let g = not-false _ (c .if2 .left) in (
       omega (arith, l .loop .inv .0, k .body .kept),
       tally-body (k .body .ensures .tally g),
@@ -82,7 +85,7 @@ same-length-3 c = search needs
 returns-3 : tie.Need-returns-3 Inv-loop μ-loop
 returns-3 c =
     let l = c .before in
-    l .loop .inv .2 _ _ (chain-end (c .loop-test .left) (l .loop .inv .1))
+    told-from (l .before .kept .ensures) (l .loop .inv .2 _ _ (chain-end (c .loop-test .left) (l .loop .inv .1)))
 
 pub chain-spec : {M : Type 1} → statement M
 chain-spec =
@@ -90,6 +93,7 @@ chain-spec =
     (tie.spec
     Inv-loop
     μ-loop
+    kept-requires
     loop-holds
     refused-requires
     same-length

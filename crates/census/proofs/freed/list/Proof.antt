@@ -1,6 +1,7 @@
 -- One law for each answer (FreedLaws). Assumes nothing.
 use native.Mathlib.Omega.{arith}
 use borrow.Author.Needs.{needs}
+use Rattle.census.proofs.ToldLaws.{told-to}
 use Rattle.census.proofs.FreedLaws.{list-some, list-third, list-none}
 use Rattle.census.proofs.freed.list.Statement.{statement}
 use Rattle.census.proofs.freed.list.Tie as tie
@@ -27,10 +28,13 @@ returns-2 c =
     let h = c .before .before .before in
     list-third (omega (arith, c .before .before .if1 .left)) (h .list-head .ensures .0) (c .before .if2 .taken) (c .refused .ensures)
 
+kept-requires : tie.Need-kept-requires
+kept-requires c κs = c .before .before .before .before .before .pre .2 .good
+
 returns-3 : tie.Need-returns-3
 returns-3 c =
-    let h = c .before .before in
-    list-none (h .list-head .ensures .0) (c .if2 .left) (h .before .before .before .pre .2)
+    let h = c .before .before .before in
+    told-to (c .kept .ensures) (list-none (h .list-head .ensures .0) (c .before .if2 .left) (h .before .before .before .pre .2))
 
 pub list-spec : {M : Type 1} → statement M
 list-spec =
@@ -42,4 +46,5 @@ list-spec =
     returns
     refused-requires
     returns-2
+    kept-requires
     returns-3)

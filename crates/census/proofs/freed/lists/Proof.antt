@@ -8,7 +8,7 @@ use lib.ListN.{length, take, length-set}
 use lib.Seq.{take-all}
 use Rattle.census.specs.Told.{Tally}
 use Rattle.census.specs.Freed.{FreedItems, CountedItems, CountedFrom}
-use Rattle.census.proofs.ToldLaws.{Leads}
+use Rattle.census.proofs.ToldLaws.{Leads, told-from, tally-to}
 use Rattle.census.proofs.FreedLaws.{lists-bad, lists-more, lists-end}
 use borrow.Author.Needs.{needs}
 use Rattle.census.proofs.freed.lists.Statement.{statement}
@@ -22,13 +22,16 @@ Inv-loop f map₀ d u b free₀ sums₀ kind₀ map free sums kind =
 abbrev μ-loop : tie.MeasureT-loop
 μ-loop f map₀ d u b free₀ sums₀ kind₀ map free sums kind = 9 - kind
 
+kept-requires : tie.Need-kept-requires Inv-loop μ-loop
+kept-requires c κs = c .before .before .pre .2 .good
+
 loop-holds : tie.Need-loop-holds Inv-loop μ-loop
-loop-holds c = (omega arith, omega arith, refl, refl, c .before .before .pre .2, λ n m r T. T)
+loop-holds c = (omega arith, omega arith, refl, refl, tally-to (c .kept .ensures) (c .before .before .before .pre .2), λ n m r T. T)
 
 list-requires : tie.Need-list-requires Inv-loop μ-loop
 list-requires c κs =
     let l = c .before .before in
-    let z = l .before .before .before in
+    let z = l .before .before .before .before in
     let L = z .pre .1 in
     let v = l .loop .inv in
     (z .pre .0, record { table = L .table; order = L .order; size = L .size; room = omega arith }, v .4, v .0, omega arith)
@@ -41,7 +44,7 @@ returns c =
     let k = c .before .before .before .before in
     let l = k .before .before .before in
     let n = not-true _ (c .if1 .taken) in
-    l .loop .inv .5 _ _ _ (lists-bad (k .list .ensures) (k .before .before .loop-test .taken) n n)
+    told-from (l .before .kept .ensures) (l .loop .inv .5 _ _ _ (lists-bad (k .list .ensures) (k .before .before .loop-test .taken) n n))
 
 sub-free : tie.Need-sub-free Inv-loop μ-loop
 sub-free c =
@@ -82,7 +85,7 @@ returns-2 : tie.Need-returns-2 Inv-loop μ-loop
 returns-2 c =
     let l = c .before in
     let v = l .loop .inv in
-    v .5 _ _ _ (lists-end (omega (arith, v .1, c .loop-test .left)) (sym (take-all (l .loop .kind) (l .loop .free) (omega (arith, v .2, c .loop-test .left)))) (v .4))
+    told-from (l .before .kept .ensures) (v .5 _ _ _ (lists-end (omega (arith, v .1, c .loop-test .left)) (sym (take-all (l .loop .kind) (l .loop .free) (omega (arith, v .2, c .loop-test .left)))) (v .4)))
 
 pub lists-spec : {M : Type 1} → statement M
 lists-spec =
@@ -90,6 +93,7 @@ lists-spec =
     (tie.spec
     Inv-loop
     μ-loop
+    kept-requires
     loop-holds
     list-requires
     same-length

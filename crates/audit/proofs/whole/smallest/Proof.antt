@@ -1,0 +1,18 @@
+-- A map of 8 words that is zero. Assumes nothing.
+use native.Mathlib.Omega.{arith}
+use Rattle.claims.proofs.UnitLaws.{bit-fresh}
+use borrow.Author.Needs.{needs}
+use Rattle.audit.proofs.whole.smallest.Statement.{statement}
+use Rattle.audit.proofs.whole.smallest.Tie as tie
+
+slice-aggregate-over : tie.Need-slice-aggregate-over
+slice-aggregate-over c = search needs
+
+over-requires : tie.Need-over-requires
+over-requires c κs = (c .before .before .pre .0, (omega (arith, c .before .before .pre .1)), bit-fresh 8)
+
+returns : tie.Need-returns
+returns c = search needs
+
+pub smallest-spec : {M : Type 1} → statement M
+smallest-spec = tie.close (tie.spec slice-aggregate-over over-requires returns)

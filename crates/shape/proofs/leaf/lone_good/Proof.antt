@@ -1,0 +1,88 @@
+-- `lone_good` tells a good Leaf to which no path leads, with LeafLaws at each exit. Assumes nothing.
+use mathlib.Core.List.{[]}
+use native.Mathlib.Omega.{arith}
+use borrow.Author.Needs.{needs}
+use Rattle.shape.proofs.LeafLaws.{LeafRead, leaf-denied, leaf-extent, leaf-blank, leaf-key, leaf-end, key-lone}
+use Rattle.shape.proofs.DecideLaws.{refuted, passed}
+use Rattle.shape.proofs.leaf.lone_good.Statement.{statement}
+use Rattle.shape.proofs.leaf.lone_good.Tie as tie
+
+-- what has been read before anything is compared
+fields : (m : tie.After-value-length)
+    → LeafRead (m .before .before .before .before .args .f .now) (m .before .before .before .before .args .o)
+    (m .before .before .extent .result) (m .before .key-length .result) (m .value-length .result)
+fields m =
+    record {
+      extent = m .before .before .extent .ensures .0;
+      keyLength = m .before .key-length .ensures .0;
+      valueLength = m .value-length .ensures .0;
+    }
+
+extent-requires : tie.Need-extent-requires
+extent-requires c κs = search needs
+
+key-length-requires : tie.Need-key-length-requires
+key-length-requires c κs = search needs
+
+value-length-requires : tie.Need-value-length-requires
+value-length-requires c κs = search needs
+
+add-size : tie.Need-add-size
+add-size c = search needs
+
+add-size-2 : tie.Need-add-size-2
+add-size-2 c = search needs
+
+mul-size : tie.Need-mul-size
+mul-size c = search needs
+
+extent-fits-requires : tie.Need-extent-fits-requires
+extent-fits-requires c κs = search needs
+
+returns : tie.Need-returns
+returns c = let a = c .before .before .before .before .before .before .args in
+    let m = c .before .before in
+    leaf-denied (λ e n L. refuted (c .before .extent-fits .ensures) (c .if1 .taken) (leaf-extent (a .f .now) [] (a .o) (a .d) (a .b) 0 (m .before .before .extent .result) (m .before .key-length .result) (m .value-length .result) (omega arith) (fields m) e n L))
+
+add-zero-eight : tie.Need-add-zero-eight
+add-zero-eight c = search needs
+
+zero-eight-requires : tie.Need-zero-eight-requires
+zero-eight-requires c κs = search needs
+
+returns-2 : tie.Need-returns-2
+returns-2 c = let a = c .before .before .before .before .before .before .before .before .args in
+    let m = c .before .before .before .before in
+    leaf-denied (λ e n L. refuted (c .before .zero-eight .ensures) (c .if2 .taken) (leaf-blank (a .f .now) [] (a .o) (a .d) (a .b) 0 (m .before .before .extent .result) (m .before .key-length .result) (m .value-length .result) (omega arith) (fields m) e n L))
+
+full-requires : tie.Need-full-requires
+full-requires c κs = let X = passed (c .before .before .before .extent-fits .ensures) (c .before .before .if1 .left) in omega arith
+
+returns-3 : tie.Need-returns-3
+returns-3 c = let a = c .before .before .before .before .before .before .before .before .before .before .args in
+    let m = c .before .before .before .before .before .before in
+    leaf-denied (λ e n L. refuted (c .before .full .ensures) (c .if3 .taken) (leaf-key (a .f .now) [] (a .o) (a .d) (a .b) 0 (m .before .before .extent .result) (m .before .key-length .result) (m .value-length .result) (omega arith) (fields m) e n L .clean))
+
+returns-4 : tie.Need-returns-4
+returns-4 c = let a = c .before .before .before .before .before .before .before .before .before .before .args in
+    let m = c .before .before .before .before .before .before in
+    leaf-end (a .f .now) [] (a .o) (a .d) (a .b) 0 (m .before .before .extent .result) (m .before .key-length .result) (m .value-length .result) (omega arith) (fields m) (omega arith) (passed (c .before .before .before .before .before .extent-fits .ensures) (c .before .before .before .before .if1 .left)) (passed (c .before .before .before .zero-eight .ensures) (c .before .before .if2 .left)) (key-lone (a .f .now) (m .before .before .extent .result) (m .before .key-length .result) (passed (c .before .full .ensures) (c .if3 .left)))
+
+pub lone-good-spec : {M : Type 1} → statement M
+lone-good-spec =
+    tie.close
+    (tie.spec
+    extent-requires
+    key-length-requires
+    value-length-requires
+    add-size
+    add-size-2
+    mul-size
+    extent-fits-requires
+    returns
+    add-zero-eight
+    zero-eight-requires
+    returns-2
+    full-requires
+    returns-3
+    returns-4)
