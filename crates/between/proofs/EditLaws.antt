@@ -17,13 +17,13 @@ use Rattle.layout.specs.Entry.{placeOf}
 use Rattle.fields.specs.Body.{putLeafBody}
 use Rattle.fields.proofs.BodyLaws.{length-putLeafBody, leaf-off, leaf-extent, leaf-key, leaf-value, leaf-zeros}
 use Rattle.model.specs.Edition.{Edition}
-use Rattle.model.specs.Tree.{extentOf, taken}
-use Rattle.model.specs.Item.{Item, body, extent}
+use Rattle.model.specs.Tree.{extentOf}
+use Rattle.model.specs.Item.{Item, body, extent, touch}
 use Rattle.model.specs.Body.{lookKid, InnerAt}
 use Rattle.model.specs.Frame.{Lay, LayKids, slotOf, pairs, Places, NodeOf, LeafOf, Begins, View}
 use Rattle.model.specs.Frame.Lay.{node}
 use Rattle.model.specs.Frame.LayKids.{nil, kid}
-use Rattle.model.proofs.ItemLaws.{touch, sum-app, sum-cons}
+use Rattle.model.proofs.ItemLaws.{sum-app, sum-cons}
 use Rattle.node.specs.Kids.{insertKid}
 use Rattle.inner.specs.Inner.{placeAt, Added, Removed, Carried}
 use Rattle.inner.proofs.InnerLaws.{inner-asc}

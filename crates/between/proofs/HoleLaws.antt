@@ -1,18 +1,18 @@
 -- A tree with a hole: sums; what stands in the hole and what stands around it, apart and together; what is kept; the same without slots
 -- and places. Assumes nothing.
-use Prim.Native.Nat.{ℕ, _+_, _-_}
+use Prim.Native.Nat.{ℕ, _+_}
 use mathlib.Core.Path.{_≡_, refl, ap, _∙_}
 use mathlib.Core.List.{List, [], _∷_, _++_}
 use native.Mathlib.Omega.{arith}
 use Rattle.layout.specs.Kind.{Prefix}
 use Rattle.model.specs.Edition.{Edition}
 use Rattle.model.specs.Tree.{Art}
-use Rattle.model.specs.Item.{Item, body, sum}
+use Rattle.model.specs.Item.{Item, body, touch, sum}
 use Rattle.model.specs.Body.{PrefixAt}
 use Rattle.model.specs.Frame.{Lay, LayKids, slotOf, IsNode, art, items, itemsAll, Entry, NodeOf, Tree, Trees}
 use Rattle.model.specs.Frame.Lay.{prefix, node}
 use Rattle.model.specs.Frame.LayKids.{kid}
-use Rattle.model.proofs.ItemLaws.{touch, sum-app, sum-cons}
+use Rattle.model.proofs.ItemLaws.{sum-app, sum-cons}
 use Rattle.room.specs.Step.{Kept}
 use Rattle.room.proofs.HeapLaws.{kept-part, kept-entry}
 use Rattle.between.specs.Hole.{app, Step, under, among, plug1, plug, stepPath, pathOf, stepItems, stepsItems, stepSlot, artStep, artIn}

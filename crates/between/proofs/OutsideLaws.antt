@@ -1,6 +1,6 @@
 -- "What each call has to settle": the clause of the promises on the bytes, from what a row of steps changed and from what the edit says of
 -- its bodies. Assumes nothing.
-use Prim.Native.Nat.{ℕ, zero, suc, _+_, _-_, _≤_}
+use Prim.Native.Nat.{ℕ, zero, suc, _+_, _≤_}
 use mathlib.Core.Path.{_≡_, refl, ap, _∙_}
 use mathlib.Core.List.{List, [], _∷_, _++_}
 use mathlib.Core.Bool.{Bool, true, false}
@@ -12,11 +12,11 @@ use Rattle.layout.specs.Number.{le}
 use Rattle.layout.specs.Kind.{Prefix, bodySize}
 use Rattle.layout.proofs.KindLaws.{size-least}
 use Rattle.model.specs.Strings.{pick}
-use Rattle.model.specs.Item.{Item, body, extent, onSlot, cover, onEntry, sum, Sound}
+use Rattle.model.specs.Item.{Item, body, extent, onSlot, cover, onEntry, sum, Same, Sound}
 use Rattle.model.specs.Edition.{Edition}
 use Rattle.model.specs.Frame.{Lay, Root, rootItems, Numbers, View, Heap, freed, viewOf}
 use Rattle.model.specs.Touch.{Touch, holder, next, among, notIn, those, ofKinds, isBody, Outside}
-use Rattle.model.proofs.ItemLaws.{Same, in-yes, in-where, sum-app, sum-cons}
+use Rattle.model.proofs.ItemLaws.{in-yes, in-where, sum-app, sum-cons}
 use Rattle.room.proofs.HeapLaws.{body-in}
 use Rattle.between.specs.Hole as hole
 use Rattle.between.specs.Hole.{Step, under, stepsItems, holderOf}

@@ -9,12 +9,12 @@ use lib.Seq.{take-append-seam}
 use Rattle.layout.specs.Kind.{Leaf, Prefix, bodySize}
 use Rattle.model.specs.Edition.{Edition}
 use Rattle.model.specs.Tree.{extentOf}
-use Rattle.model.specs.Item.{Item, body, extent, sum}
+use Rattle.model.specs.Item.{Item, body, extent, touch, sum}
 use Rattle.model.specs.Body.{PrefixAt}
 use Rattle.model.specs.Frame.{Lay, LayKids, slotOf, IsNode, items, itemsAll, Entry, NodeOf, Begins, LeafOf, Tree, Trees}
 use Rattle.model.specs.Frame.Lay.{leaf, prefix, node}
 use Rattle.model.specs.Frame.LayKids.{nil, kid}
-use Rattle.model.proofs.ItemLaws.{touch, sum-app, sum-cons}
+use Rattle.model.proofs.ItemLaws.{sum-app, sum-cons}
 use Rattle.node.specs.Moved.{Keeps}
 use Rattle.room.specs.Step.{Kept}
 use Rattle.room.proofs.HeapLaws.{touch-body, touch-extent, kept-part, kept-entry}

@@ -1,6 +1,6 @@
 -- The steps of the work: an operation on the heap, a loose body written, the tree opened at a hole and closed, a tree of the forest
 -- opened into its parts and made of parts; from a good frame to the work and back. Assumes nothing.
-use Prim.Native.Nat.{ℕ, _+_, _-_, _<_, _≤_}
+use Prim.Native.Nat.{ℕ, _+_, _<_, _≤_}
 use mathlib.Core.Path.{_≡_, refl, sym, ap, _∙_}
 use mathlib.Core.List.{List, [], _∷_, _++_}
 use native.Mathlib.Omega.{arith}
@@ -10,12 +10,12 @@ use Rattle.layout.specs.Kind.{Leaf, Prefix, EmptyRoot, bodySize}
 use Rattle.model.specs.Edition.{Edition}
 use Rattle.model.specs.Tree.{extentOf}
 use Rattle.model.specs.State.{State}
-use Rattle.model.specs.Item.{Item, body, extent, inside, cover, bulk, leafy, sum}
+use Rattle.model.specs.Item.{Item, body, extent, inside, cover, touch, bulk, leafy, sum, Same}
 use Rattle.model.specs.Frame.{Lay, LayKids, slotOf, IsNode, items, itemsAll, Entry, NodeOf, LeafOf, Tree, Trees, bare, tree, rootSlot, RootAt, rootItems, View, Heap, freed, viewOf, stateOf, Stands}
 use Rattle.model.specs.Frame.Lay.{leaf, prefix, node}
 use Rattle.model.specs.Frame.LayKids.{nil, kid}
 use Rattle.model.specs.Body.{PrefixAt}
-use Rattle.model.proofs.ItemLaws.{Same, touch, in-yes, in-where, sum-app, sum-cons}
+use Rattle.model.proofs.ItemLaws.{in-yes, in-where, sum-app, sum-cons}
 use Rattle.node.specs.Moved.{Only}
 use Rattle.room.specs.View.{listOf, takenFrom, slotFrom, placeFrom, taken, released, extended, retired, recorded}
 use Rattle.room.specs.Step.{Kept, Took, Freed, Extended, Renumbered}

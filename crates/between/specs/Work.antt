@@ -9,12 +9,11 @@ use mathlib.Core.Path.{_≡_}
 use mathlib.Core.List.{List, [], _∷_, _++_}
 use Rattle.layout.specs.Kind.{Prefix}
 use Rattle.model.specs.Edition.{Edition}
-use Rattle.model.specs.Item.{Item, body, extent}
+use Rattle.model.specs.Item.{Item, body, extent, Same}
 use Rattle.model.specs.Body.{PrefixAt}
 use Rattle.model.specs.Frame.{Lay, LayKids, IsNode, items, Entry, NodeOf, Tree, Trees, View, Heap}
 use Rattle.model.specs.Frame.Lay.{leaf, prefix}
 use Rattle.model.specs.Frame.LayKids.{nil, kid}
-use Rattle.model.proofs.ItemLaws.{Same}
 use Rattle.between.specs.Hole.{app, Step, under, among, pathOf, stepsItems, stepSlot}
 
 -- ---- around a hole

@@ -1,13 +1,12 @@
 -- The bytes that are written are the image of no records. Assumes nothing.
-use Prim.Native.Nat.{ℕ, _+_, _*_, _/_, _<_, _≤_}
-use mathlib.Core.Path.{_≡_, refl, ap, sym, _∙_}
+use Prim.Native.Nat.{ℕ, _+_, _<_, _≤_}
+use mathlib.Core.Path.{_≡_, ap, sym, _∙_}
 use mathlib.Core.List.{List, []}
-use mathlib.Core.Bool.{Bool, true, false}
 use native.Mathlib.Omega.{arith}
-use native.Mathlib.Decide.{decLe, decLt}
+use native.Mathlib.Decide.{decLt}
 use lib.ListN.{length, getD, List·getD-eq-default}
 use Rattle.layout.specs.Number.{byteAt, le, put, Bytes}
-use Rattle.layout.specs.Place.{atF, atN, atD, atB, atU, atR, atX, atRoot, entryAt, dataStart}
+use Rattle.layout.specs.Place.{entryAt, dataStart}
 use Rattle.layout.specs.Kind.{EmptyRoot}
 use Rattle.layout.specs.Entry.{entryOf}
 use Rattle.layout.proofs.NumberLaws.{le-same, le-put, length-put, bytes-put, getD-put-off}

@@ -10,7 +10,7 @@ use native.Mathlib.Decide.{ℕ-discrete}
 use lib.ListN.{length, getD, take, drop}
 use lib.Seq.{getD-drop}
 use lib.Dec.{eqb}
-use borrow.Author.Tests.{eqb-false, ne-eqb}
+use borrow.Author.Tests.{ne-eqb}
 use Rattle.layout.specs.Number.{le}
 use Rattle.layout.specs.Place.{leafExtent, leafValue}
 use Rattle.model.specs.Strings.{pick, same, shared}
@@ -25,7 +25,7 @@ use Rattle.model.specs.Touch.{Part, hasByte, findLay, findLayKids, findAt}
 use Rattle.model.proofs.StringLaws.{bool-cases, same-refl, same-true, clash}
 use Rattle.between.specs.Hole.{pathOf}
 use Rattle.between.proofs.TreeLaws.{leaf-parts, prefix-parts, node-parts, kid-parts}
-use Rattle.between.proofs.KidsLaws.{look-none}
+use Rattle.between.proofs.KidsLaws.{look-none, not-byte}
 use Rattle.between.proofs.LeadLaws.{plug-look}
 use Rattle.descent.specs.declared.spot.Spot.{Spot}
 use Rattle.descent.specs.declared.lookup.Held.{Held}
@@ -106,18 +106,10 @@ found-leaf {f} {k} {st} {s} W S e =
     let l : findLay edition1 t (s .depth) k ≡ some (record { at = F .extent + length k; long = length (F .value) }) = rw (same-refl k) refl in
     record { extent = F .extent; value = F .value; room = o; at = q; look = ap (λ r. findAt edition1 r k) (I .is) ∙ find-there (I .spot .way) t (F .is) ∙ l }
 
--- byte b is neither the first child's nor one of the others'
-not-here : (b c : ℕ) (y : Bool) → pick (eqb b c) true y ≡ false → (c ≡ b → ⊥) × (y ≡ false)
-not-here b c y h = go (eqb b c) refl h
-  where
-    go : (x : Bool) → eqb b c ≡ x → pick x true y ≡ false → (c ≡ b → ⊥) × (y ≡ false)
-    go true e z = absurd (let q : _≡_ {A = ℕ} 0 1 = cc in omega arith)
-    go false e z = (λ q. eqb-false b c e (sym q), z)
-
 no-kid : (ks : LayKids) (d b : ℕ) (k : List ℕ) → getD (edition1 .walked k) d 0 ≡ b → hasByte b ks ≡ false → findLayKids edition1 ks d k ≡ none
 no-kid nil d b k e h = refl
 no-kid (kid c j l ks) d b k e h =
-    let m = not-here b c (hasByte b ks) h in
+    let m = not-byte b c (hasByte b ks) h in
     rw (ne-eqb c (getD (edition1 .walked k) d 0) (λ z. m .0 (z ∙ e))) (no-kid ks d b k e (m .1))
 
 -- every other end

@@ -13,7 +13,7 @@ use Rattle.layout.specs.Kind.{Leaf, Prefix, bodySize}
 use Rattle.layout.specs.Entry.{placeOf, highOf}
 use Rattle.model.specs.Strings.{All}
 use Rattle.model.specs.Edition.{edition1}
-use Rattle.model.specs.Item.{Item, body, extent, sum}
+use Rattle.model.specs.Item.{Item, body, extent, sum, Same}
 use Rattle.model.specs.Body.{Text, lookKid}
 use Rattle.model.specs.Tree.{extentOf}
 use Rattle.model.specs.Frame.{Lay, LayKids, Root, tree, slotOf, art, artKids, items, itemsAll, pairs, Entry, Tree, RootAt, rootItems, Numbers, viewOf, Heap}
@@ -22,7 +22,7 @@ use Rattle.model.proofs.StringLaws.{all-right}
 use Rattle.model.proofs.StandsGood.{tree-well}
 use Rattle.model.proofs.Edition1.{lawful1, Positive, inside1, node-path1}
 use Rattle.model.proofs.WellLaws.{prefix-inside}
-use Rattle.model.proofs.ItemLaws.{Same, sum-app, sum-cons}
+use Rattle.model.proofs.ItemLaws.{sum-app, sum-cons}
 use Rattle.room.proofs.HeapLaws.{lies}
 use Rattle.between.specs.Hole.{Step, under, among, plug, pathOf, stepsItems}
 use Rattle.between.specs.Work.{Suits, Around}

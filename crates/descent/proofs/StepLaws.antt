@@ -9,7 +9,6 @@ use lib.ListN.{length, getD, drop, length-append}
 use lib.Seq.{getD-at}
 use borrow.Author.Tests.{eq-eqb, ne-eqb}
 use Rattle.layout.specs.Place.{prefixChild}
-use Rattle.layout.specs.Kind.{Prefix}
 use Rattle.model.specs.Strings.{shared}
 use Rattle.model.specs.Edition.{edition1}
 use Rattle.model.specs.Body.{lookKid}

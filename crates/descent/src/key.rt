@@ -1,6 +1,6 @@
 // Keys and their walked strings: the key and then one byte 0.
 ghost use mathlib.Core.Path.{_≡_};
-ghost use Prim.Native.Nat.{_+_, _≤_, _<_};
+ghost use Prim.Native.Nat.{_+_, _<_};
 ghost use lib.ListN.{length, getD, drop};
 ghost use Rattle.model.specs.Strings.{hasZero, shared};
 ghost use Rattle.model.specs.Edition.{edition1};

@@ -1,5 +1,5 @@
 -- The Node4 and the Leaf with its extent are given back. Assumes nothing.
-use Prim.Native.Nat.{ℕ, _+_, _-_, _≤_}
+use Prim.Native.Nat.{ℕ, _≤_}
 use mathlib.Core.Path.{_≡_}
 use mathlib.Core.List.{List, [], _∷_, _++_}
 use native.Mathlib.Omega.{arith}
@@ -7,10 +7,9 @@ use Rattle.layout.specs.Kind.{Kind, Node4}
 use Rattle.layout.specs.Entry.{placeOf}
 use Rattle.model.specs.Edition.{edition1}
 use Rattle.model.specs.Tree.{extentOf}
-use Rattle.model.specs.Item.{Item, body}
+use Rattle.model.specs.Item.{Item, body, Same}
 use Rattle.model.specs.Frame.{Lay, View, Heap}
 use Rattle.model.specs.Frame.Lay.{leaf}
-use Rattle.model.proofs.ItemLaws.{Same}
 use Rattle.room.specs.View.{released}
 use Rattle.room.specs.Step.{Frees, Freed}
 use Rattle.between.specs.Hole.{Step, stepsItems}

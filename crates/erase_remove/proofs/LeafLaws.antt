@@ -10,10 +10,9 @@ use Rattle.layout.specs.Kind.{Leaf, Kind}
 use Rattle.layout.specs.Entry.{placeOf}
 use Rattle.model.specs.Edition.{edition1}
 use Rattle.model.specs.Tree.{up8, extentOf}
-use Rattle.model.specs.Item.{Item, body, extent}
+use Rattle.model.specs.Item.{Item, body, extent, Same}
 use Rattle.model.specs.Frame.{Lay, View, Heap}
 use Rattle.model.specs.Frame.Lay.{leaf}
-use Rattle.model.proofs.ItemLaws.{Same}
 use Rattle.room.specs.View.{released, retired, recorded}
 use Rattle.room.specs.Step.{Frees, Freed, Retires, Renumbered}
 use Rattle.room.proofs.HeapLaws.{lies}

@@ -16,14 +16,14 @@ use Rattle.layout.proofs.KindLaws.{size-least, shrunk-enough, shrunk-fits}
 use Rattle.model.specs.Edition.{edition1}
 use Rattle.model.specs.Tree.{Art, Change, Left, extentOf, carried, eraseTree}
 use Rattle.model.specs.State.{State, room, callErase}
-use Rattle.model.specs.Item.{Item, body, onSlot, cover, leafy, sum}
+use Rattle.model.specs.Item.{Item, body, onSlot, cover, leafy, sum, Same}
 use Rattle.model.specs.Body.{childIn, InnerAt}
 use Rattle.model.specs.Frame.{Lay, LayKids, slotOf, art, items, itemsAll, pairs, freed, View, Heap, Stands}
 use Rattle.model.specs.Frame.Lay.{leaf, prefix, node}
 use Rattle.model.specs.Frame.LayKids.{nil, kid}
 use Rattle.model.specs.Touch as model
 use Rattle.model.specs.Touch.{Touch, touch, touchErase}
-use Rattle.model.proofs.ItemLaws.{Same, in-yes, sum-app, sum-cons}
+use Rattle.model.proofs.ItemLaws.{in-yes, sum-app, sum-cons}
 use Rattle.model.proofs.StandsGood.{leafy-other}
 use Rattle.node.specs.Moved.{Only}
 use Rattle.inner.specs.Inner.{NodeHas, Emptied, Removed, Carry, Carried}

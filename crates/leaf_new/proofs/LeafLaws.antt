@@ -9,15 +9,18 @@ use Rattle.layout.specs.Place.{entryAt, atR}
 use Rattle.layout.specs.Kind.{Leaf, Kind}
 use Rattle.layout.specs.Entry.{placeOf}
 use Rattle.fields.specs.Body.{putLeafBody}
+use Rattle.model.specs.Edition.{edition1}
 use Rattle.model.specs.Tree.{up8}
-use Rattle.model.specs.Frame.{View, Heap}
+use Rattle.model.specs.State.{State}
+use Rattle.model.specs.Frame.{View, Heap, Stands}
 use Rattle.room.specs.View.{taken, Roomy, recorded}
 use Rattle.room.specs.Step.{Takes, Took, Extends, Extended, Renumbered}
 use Rattle.room.specs.Book.{RoomFor}
 use Rattle.room.proofs.HeapLaws.{took-lies}
 use Rattle.room.proofs.BookLaws.{room-first, room-next, room-last}
+use Rattle.between.proofs.WorkLaws.{records-few}
 use Rattle.between.proofs.EditLaws.{leaf-written, leaf-made}
-use Rattle.leaf_new.specs.Make.{Makes, NewLeaf, Counted}
+use Rattle.leaf_new.specs.Make.{Makes, NewLeaf, Counts, Counted}
 
 pub leaf-kind : Kind Leaf
 leaf-kind = (omega arith, omega arith, λ z. omega arith)
@@ -64,6 +67,9 @@ module _ {f k v : List ℕ} (M : Makes f k v) {f1 : List ℕ} {s : ℕ} (took : 
       leaf-made path W T' (ext (taken h Leaf) (T' .heap) (bytes-after (W .heap) R)) eo (leaf-written e (length k) (length v) eg (w .0) (w .1) (M .keyFits) (M .valueFits)) legal begins
 
 -- ---- R grows
+
+pub counts-of : {f g : List ℕ} {s : State} {h : View} (w : Stands edition1 f s) → Heap g h → h .nums .R ≡ w .nums .R → Counts g
+counts-of {h = h} w H e = record { view = h; heap = H; few = omega (arith, records-few w) }
 
 pub count-law : {f g : List ℕ} {r : ℕ} → r ≡ le 4 f atR → ((h : View) → Heap f h → Renumbered f g h (recorded h (r + 1))) → Counted f g
 count-law e C h H = let q = e ∙ H .header .recordsAt in rw q at (C h H)

@@ -1,2 +1,2 @@
 pub mod LeafLaws
-pub mod NewKeyLaws
+pub mod DoneLaws

@@ -16,20 +16,20 @@ use Rattle.layout.specs.Kind.{Leaf, Prefix, Node48, bodySize, most}
 use Rattle.layout.specs.Entry.{entryOf}
 use Rattle.layout.proofs.EntryLaws.{entry-lt}
 use Rattle.layout.proofs.KindLaws.{inner-range, size-least}
-use Rattle.model.specs.Edition.{Edition, Legal, FitsFields}
+use Rattle.model.specs.Edition.{Edition, FitsFields}
 use Rattle.model.specs.Tree.{Art, Kids, extentOf}
 use Rattle.model.specs.Records.{records, recordsOf}
 use Rattle.model.specs.State.{State}
 use Rattle.model.specs.Image.{digits, numbers, padded, slots, size, bytesOf, childSlots, nodeBody, entries, entriesKids, bodies, bodiesKids, header, imageOf}
 use Rattle.model.specs.Item.{sum, leafy}
-use Rattle.model.specs.Body.{lookKid, LeafAt, PrefixAt}
+use Rattle.model.specs.Body.{Has, lookKid, LeafAt, PrefixAt}
 use Rattle.model.specs.Frame.{Lay, tree, pairs, items, Entry, Places, NodeOf, Tree, Trees, RootAt, rootItems, FrameLength, SlotCapacity, Stands}
 use Rattle.model.proofs.Well.{Well, WellKids, Zeros, Placed}
 use Rattle.model.proofs.GoodState.{TreeOk, treeSlots, treeSize}
 use Rattle.model.proofs.StringLaws.{bool-cases}
 use Rattle.model.proofs.UniqueLaws.{look-first, look-later, stands-unique}
 use Rattle.model.proofs.StandsGood.{records-items}
-use Rattle.model.proofs.TextLaws.{Has, has-left, has-right, has-at, has-three, has-number, padded-left, padded-zero, padded-past, length-numbers, length-padded}
+use Rattle.model.proofs.TextLaws.{has-left, has-right, has-at, has-three, has-number, padded-left, padded-zero, padded-past, length-numbers, length-padded}
 use Rattle.model.proofs.NodeImage.{firsts, seconds, orZero, placed, inner-at}
 use Rattle.model.proofs.PackedBytes.{length-bytes, length-slots, length-node, length-bodies, length-entries, length-table, length-image, bytes-image, extent-fits, inner-eighth, eighths, size-eight}
 use Rattle.model.proofs.LayLaws.{layOf, layKids, art-lay, slot-lay, inner-lay, slots-pos, records-slots, lay-firsts, lay-seconds, lay-length, lay-asc, lay-live, none8, lay-sound, Numbered, InOrder, InOrderKids}
@@ -101,12 +101,12 @@ places-of E m o kind ks path s p W P N entry = bool-cases (eqb kind Node48)
 body-as : (m : List ℕ) (o kind : ℕ) (bs ss bs' ss' : List ℕ) → bs ≡ bs' → ss ≡ ss' → Has m o (nodeBody kind bs ss) → Has m o (nodeBody kind bs' ss')
 body-as m o kind bs ss bs' ss' e h H = subst (λ (x : List ℕ). Has m o (nodeBody kind bs' x)) h (subst (λ (x : List ℕ). Has m o (nodeBody kind x ss)) e H)
 
-numbers-append : (xs ys : List ℕ) → numbers 4 (xs ++ ys) ≡ numbers 4 xs ++ numbers 4 ys
+pub numbers-append : (xs ys : List ℕ) → numbers 4 (xs ++ ys) ≡ numbers 4 xs ++ numbers 4 ys
 numbers-append [] ys = refl
 numbers-append (x ∷ xs) ys = rw (numbers-append xs ys)
 
 -- the entries of the slots from s on
-abbrev Entries : List ℕ → ℕ → List ℕ → Type 0
+abbrev pub Entries : List ℕ → ℕ → List ℕ → Type 0
 Entries m s es = Has m (entryAt s) (numbers 4 es)
 
 entries-left : (m : List ℕ) (s : ℕ) (xs ys : List ℕ) → Entries m s (xs ++ ys) → Entries m s xs

@@ -13,14 +13,14 @@ use lib.Dec.{eqb, lit<, lit≤}
 use borrow.Author.Tests.{ne-eqb}
 use Rattle.layout.specs.Kind.{Node4, Node48, most, kindUp}
 use Rattle.layout.specs.Kind.Inner.{node4}
-use Rattle.model.specs.Strings.{same, Byte}
+use Rattle.model.specs.Strings.{same, Parted, Byte}
 use Rattle.model.specs.Edition.{Edition, Legal, LegalValue, Lawful}
 use Rattle.model.specs.Tree.{Art, Kids, count, has, taken, placeIn, carried, asPrefix, fork, Change, over, putLeaf, cutPrefix, addChild, putTree, putKids, isInner}
 use Rattle.model.specs.Tree.Art.{leaf, prefix, node}
 use Rattle.model.specs.Tree.Kids.{nil, kid}
 use Rattle.model.specs.Records.{Record, records, recordsKids, recordsOf, lookup, upsert, absent, Ahead}
 use Rattle.model.specs.State.{putIn}
-use Rattle.model.proofs.StringLaws.{bool-cases, eqb-cases, ltb-cases, clash, all-right, shared-at, Parted, same-false}
+use Rattle.model.proofs.StringLaws.{bool-cases, eqb-cases, ltb-cases, clash, all-right, shared-at, same-false}
 use Rattle.model.proofs.SetLaws.{all-keys-map, Other, lookup-none, lookup-after, lookup-before, upsert-after, upsert-before}
 use Rattle.model.proofs.Well.{Distinct, Zeros, Placed, Starts, PrefixW, NodeW, Well, WellKids}
 use Rattle.model.proofs.GoodState.{TreeOk}
@@ -54,7 +54,8 @@ pub as-prefix-records : (p : List ℕ) (a : Art) → records (asPrefix p a) ≡ 
 as-prefix-records [] a = refl
 as-prefix-records (x ∷ p) a = refl
 
-drop-past : (w : List ℕ) (c : ℕ) (t : List ℕ) → drop (suc (length w)) (w ++ c ∷ t) ≡ t
+-- what stays after the byte at which a string parts
+pub drop-past : (w : List ℕ) (c : ℕ) (t : List ℕ) → drop (suc (length w)) (w ++ c ∷ t) ≡ t
 drop-past [] c t = refl
 drop-past (x ∷ w) c t = drop-past w c t
 

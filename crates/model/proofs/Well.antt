@@ -2,7 +2,7 @@
 use Prim.Native.Nat.{ℕ, suc, _<_, _≤_}
 use mathlib.Core.Path.{_≡_}
 use mathlib.Core.List.{List, [], _∷_, _++_}
-use mathlib.Core.Bool.{Bool, true, false}
+use mathlib.Core.Bool.{true, false}
 use lib.ListN.{length}
 use lib.Dec.{eqb}
 use Rattle.layout.specs.Kind.{Inner, Node48, fewest, most}

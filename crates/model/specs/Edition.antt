@@ -1,9 +1,9 @@
 -- "Records and walked strings": which keys and values are legal, and the walked string of a key. An edition of the format
 -- fixes these; everything else is said over an edition, and proved once for all that are lawful.
-use Prim.Native.Nat.{ℕ, suc, _+_, _<_, _≤_}
+use Prim.Native.Nat.{ℕ, _<_, _≤_}
 use mathlib.Core.Path.{_≡_}
 use mathlib.Core.List.{List, [], _∷_, _++_}
-use mathlib.Core.Bool.{Bool, true, false}
+use mathlib.Core.Bool.{true}
 use lib.ListN.{length}
 use lib.Dec.{ltb, eqb}
 use Rattle.model.specs.Strings.{pick, hasZero, All, Byte, before}

@@ -1,17 +1,16 @@
 -- "The frame" and "A good frame": the tree with its slots and places, when a frame's bytes hold it, and what a good frame stands for.
-use Prim.Native.Nat.{ℕ, zero, suc, _+_, _-_, _*_, _%_, _<_, _≤_}
+use Prim.Native.Nat.{ℕ, suc, _+_, _%_, _<_, _≤_}
 use mathlib.Core.Path.{_≡_}
 use mathlib.Core.List.{List, [], _∷_, _++_, map}
-use mathlib.Core.Bool.{Bool, true, false}
 use mathlib.Core.Option.{Option, none, some}
 use lib.ListN.{length, getD, take}
 use lib.Dec.{eqb}
 use Rattle.layout.specs.Number.{le, byteAt, Bytes}
 use Rattle.layout.specs.Place.{atEdition, atF, atN, atD, atB, atU, atR, atX, atRoot, atHead, atSpare, headerSize, entryAt, dataStart, node48Index}
-use Rattle.layout.specs.Kind.{Leaf, Prefix, Node48, EmptyRoot, bodySize, fewest, most}
+use Rattle.layout.specs.Kind.{Leaf, Prefix, Node48, EmptyRoot, fewest, most}
 use Rattle.layout.specs.Entry.{placeOf, highOf}
 use Rattle.model.specs.Strings.{pick}
-use Rattle.model.specs.Edition.{Edition, Legal}
+use Rattle.model.specs.Edition.{Edition}
 use Rattle.model.specs.Tree.{Art, Kids, extentOf}
 use Rattle.model.specs.State.{State}
 use Rattle.model.specs.Item.{Item, body, extent, sum, leafy, Sound}

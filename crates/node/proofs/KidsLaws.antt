@@ -1,5 +1,5 @@
 -- A node's children as a list of pairs: by place, what keeps them in order, and what is looked up after a change. Assumes nothing.
-use Prim.Native.Nat.{ℕ, zero, suc, _+_, _-_, _<_, _≤_, compare·suc-suc}
+use Prim.Native.Nat.{ℕ, zero, suc, _+_, _<_, _≤_, compare·suc-suc}
 use mathlib.Core.Path.{_≡_, refl, _∙_, ap, sym}
 use mathlib.Core.List.{List, [], _∷_}
 use mathlib.Core.Bool.{Bool, true, false}

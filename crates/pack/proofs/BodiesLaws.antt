@@ -14,8 +14,8 @@ use Rattle.layout.proofs.KindLaws.{range-inner}
 use Rattle.model.specs.Tree.{extentOf}
 use Rattle.model.specs.Tree.Art.{leaf}
 use Rattle.model.specs.Image.{digits, padded, size, bodies}
-use Rattle.model.specs.Body.{Zero}
-use Rattle.model.proofs.TextLaws.{Has, has-at, length-padded}
+use Rattle.model.specs.Body.{Zero, Has}
+use Rattle.model.proofs.TextLaws.{has-at, length-padded}
 use Rattle.model.proofs.PackedBytes.{extent-fits}
 use Rattle.node.specs.Moved.{Only}
 use Rattle.node.proofs.MoveLaws.{only-put}

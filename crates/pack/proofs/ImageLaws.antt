@@ -14,7 +14,7 @@ use Rattle.model.specs.Edition.{edition1}
 use Rattle.model.specs.Tree.{Art}
 use Rattle.model.specs.Records.{recordsOf}
 use Rattle.model.specs.State.{State}
-use Rattle.model.specs.Image.{numbers, packedTree, slots, size, entries, bodies, header, image, imageOf}
+use Rattle.model.specs.Image.{numbers, packedTree, slots, size, entries, bodies, image, imageOf}
 use Rattle.model.specs.Item.{Item, body, onSlot, cover, sum}
 use Rattle.model.specs.Body.{Zero}
 use Rattle.model.specs.Frame.{Lay, LayKids, Root, bare, tree, rootArt, rootSlot, rootItems, slotOf, art, items, itemsAll, freed, Tree, RootAt}

@@ -8,7 +8,8 @@ use native.Mathlib.Omega.{arith}
 use lib.ListN.{length, length-append}
 use Rattle.layout.specs.Place.{entryAt}
 use Rattle.model.specs.Image.{digits, numbers}
-use Rattle.model.proofs.TextLaws.{Has, has-at, has-right, length-numbers}
+use Rattle.model.specs.Body.{Has}
+use Rattle.model.proofs.TextLaws.{has-at, has-right, length-numbers}
 use Rattle.node.specs.Moved.{Only}
 use Rattle.pack_body.proofs.HasLaws.{has-join, has-same, has-only, entries-join}
 use Rattle.pack.specs.declared.bodies.Next.{Next}

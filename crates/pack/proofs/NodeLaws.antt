@@ -1,7 +1,7 @@
 -- A packed node: its slots, size, entries and bytes are its own and its children's, whatever places these have; and the bytes of its body,
 -- with only the first of its children too. Assumes nothing.
 use Prim.Native.Nat.{ℕ, suc, _+_, _≤_}
-use mathlib.Core.Path.{_≡_, refl, sym, ap, _∙_}
+use mathlib.Core.Path.{_≡_, refl, ap, _∙_}
 use mathlib.Core.List.{List, _∷_, _++_}
 use native.Mathlib.Omega.{arith}
 use lib.ListN.{length, length-append}
@@ -12,7 +12,7 @@ use Rattle.model.specs.Tree.{Kids, count, unnumbered, carried}
 use Rattle.model.specs.Tree.Kids.{nil, kid}
 use Rattle.model.specs.Image.{digits, numbers, padded, spread, upFrom, smallest, nodeOf, slots, slotsKids, size, sizeKids, bytesOf, childSlots, nodeBody, entries, entriesKids, bodies, bodiesKids}
 use Rattle.model.specs.Frame.{LayKids, pairs}
-use Rattle.model.proofs.KidsLaws.{unnumbered-carried, carried-slots, carried-size}
+use Rattle.model.proofs.KidsLaws.{carried-same, carried-slots, carried-size}
 use Rattle.model.proofs.PackedBytes.{length-node}
 use Rattle.pack_body.specs.Part.{partBody}
 use Rattle.pack.specs.Walk.{packedRun}
@@ -35,10 +35,6 @@ unnumbered-bodies : (s o : ℕ) (ks : Kids) → bodiesKids (unnumbered ks) s o �
 unnumbered-bodies s o nil = refl
 unnumbered-bodies s o (kid b j a ks) = rw (unnumbered-bodies (s + slots a) (o + size a) ks)
 
--- what does not look at places is as it was
-carried-same : {A : Type 0} (kind : ℕ) (f : Kids → A) → ((ls : Kids) → f (unnumbered ls) ≡ f ls) → (ks : Kids) → f (carried kind ks) ≡ f ks
-carried-same kind f same-at ks = sym (same-at (carried kind ks)) ∙ ap f (unnumbered-carried kind ks) ∙ same-at ks
-
 -- a body and what stands behind it
 pub glue : (kind : ℕ) {x x' y y' z z' : List ℕ} → x ≡ x' → y ≡ y' → z ≡ z' → nodeBody kind x y ++ z ≡ nodeBody kind x' y' ++ z'
 glue kind {x} {x'} {y} {y'} {z} {z'} p q r =
@@ -57,12 +53,12 @@ module _ (ks : Kids) where
   node-size = ap (λ (n : ℕ). bodySize small + n) (carried-size small ks)
 
   pub node-entries : (o : ℕ) → entries (nodeOf ks) o ≡ entryOf small o ∷ entriesKids ks (o + bodySize small)
-  node-entries o = ap (λ (es : List ℕ). entryOf small o ∷ es) (carried-same small (λ ls. entriesKids ls (o + bodySize small)) (unnumbered-entries (o + bodySize small)) ks)
+  node-entries o = ap (λ (es : List ℕ). entryOf small o ∷ es) (carried-same small ks (λ ls. entriesKids ls (o + bodySize small)) (unnumbered-entries (o + bodySize small)))
 
   pub node-bodies : (s o : ℕ) → bodies (nodeOf ks) s o ≡ nodeBody small (bytesOf ks) (childSlots (s + 1) ks) ++ bodiesKids ks (s + 1) (o + bodySize small)
   node-bodies s o =
-      glue small (carried-same small bytesOf unnumbered-bytes ks) (carried-same small (childSlots (s + 1)) (unnumbered-child-slots (s + 1)) ks)
-      (carried-same small (λ ls. bodiesKids ls (s + 1) (o + bodySize small)) (unnumbered-bodies (s + 1) (o + bodySize small)) ks)
+      glue small (carried-same small ks bytesOf unnumbered-bytes) (carried-same small ks (childSlots (s + 1)) (unnumbered-child-slots (s + 1)))
+      (carried-same small ks (λ ls. bodiesKids ls (s + 1) (o + bodySize small)) (unnumbered-bodies (s + 1) (o + bodySize small)))
 
 -- as many packed children as there are
 pub count-run : (ks : LayKids) → count (packedRun ks) ≡ length (pairs ks)

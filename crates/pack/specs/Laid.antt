@@ -10,8 +10,7 @@ use Rattle.layout.specs.Kind.{Leaf, Prefix, bodySize, most}
 use Rattle.layout.specs.Entry.{entryOf}
 use Rattle.model.specs.Tree.Art.{leaf}
 use Rattle.model.specs.Image.{digits, numbers, padded, size, entries, bodies}
-use Rattle.model.specs.Body.{LeafAt, PrefixAt}
-use Rattle.model.proofs.TextLaws.{Has}
+use Rattle.model.specs.Body.{Has, LeafAt, PrefixAt}
 use Rattle.node.specs.Moved.{Only}
 use Rattle.pack_body.specs.Part.{Ascending, partBody}
 use Rattle.pack.specs.declared.bodies.Next.{Next}

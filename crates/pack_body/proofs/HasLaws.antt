@@ -7,12 +7,13 @@ use native.Mathlib.Omega.{arith}
 use native.Mathlib.Decide.{decLt, ℕ-discrete}
 use lib.ListN.{length, getD, set, replicate, length-append, length-set, length-replicate, getD-replicate, List·getD-append}
 use lib.Seq.{ext-getD, getD-append-add, getD-set-same, getD-set-other}
-use Rattle.layout.specs.Number.{le, put, byteAt, Bytes}
+use Rattle.layout.specs.Number.{put, byteAt}
 use Rattle.layout.specs.Place.{entryAt}
 use Rattle.layout.proofs.NumberLaws.{getD-put-off, length-put}
 use Rattle.model.specs.Image.{digits, numbers, padded}
-use Rattle.model.specs.Body.{Zero}
-use Rattle.model.proofs.TextLaws.{Has, has-at, has-left, has-right, padded-left, padded-past, length-numbers, length-padded}
+use Rattle.model.specs.Body.{Zero, Has}
+use Rattle.model.proofs.TextLaws.{has-at, has-left, has-right, padded-left, padded-past, length-numbers, length-padded}
+use Rattle.model.proofs.ImageLaws.{numbers-append, Entries}
 use Rattle.node.specs.Moved.{Only}
 use Rattle.node.proofs.MoveLaws.{outside, only-put}
 
@@ -104,14 +105,6 @@ has-more w m o v xs e h H =
     let z : 0 + o ≡ o = omega arith in
     has-join xs (digits w v) o e (has-only (only-put w m o v) xs (inl (omega arith)) H) (has-at (0 + o) (digits w v) (sym z) (has-put w m o v h))
 
--- a number that is there
-pub has-digits : {m : List ℕ} → Bytes m → (w o n : ℕ) → o + w ≤ length m → le w m o ≡ n → Has m o (digits w n)
-unfolding le
-has-digits B zero o n h e = has-nil (omega arith)
-has-digits {m} B (suc w) o n h e =
-    let b = B o in
-    has-join (n % 256 ∷ []) (digits w (n / 256)) 1 refl (has-one (n % 256) (omega arith) (omega arith)) (has-digits B w (o + 1) (n / 256) (omega arith) (omega arith))
-
 -- one element of what is there is written
 pub has-set : {m : List ℕ} {o : ℕ} (l : List ℕ) (p v : ℕ) → p < length l → Has m o l → Has (set m (o + p) v) o (set l p v)
 has-set {m} {o} l p v h H =
@@ -137,17 +130,7 @@ numbers-set {m} {o} (x ∷ l) (suc p) v h H =
     rw z (has-join (digits 4 x) (numbers 4 (set l p v)) 4 refl (has-only (only-put 4 m (o + 4 + 4 * p) v) (digits 4 x) (inl (omega arith)) (has-left (digits 4 x) (numbers 4 l) H))
     (numbers-set l p v (omega arith) (has-right (digits 4 x) (numbers 4 l) 4 refl H)))
 
-pub numbers-append : (xs ys : List ℕ) → numbers 4 (xs ++ ys) ≡ numbers 4 xs ++ numbers 4 ys
-numbers-append [] ys = refl
-numbers-append (x ∷ xs) ys = rw (numbers-append xs ys)
-
 -- ---- the entries of the slots from s on
-
-abbrev pub Entries : List ℕ → ℕ → List ℕ → Type 0
-Entries m s es = Has m (entryAt s) (numbers 4 es)
-
-pub entries-one : (m : List ℕ) (s e : ℕ) → Has m (entryAt s) (digits 4 e) → Entries m s (e ∷ [])
-entries-one m s e H = H
 
 pub entries-join : (m : List ℕ) (s : ℕ) (xs ys : List ℕ) (n : ℕ) → length xs ≡ n → Entries m s xs → Entries m (s + n) ys → Entries m s (xs ++ ys)
 entries-join m s xs ys n e X Y =

@@ -1,5 +1,5 @@
 -- The packed image from its parts: header, entries, bodies, and zero everywhere else. Assumes nothing.
-use Prim.Native.Nat.{ℕ, _+_, _-_, _*_, _<_, _≤_}
+use Prim.Native.Nat.{ℕ, _+_, _*_, _<_, _≤_}
 use mathlib.Core.Path.{_≡_, refl, sym, _∙_}
 use mathlib.Core.List.{List, [], _++_}
 use mathlib.Core.Option.{some}
@@ -10,8 +10,9 @@ use Rattle.layout.specs.Place.{entryAt, dataStart}
 use Rattle.model.specs.Edition.{edition1}
 use Rattle.model.specs.Tree.{Art}
 use Rattle.model.specs.Image.{numbers, padded, slots, size, entries, bodies, header, imageOf}
+use Rattle.model.specs.Body.{Has}
 use Rattle.model.proofs.Well.{Well}
-use Rattle.model.proofs.TextLaws.{Has, has-at, length-numbers, length-padded}
+use Rattle.model.proofs.TextLaws.{has-at, length-numbers, length-padded}
 use Rattle.model.proofs.PackedBytes.{length-bodies, length-entries, length-table}
 use Rattle.pack_body.proofs.HasLaws.{has-padded, three-has, has-whole}
 

@@ -17,17 +17,18 @@ use Rattle.layout.proofs.KindLaws.{range-inner, size-least}
 use Rattle.model.specs.Edition.{Edition}
 use Rattle.model.specs.Tree.{Kids}
 use Rattle.model.specs.Image.{smallest, digits, numbers, padded, bytesOf, spread, upFrom, nodeBody}
-use Rattle.model.specs.Body.{Zero}
+use Rattle.model.specs.Body.{Zero, Has}
 use Rattle.model.proofs.Well.{WellKids}
-use Rattle.model.proofs.StringLaws.{eqb-cases, leb-cases}
-use Rattle.model.proofs.TextLaws.{Has, has-left, has-right, has-three, length-numbers, length-padded}
+use Rattle.model.proofs.StringLaws.{eqb-cases}
+use Rattle.model.proofs.TextLaws.{has-left, has-right, has-three, length-numbers, length-padded}
 use Rattle.model.proofs.NodeImage.{length-spread}
+use Rattle.model.proofs.ImageLaws.{numbers-append}
 use Rattle.node.proofs.MoveLaws.{only-put, only-set, only-widen}
 use Rattle.inner.specs.Inner.{appended}
 use Rattle.inner.proofs.DispatchLaws.{is-sorted, is-48, is-256}
 use Rattle.inner.proofs.CarryLaws.{appended-only}
 use Rattle.pack_body.specs.Part.{Ascending, partBody, NodeStarted, ChildWritten}
-use Rattle.pack_body.proofs.HasLaws.{zero-at, has-one, has-join, has-nil, has-zeros, has-padded, three-has, has-only, zero-only, padded-more, has-put, has-set, numbers-set, numbers-append}
+use Rattle.pack_body.proofs.HasLaws.{zero-at, has-one, has-join, has-nil, has-zeros, has-padded, three-has, has-only, zero-only, padded-more, has-put, has-set, numbers-set}
 
 -- ---- the smallest kind, by how many children it holds
 
@@ -43,13 +44,6 @@ module _ (n : ℕ) where
 
   pub smallest-256 : 48 < n → Node256 ≡ smallest n
   smallest-256 a = rw (lt-leb n 4 (omega arith), lt-leb n 16 (omega arith), lt-leb n 48 a)
-
-pub smallest-inner : (n : ℕ) → n ≤ 256 → Inner (smallest n) × (n ≤ most (smallest n))
-smallest-inner n h = leb-cases n 4
-    (λ t l. rw t (node4, l))
-    (λ t l. leb-cases n 16
-    (λ u k. rw (t, u) (node16, k))
-    (λ u k. leb-cases n 48 (λ v j. rw (t, u, v) (node48, j)) (λ v j. rw (t, u, v) (node256, h))))
 
 -- ---- all children are there
 

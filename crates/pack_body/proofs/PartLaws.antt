@@ -8,8 +8,7 @@ use lib.ListN.{length, take, drop, length-append, length-drop, List·getD-append
 use lib.Seq.{length-take-le, getD-append-add, getD-take, getD-drop}
 use borrow.Rule.Slice.PartMut.{putMid, midOf, postOf}
 use Rattle.layout.specs.Number.{byteAt}
-use Rattle.model.specs.Body.{Zero}
-use Rattle.model.proofs.TextLaws.{Has}
+use Rattle.model.specs.Body.{Zero, Has}
 use Rattle.node.specs.Moved.{Only}
 
 module _ (a k : ℕ) (xs : List ℕ) (h : a + k ≤ length xs) where

@@ -17,8 +17,7 @@ use Rattle.fields.proofs.BodyLaws.{length-putLeafBody, leaf-off}
 use Rattle.model.specs.Tree.{up8, extentOf}
 use Rattle.model.specs.Tree.Art.{leaf}
 use Rattle.model.specs.Image.{digits, padded, size, bodies}
-use Rattle.model.specs.Body.{Zero, Text, LeafAt, PrefixAt}
-use Rattle.model.proofs.TextLaws.{Has}
+use Rattle.model.specs.Body.{Zero, Text, Has, LeafAt, PrefixAt}
 use Rattle.model.proofs.PackedBytes.{extent-fits}
 use Rattle.node.specs.Moved.{Only}
 use Rattle.node.proofs.MoveLaws.{only-put, only-then}

@@ -11,8 +11,7 @@ use Rattle.model.specs.Strings.{pick}
 use Rattle.model.specs.Edition.{edition1}
 use Rattle.model.specs.Tree.Art.{leaf}
 use Rattle.model.specs.Image.{digits, numbers, padded, spread, upFrom, size, bodies, header}
-use Rattle.model.specs.Body.{Zero, LeafAt, PrefixAt}
-use Rattle.model.proofs.TextLaws.{Has}
+use Rattle.model.specs.Body.{Zero, Has, LeafAt, PrefixAt}
 use Rattle.node.specs.Moved.{Only}
 
 -- ---- the header

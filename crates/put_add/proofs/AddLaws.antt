@@ -37,10 +37,10 @@ use Rattle.between.proofs.OutsideLaws.{among-here}
 use Rattle.descent.specs.declared.spot.Spot.{Spot}
 use Rattle.leaf_new.specs.Make.{NewLeaf, Makes, Counts, Counted}
 use Rattle.leaf_new.specs.Put.{Stepped, PutStep}
-use Rattle.leaf_new.proofs.LeafLaws.{leaf-kind}
-use Rattle.leaf_new.proofs.NewKeyLaws.{same-room, new-key}
+use Rattle.leaf_new.proofs.LeafLaws.{leaf-kind, counts-of}
+use Rattle.leaf_new.proofs.DoneLaws.{same-room, new-key}
 use Rattle.put_add.specs.Missing.{Open, Lacks}
-use Rattle.put_add.proofs.SpotLaws.{lacks-of, byte-is, lacks-byte, lacks-put, lacks-work, ready-makes, ready-counts}
+use Rattle.put_add.proofs.SpotLaws.{lacks-of, byte-is, lacks-byte, lacks-put, lacks-work, ready-makes}
 
 -- a Leaf's body alone is taken
 pub one-row : (h : View) → length (h .lists) ≡ 8 → Booked h (taken h Leaf) (Leaf ∷ []) [] 0 0 (h .nums .R)
@@ -89,7 +89,7 @@ module _ {f : List ℕ} {st : State} {S : Stands edition1 f st} {k : List ℕ} {
       booked = booked-extend (one-row (standsView S) (S .heap .lists .eight)) (extentOf k v) (extentOf k v) (omega arith)
 
       pub add-counts : Counts f2
-      add-counts = ready-counts S (W2 .heap) (booked .R)
+      add-counts = counts-of S (W2 .heap) (booked .R)
 
       module _ {f3 : List ℕ} (count : Counted f2 f3) (bytes : Bytes f3) where
         C : Renumbered f2 f3 (leafView (standsView S) k v) (recorded (leafView (standsView S) k v) (leafView (standsView S) k v .nums .R + 1))
@@ -109,7 +109,7 @@ module _ {f : List ℕ} {st : State} {S : Stands edition1 f st} {k : List ℕ} {
             let i = placeAt f2 o kind b in
             let Z1 = since-also (body n kind o ∷ []) (since-leaf (S .heap) (since-start (S .heap)) M) in
             let Z2 = since-write (A .only) (λ a p u. omega (arith, sum-cons (cover a) (body n kind o) [], cover-body a n kind o p u)) Z1 in
-            new-key S k v change-is fits (P .legal .passes) T1 (work-count W2 (leafView h0 k v .nums .R + 1) C) refl bytes
+            new-key S k v change-is fits T1 (work-count W2 (leafView h0 k v .nums .R + 1) C) refl bytes
             (booked-count booked (leafView h0 k v .nums .R + 1) (st .R + 1) (ap (λ x. x + 1) (booked .R ∙ sym (ap (λ s. s .R) (S .state)))))
             (art-plug xs (node n o kind ks1) ∙ ap (λ x. artIn xs (Art.node kind x)) (join-art b i t1 ks ∙ ap (λ j. join b j (Art.leaf k v) (artKids ks)) (added-place ks A (node-is .inner) (node-is .places))))
             (omega (

@@ -11,10 +11,10 @@ use Rattle.layout.specs.Entry.{placeOf}
 use Rattle.model.specs.Edition.{edition1, Legal}
 use Rattle.model.specs.Tree.{Art, extentOf, newKey}
 use Rattle.model.specs.State.{State, room, putChange, putIn}
-use Rattle.model.specs.Item.{Item, body, leafy, sum}
+use Rattle.model.specs.Item.{Item, body, leafy, sum, Same}
 use Rattle.model.specs.Frame.{Lay, bare, rootArt, rootItems, rootSlot, View, Heap, Stands}
 use Rattle.model.specs.Touch.{putTouch}
-use Rattle.model.proofs.ItemLaws.{Same, sum-cons, in-over}
+use Rattle.model.proofs.ItemLaws.{sum-cons, in-over}
 use Rattle.room.specs.View.{listOf, placeFrom, taken, released, rooted}
 use Rattle.room.specs.Step.{Frees, Freed}
 use Rattle.room.specs.Book.{RoomFor}
@@ -30,9 +30,10 @@ use Rattle.between.proofs.BookedLaws.{booked-extend, booked-root, booked-free, 
 use Rattle.between.proofs.SinceLaws.{since-start, since-leaf, since-link, since-free, since-count}
 use Rattle.leaf_new.specs.Make.{NewLeaf, Makes, Counts, Counted, Relinked}
 use Rattle.leaf_new.specs.Put.{Stepped, PutStep}
-use Rattle.leaf_new.proofs.NewKeyLaws.{same-root, same-room, new-key}
+use Rattle.leaf_new.proofs.LeafLaws.{counts-of}
+use Rattle.leaf_new.proofs.DoneLaws.{same-root, same-room, new-key}
 use Rattle.put_add.specs.Missing.{Vacant}
-use Rattle.put_add.proofs.SpotLaws.{ready-makes, ready-counts}
+use Rattle.put_add.proofs.SpotLaws.{ready-makes}
 use Rattle.put_add.proofs.AddLaws.{one-row}
 
 -- a body that is no Leaf's
@@ -96,7 +97,7 @@ module _ {f : List ℕ} {st : State} (S : Stands edition1 f st) {k : List ℕ} {
         booked = booked-free (booked-root (booked-extend (one-row (standsView S) (S .heap .lists .eight)) (extentOf k v) (extentOf k v) (omega arith)) (rootOf [] l)) n EmptyRoot o rest bare-kind
 
         pub first-counts : Counts f3
-        first-counts = ready-counts S (W3 .heap) (booked .R)
+        first-counts = counts-of S (W3 .heap) (booked .R)
 
         pub first-put : {f4 : List ℕ} → Counted f3 f4 → Bytes f4 → Stepped f k v f4 st S
         first-put count bytes =
@@ -108,7 +109,7 @@ module _ {f : List ℕ} {st : State} (S : Stands edition1 f st) {k : List ℕ} {
             let Z2 = since-free bare-kind (W2 .heap) (first-owns W2) (since-link l atRoot [] root-link (M .work) link Z1) R in
             let old : (w : Item → ℕ) → sum w (rootItems (S .root)) ≡ w (body n EmptyRoot o) = λ w.
             ap (λ x. sum w (rootItems x)) er ∙ ap (sum w) (bare-items n o) ∙ omega (arith, sum-cons w (body n EmptyRoot o) [], sum-none w) in
-            new-key S k v change-is fits (legal .passes) t1 (work-count W3 (h3 .nums .R + 1) N) refl bytes
+            new-key S k v change-is fits t1 (work-count W3 (h3 .nums .R + 1) N) refl bytes
             (booked-count booked (h3 .nums .R + 1) (st .R + 1) (ap (λ x. x + 1) (booked .R ∙ sym (ap (λ s. s .R) (S .state)))))
             refl
             (omega (arith, old leafy, leafy-leaf l q e k v, leafy-kind n EmptyRoot o (omega arith)))

@@ -15,13 +15,13 @@ use Rattle.layout.proofs.KindLaws.{size-least}
 use Rattle.model.specs.Edition.{edition1}
 use Rattle.model.specs.Tree.{Art, extentOf, newKey, join, placeIn, carried}
 use Rattle.model.specs.State.{State, room, putChange}
-use Rattle.model.specs.Item.{Item, body, extent, onSlot, cover, leafy, sum}
+use Rattle.model.specs.Item.{Item, body, extent, onSlot, cover, leafy, sum, Same}
 use Rattle.model.specs.Body.{lookKid}
 use Rattle.model.specs.Frame.{Lay, LayKids, slotOf, artKids, itemsAll, pairs, rootItems, NodeOf, View, Heap, freed, Stands}
 use Rattle.model.specs.Frame.Lay.{node}
 use Rattle.model.specs.Touch.{touch, putTouch, holder, size}
 use Rattle.model.proofs.Edition1.{lawful1}
-use Rattle.model.proofs.ItemLaws.{Same, sum-app, sum-cons}
+use Rattle.model.proofs.ItemLaws.{sum-app, sum-cons}
 use Rattle.inner.specs.Inner.{placeAt, Emptied, Carried, Added}
 use Rattle.inner.proofs.InnerLaws.{inner-asc}
 use Rattle.room.specs.View.{listOf, placeFrom, taken, Roomy, released, recorded, rooted}
@@ -47,11 +47,11 @@ use Rattle.between.proofs.OutsideLaws.{among-here, among-there}
 use Rattle.descent.specs.declared.spot.Spot.{Spot}
 use Rattle.leaf_new.specs.Make.{NewLeaf, Makes, Counts, Counted, Relinked}
 use Rattle.leaf_new.specs.Put.{Stepped, PutStep}
-use Rattle.leaf_new.proofs.LeafLaws.{leaf-kind}
-use Rattle.leaf_new.proofs.NewKeyLaws.{same-room, new-key}
+use Rattle.leaf_new.proofs.LeafLaws.{leaf-kind, counts-of}
+use Rattle.leaf_new.proofs.DoneLaws.{same-room, new-key}
 use Rattle.put_add.specs.Missing.{Full, Lacks}
 use Rattle.put_add.specs.Grown.{Fills, Filled}
-use Rattle.put_add.proofs.SpotLaws.{lacks-of, byte-is, lacks-byte, lacks-put, lacks-work, ready-makes, ready-counts}
+use Rattle.put_add.proofs.SpotLaws.{lacks-of, byte-is, lacks-byte, lacks-put, lacks-work, ready-makes}
 use Rattle.put_add.proofs.UpLaws.{Grows, grows, inner-kind, not-256, all-byte, tally-turn, kids-live, holder-in, holder-some}
 
 two-row : (h : View) (k : ℕ) → Kind k → length (h .lists) ≡ 8 → Booked h (taken (taken h k) Leaf) (Leaf ∷ k ∷ []) [] 0 0 (h .nums .R)
@@ -251,7 +251,7 @@ module _ {f : List ℕ} {st : State} {S : Stands edition1 f st} {k : List ℕ} {
                     booked-free (booked-root (booked-extend (two-row (standsView S) up K (S .heap .lists .eight)) (extentOf k v) (extentOf k v) (omega arith)) (rootOf xs m)) n kind o rest K0
 
                 pub grow-counts : Counts f5
-                grow-counts = ready-counts S (W8 .heap) (booked .R)
+                grow-counts = counts-of S (W8 .heap) (booked .R)
 
                 module _ {f6 : List ℕ} (count : Counted f5 f6) (bytes : Bytes f6) where
                   N : Renumbered f5 f6 h5 (recorded h5 (h5 .nums .R + 1))
@@ -280,7 +280,7 @@ module _ {f : List ℕ} {st : State} {S : Stands edition1 f st} {k : List ℕ} {
                       let Z4 = since-free K0 (W7 .heap) (first-owns W7) Z3 R in
                       let old : (w : Item → ℕ) → sum w (rootItems (S .root)) ≡ sum w (stepsItems xs) + (w bn + sum w (itemsAll ks)) = λ w.
                       omega (arith, stands-sum S (plug xs (node n o kind ks)) (P .is) w, plug-sum w xs (node n o kind ks), node-sum w n o kind ks) in
-                      new-key S k v change-is fits (P .legal .passes) T1 (work-count W8 (h5 .nums .R + 1) N) refl bytes
+                      new-key S k v change-is fits T1 (work-count W8 (h5 .nums .R + 1) N) refl bytes
                       (booked-count booked (h5 .nums .R + 1) (st .R + 1) (ap (λ x. x + 1) (booked .R ∙ sym (ap (λ s. s .R) (S .state)))))
                       (art-plug xs (node m q up ks1) ∙ ap (λ x. artIn xs (Art.node up x)) (join-art b i t1 ks0 ∙ ap (λ j. join b j (Art.leaf k v) (artKids ks0)) (added-place ks0 A (node-new .inner) (node-new .places))
                       ∙ ap (λ z. join b (placeIn up z) (Art.leaf k v) z) (carried-art up ks)))

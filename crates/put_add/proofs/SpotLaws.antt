@@ -21,13 +21,13 @@ use Rattle.between.specs.Work.{Work}
 use Rattle.between.specs.Lead.{Leads}
 use Rattle.between.proofs.HoleLaws.{art-plug}
 use Rattle.between.proofs.KidsLaws.{look-none}
-use Rattle.between.proofs.WorkLaws.{standsView, work-of, work-open, records-few}
+use Rattle.between.proofs.WorkLaws.{standsView, work-of, work-open}
 use Rattle.between.proofs.LeadLaws.{leads-rest, leads-byte, plug-put}
 use Rattle.descent.specs.declared.spot.Spot.{Spot}
 use Rattle.descent.specs.Spot.{NoByte}
-use Rattle.leaf_new.specs.Make.{Makes, Counts}
+use Rattle.leaf_new.specs.Make.{Makes}
 use Rattle.leaf_new.specs.Put.{PutReady, PutAt}
-use Rattle.leaf_new.proofs.NewKeyLaws.{same-root}
+use Rattle.leaf_new.proofs.DoneLaws.{same-root}
 use Rattle.put_add.specs.Missing.{Lacks}
 
 -- ---- from the spot
@@ -65,11 +65,8 @@ module _ {f : List ℕ} {st : State} {S : Stands edition1 f st} {k : List ℕ} {
   pub lacks-work : Work edition1 f (standsView S) xs n ((pathOf xs, node n o kind ks) ∷ []) []
   lacks-work = work-open xs (node n o kind ks) [] (work-of S (plug xs (node n o kind ks)) (P .is)) refl .0
 
--- ---- key and value fit their fields, and R can grow
+-- ---- key and value fit their fields
 
 pub ready-makes : {f k v f1 : List ℕ} {h : View} → PutReady f k v → Heap f1 h → RoomFor h (Leaf ∷ []) (extentOf k v) → Makes f1 k v
 ready-makes {k = k} {h = h} A H R =
     record { view = h; heap = H; room = R; keyFits = omega (arith, key-passes k (A .legal .passes) .short); valueFits = omega (arith, A .legalValue .passes) }
-
-pub ready-counts : {f f1 : List ℕ} {st : State} {h : View} (S : Stands edition1 f st) → Heap f1 h → h .nums .R ≡ S .nums .R → Counts f1
-ready-counts {h = h} S H e = record { view = h; heap = H; few = omega (arith, records-few S) }

@@ -26,7 +26,7 @@ use Rattle.between.proofs.LeadLaws.{node-put, node-grow}
 use Rattle.between.proofs.KidsLaws.{look-none}
 use Rattle.descent.specs.declared.spot.Spot.{Spot}
 use Rattle.descent.specs.Spot.{InTree, SpotAt}
-use Rattle.put_replace.proofs.DoneLaws.{change-is}
+use Rattle.leaf_new.proofs.DoneLaws.{change-is}
 
 -- a change that takes at most three bodies and the extent of this record, and makes a new record or not
 pub record Light (k v : List ℕ) (new : Bool) (c : Change Art) : Type 0 where

@@ -31,7 +31,8 @@ use Rattle.between.proofs.SinceLaws.{since-take}
 use Rattle.descent.specs.declared.spot.Spot.{Spot}
 use Rattle.leaf_new.specs.Make.{Counts, Counted, Relinked}
 use Rattle.leaf_new.specs.Put.{PutStep}
-use Rattle.put_replace.proofs.DoneLaws.{any-room, Edited, put-done}
+use Rattle.leaf_new.proofs.LeafLaws.{counts-of}
+use Rattle.leaf_new.proofs.DoneLaws.{any-room, Edited, put-done}
 use Rattle.put_split.specs.Parts.{Forks, Forked}
 use Rattle.put_split.proofs.ForkLaws.{forkKids, fork-art, fork-look, fork-work, fork-since}
 use Rattle.put_split.proofs.EndLaws.{node4-kind, took-slot, end-work, end-since, end-booked}
@@ -40,7 +41,7 @@ use Rattle.put_split.proofs.PartedLaws.{begins-here}
 use Rattle.put_split.proofs.OtherLaws.{relink-ok}
 use Rattle.put_cut.specs.Cut.{AfterLeft, Shortened}
 use Rattle.put_cut.proofs.ModelLaws.{madeOf, made-after, put-cut, touch-after}
-use Rattle.put_cut.proofs.SpotLaws.{front-none, front-gone, front-path, front-byte, takes-of, took-of, counts-of, xs, old, own, w0, root-at, cut, word, tail-is, room-two}
+use Rattle.put_cut.proofs.SpotLaws.{front-none, front-gone, front-path, front-byte, takes-of, took-of, xs, old, own, w0, root-at, cut, word, tail-is, room-two}
 use Rattle.put_cut.proofs.StageLaws.{forks-of, fork-leaves, holder-own, holder-own-some, shorter, short-work, short-since}
 
 module _ {f k v : List ℕ} {p : Spot} (N : AfterLeft f k v p) where

@@ -31,7 +31,8 @@ use Rattle.between.proofs.OutsideLaws.{among-here}
 use Rattle.descent.specs.declared.spot.Spot.{Spot}
 use Rattle.leaf_new.specs.Make.{Counts, Counted}
 use Rattle.leaf_new.specs.Put.{PutStep}
-use Rattle.put_replace.proofs.DoneLaws.{any-room, Edited, put-done}
+use Rattle.leaf_new.proofs.LeafLaws.{counts-of}
+use Rattle.leaf_new.proofs.DoneLaws.{any-room, Edited, put-done}
 use Rattle.put_split.specs.Parts.{Forked, PrefixWritten}
 use Rattle.put_split.proofs.ForkLaws.{fork-art, fork-look}
 use Rattle.put_split.proofs.EndLaws.{node4-kind, prefix-look, took-slot}
@@ -39,7 +40,7 @@ use Rattle.put_split.proofs.SplitLaws.{booked-two, from-two}
 use Rattle.put_split.proofs.PartedLaws.{byte-here}
 use Rattle.put_cut.specs.Cut.{BeforeLeft}
 use Rattle.put_cut.proofs.ModelLaws.{madeOf, made-before, put-cut, touch-before, here-left}
-use Rattle.put_cut.proofs.SpotLaws.{tail-gone, counts-of, xs, old, own, w0, root-at, opened, old-sum, cut, word, shares, write-ok}
+use Rattle.put_cut.proofs.SpotLaws.{tail-gone, xs, old, own, w0, root-at, opened, old-sum, cut, word, shares, write-ok}
 use Rattle.put_cut.proofs.StageLaws.{fork-leaves, bare-took, barePlace, bareKnot, bare-work, bare-since}
 
 module _ {f k v : List ℕ} {p : Spot} (N : BeforeLeft f k v p) where

@@ -35,7 +35,8 @@ use Rattle.between.proofs.SinceLaws.{since-take, since-write}
 use Rattle.descent.specs.declared.spot.Spot.{Spot}
 use Rattle.leaf_new.specs.Make.{Counts, Counted, Relinked}
 use Rattle.leaf_new.specs.Put.{PutStep}
-use Rattle.put_replace.proofs.DoneLaws.{any-room, Edited, put-done}
+use Rattle.leaf_new.proofs.LeafLaws.{counts-of}
+use Rattle.leaf_new.proofs.DoneLaws.{any-room, Edited, put-done}
 use Rattle.put_split.specs.Parts.{Forks, Forked, PrefixWritten}
 use Rattle.put_split.proofs.ForkLaws.{forkKids, fork-art, fork-look, fork-work, fork-since}
 use Rattle.put_split.proofs.EndLaws.{node4-kind, prefix-kind, leafy-not, prefix-look, took-slot, end-work, end-since, end-booked}
@@ -44,7 +45,7 @@ use Rattle.put_split.proofs.PartedLaws.{byte-here, begins-here}
 use Rattle.put_split.proofs.OtherLaws.{relink-ok}
 use Rattle.put_cut.specs.Cut.{BothLeft, Shortened}
 use Rattle.put_cut.proofs.ModelLaws.{made-both, put-cut, touch-both, here-left}
-use Rattle.put_cut.proofs.SpotLaws.{takes-of, took-of, counts-of, xs, old, own, w0, root-at, opened, cut, word, shares, tail-is, write-ok, room-three}
+use Rattle.put_cut.proofs.SpotLaws.{takes-of, took-of, xs, old, own, w0, root-at, opened, cut, word, shares, tail-is, write-ok, room-three}
 use Rattle.put_cut.proofs.StageLaws.{forks-of, fork-leaves, holder-own, holder-own-some, shorter, short-work, short-since}
 
 module _ {f k v : List ℕ} {p : Spot} (N : BothLeft f k v p) where

@@ -9,18 +9,14 @@ use lib.Seq.{take-append-seam, drop-append-seam, getD-append-seam}
 use lib.Dec.{eqb}
 use borrow.Author.Tests.{eq-eqb, ne-eqb}
 use Rattle.layout.specs.Kind.{Prefix, Node4}
-use Rattle.model.specs.Strings.{pick, shared}
+use Rattle.model.specs.Strings.{pick, shared, Parted}
 use Rattle.model.specs.Edition.{edition1}
 use Rattle.model.specs.Tree.{Art, Change, asPrefix, fork, newKey, putTree}
 use Rattle.model.specs.Frame.{Lay}
 use Rattle.model.specs.Frame.Lay.{prefix}
 use Rattle.model.specs.Touch.{Touch, touch, holder, touchPut}
-use Rattle.model.proofs.StringLaws.{shared-at, Parted}
-
--- what stays after the byte at which a string parts
-drop-past : (w : List ℕ) (c : ℕ) (t : List ℕ) → drop (suc (length w)) (w ++ c ∷ t) ≡ t
-drop-past [] c t = refl
-drop-past (x ∷ w) c t = drop-past w c t
+use Rattle.model.proofs.StringLaws.{shared-at}
+use Rattle.model.proofs.PutLaws.{drop-past}
 
 pub no-bytes : (l : List ℕ) → length l ≡ 0 → l ≡ []
 no-bytes [] e = refl

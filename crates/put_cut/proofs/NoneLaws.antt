@@ -10,10 +10,10 @@ use Rattle.layout.specs.Entry.{placeOf}
 use Rattle.model.specs.Edition.{edition1}
 use Rattle.model.specs.Tree.{Art, Change, extentOf, fork, newKey, putTree}
 use Rattle.model.specs.State.{State}
-use Rattle.model.specs.Item.{Item, body, leafy}
+use Rattle.model.specs.Item.{Item, body, leafy, Same}
 use Rattle.model.specs.Frame.{Lay, slotOf, art, View, Heap, Stands}
 use Rattle.model.specs.Touch.{Touch, holder}
-use Rattle.model.proofs.ItemLaws.{Same, sum-cons}
+use Rattle.model.proofs.ItemLaws.{sum-cons}
 use Rattle.room.specs.View.{listOf, placeFrom, taken, Roomy, released, rooted, recorded}
 use Rattle.room.specs.Step.{Took, Frees, Freed}
 use Rattle.between.specs.Hole.{plug, pathOf, holderOf, stepsItems}
@@ -31,7 +31,8 @@ use Rattle.between.proofs.OutsideLaws.{slots-later}
 use Rattle.descent.specs.declared.spot.Spot.{Spot}
 use Rattle.leaf_new.specs.Make.{Counts, Counted, Relinked}
 use Rattle.leaf_new.specs.Put.{PutStep}
-use Rattle.put_replace.proofs.DoneLaws.{any-room, Edited, put-done}
+use Rattle.leaf_new.proofs.LeafLaws.{counts-of}
+use Rattle.leaf_new.proofs.DoneLaws.{any-room, Edited, put-done}
 use Rattle.put_split.specs.Parts.{Forked}
 use Rattle.put_split.proofs.ForkLaws.{fork-art, fork-look}
 use Rattle.put_split.proofs.EndLaws.{prefix-kind, node4-kind, leafy-not, took-slot, holders-in, holders-some}
@@ -39,7 +40,7 @@ use Rattle.put_split.proofs.SplitLaws.{booked-two, from-two}
 use Rattle.put_split.proofs.OtherLaws.{relink-ok}
 use Rattle.put_cut.specs.Cut.{NoneLeft}
 use Rattle.put_cut.proofs.ModelLaws.{madeOf, put-cut, touch-none}
-use Rattle.put_cut.proofs.SpotLaws.{front-none, front-gone, front-path, front-byte, tail-gone, counts-of, xs, old, own, w0, root-at, opened, old-sum, cut, word}
+use Rattle.put_cut.proofs.SpotLaws.{front-none, front-gone, front-path, front-byte, tail-gone, xs, old, own, w0, root-at, opened, old-sum, cut, word}
 use Rattle.put_cut.proofs.StageLaws.{fork-leaves, bare-took, barePlace, bareKnot, bare-work, bare-since}
 
 module _ {f k v : List ℕ} {p : Spot} (N : NoneLeft f k v p) where

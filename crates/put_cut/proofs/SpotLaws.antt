@@ -8,7 +8,7 @@ use lib.Seq.{getD-append-seam}
 use Rattle.layout.specs.Number.{byteAt, le}
 use Rattle.layout.specs.Place.{prefixChild, prefixLength, prefixBytes}
 use Rattle.layout.specs.Kind.{Leaf, Prefix, Node4, Kind}
-use Rattle.model.specs.Strings.{shared}
+use Rattle.model.specs.Strings.{shared, Parted}
 use Rattle.model.specs.Edition.{edition1}
 use Rattle.model.specs.Tree.{Art, extentOf, newKey, putTree}
 use Rattle.model.specs.State.{State}
@@ -16,7 +16,7 @@ use Rattle.model.specs.Item.{Item, body, sum}
 use Rattle.model.specs.Body.{PrefixAt}
 use Rattle.model.specs.Frame.{Lay, slotOf, IsNode, art, items, View, Heap, tree, rootItems, Stands}
 use Rattle.model.specs.Frame.Lay.{prefix}
-use Rattle.model.proofs.StringLaws.{shared-whole, Meets, whole, part, ends, meets, Parted}
+use Rattle.model.proofs.StringLaws.{shared-whole, Meets, whole, part, ends, meets}
 use Rattle.model.proofs.WellLaws.{Inside, inside-left, not-inside, prefix-inside}
 use Rattle.model.proofs.Edition1.{key-passes, lawful1}
 use Rattle.model.proofs.StandsGood.{tree-well}
@@ -29,12 +29,11 @@ use Rattle.between.specs.Hole.{Step, plug, pathOf, stepsItems}
 use Rattle.between.specs.Work.{Suits, Work}
 use Rattle.between.proofs.TreeLaws.{prefix-sum}
 use Rattle.between.proofs.HoleLaws.{plug-sum}
-use Rattle.between.proofs.WorkLaws.{standsView, stands-sum, records-few, first-owns, work-of, work-open, forest-first, open-prefix, open-node}
+use Rattle.between.proofs.WorkLaws.{standsView, stands-sum, first-owns, work-of, work-open, forest-first, open-prefix, open-node}
 use Rattle.between.proofs.LeadLaws.{leads-rest}
 use Rattle.between.proofs.BookedLaws.{room-same}
 use Rattle.descent.specs.declared.spot.Spot.{Spot}
-use Rattle.leaf_new.specs.Make.{Counts}
-use Rattle.put_replace.proofs.DoneLaws.{any-root, any-room, change-is, room-is}
+use Rattle.leaf_new.proofs.DoneLaws.{any-root, any-room, change-is, room-is}
 use Rattle.put_split.specs.Parts.{Forked, PrefixWritten}
 use Rattle.put_split.proofs.EndLaws.{tally-two, tally-three}
 use Rattle.put_split.proofs.PartedLaws.{byte-here, part-short, part-is}
@@ -48,11 +47,6 @@ takes-of {h = h} k ks x K H R = record { view = h; heap = H; kind = K; room = ro
 
 pub took-of : {f g : List ℕ} {h : View} {k m : ℕ} (ks : List ℕ) (x : ℕ) → Kind k → ((h : View) → Heap f h → Roomy h k → Took f g h k m) → Heap f h → RoomFor h (k ∷ ks) x → Took f g h k m
 took-of {h = h} {k = k} ks x K T H R = T h H (room-first h k ks x K (H .lists .eight) R)
-
--- ---- what a count asks
-
-pub counts-of : {f0 f : List ℕ} {st : State} {h : View} (w : Stands edition1 f0 st) → Heap f h → h .nums .R ≡ w .nums .R → Counts f
-counts-of {h = h} w H e = record { view = h; heap = H; few = omega (arith, records-few w) }
 
 -- ---- the slot of a node
 

@@ -2,13 +2,12 @@
 use Prim.Native.Nat.{ℕ, _+_, _-_, _*_, _/_, _%_, _<_, _≤_}
 use mathlib.Core.Path.{_≡_, refl, sym, ap, subst, _∙_}
 use mathlib.Core.List.{List, [], _∷_, _++_}
-use mathlib.Core.Bool.{true, false}
-use mathlib.Core.Option.{some}
+use mathlib.Core.Bool.{false}
 use native.Mathlib.Omega.{arith}
 use native.Mathlib.Decide.{decLt}
 use lib.ListN.{length, getD, length-append, List·getD-append}
 use lib.Seq.{getD-append-add}
-use lib.Dec.{ltb, eqb}
+use lib.Dec.{eqb}
 use borrow.Author.Tests.{eq-eqb, ne-eqb}
 use Rattle.layout.specs.Number.{byteAt, le, Bytes}
 use Rattle.layout.proofs.NumberLaws.{le-lt}
@@ -16,27 +15,26 @@ use Rattle.fields.specs.Body.{putLeafBody}
 use Rattle.layout.specs.Place.{leafExtent, leafKey, leafValue, leafZero}
 use Rattle.layout.specs.Kind.{Leaf}
 use Rattle.model.specs.Edition.{edition1}
-use Rattle.model.specs.Tree.{Art, Change, over, up8, extentOf, putTree}
-use Rattle.model.specs.State.{State, putChange, room}
-use Rattle.model.specs.Item.{Item, body, extent, cover, leafy, sum}
-use Rattle.model.specs.Frame.{Lay, slotOf, art, LeafOf, View, Heap, Root, tree, rootItems, Stands}
+use Rattle.model.specs.Tree.{Art, Change, up8, extentOf, putTree}
+use Rattle.model.specs.State.{State, room}
+use Rattle.model.specs.Item.{Item, body, extent, cover, leafy, sum, Same}
+use Rattle.model.specs.Item as item
+use Rattle.model.specs.Frame.{Lay, slotOf, LeafOf, View, Heap, tree, Stands}
 use Rattle.model.specs.Frame.Lay.{leaf}
 use Rattle.model.specs.Touch.{Touch, touch, touchPut}
 use Rattle.model.proofs.StringLaws.{same-refl}
-use Rattle.model.proofs.ItemLaws.{Same, sum-app, sum-cons}
-use Rattle.model.proofs.ItemLaws as item
+use Rattle.model.proofs.ItemLaws.{sum-app, sum-cons}
 use Rattle.node.specs.Moved.{Keeps}
 use Rattle.node.proofs.MoveLaws.{le-keeps}
 use Rattle.room.specs.View.{extended, retired}
 use Rattle.room.specs.Step.{Pasted, Extends, Extended, Retires, Renumbered}
-use Rattle.room.specs.Book.{takenAll, RoomFor, Kinds}
+use Rattle.room.specs.Book.{takenAll, Kinds}
 use Rattle.room.proofs.HeapLaws.{touch-extent, cover-body, cover-extent, lies, Lies}
 use Rattle.room.proofs.BookLaws.{room-last}
 use Rattle.descent.specs.declared.spot.Spot.{Spot}
-use Rattle.between.specs.Hole.{Step, plug, pathOf, stepsItems, holderOf, artIn}
+use Rattle.between.specs.Hole.{Step, plug, pathOf, stepsItems, holderOf}
 use Rattle.between.specs.Work.{Suits, forestItems, Work}
-use Rattle.between.specs.Lead.{Leads}
-use Rattle.between.specs.Since.{written, Since, Accounts}
+use Rattle.between.specs.Since.{written, Accounts}
 use Rattle.between.specs.Edit.{LeafWritten, Booked}
 use Rattle.between.proofs.TreeLaws.{sum-none, leaf-sum, body-kept}
 use Rattle.between.proofs.HoleLaws.{suits-any, plug-sum}
@@ -48,8 +46,8 @@ use Rattle.between.proofs.SinceLaws.{stepped-start, since-start, since-also, si
 use Rattle.between.proofs.OutsideLaws.{among-here}
 use Rattle.between.proofs.BookedLaws.{booked-row, booked-extend, booked-retire}
 use Rattle.leaf_new.specs.Put.{PutStep}
+use Rattle.leaf_new.proofs.DoneLaws.{any-root, any-room, Edited, change-is, room-is, put-done}
 use Rattle.put_replace.specs.Put.{Present}
-use Rattle.put_replace.proofs.DoneLaws.{any-root, any-room, Edited, change-is, room-is, put-done}
 
 -- ---- key, then value
 
@@ -94,9 +92,6 @@ module _ {f : List ℕ} {s : State} (w : Stands edition1 f s) (xs : List Step) (
 
   pub leaf-room : o + 16 ≤ length f
   leaf-room = omega (arith, leaf-lies .ends, w .heap .header .size)
-
-  pub old-room : e + (length k + length v') ≤ length f
-  old-room = loose .1 .at .room
 
   close : {g : List ℕ} {h : View} (e' : ℕ) (v : List ℕ) → Work edition1 g h xs n ((pathOf xs, leaf n o e' k v) ∷ []) [] → Work edition1 g h [] (slotOf (plug xs (leaf n o e' k v))) (([], plug xs (leaf n o e' k v)) ∷ []) []
   close e' v W = work-close xs (leaf n o e' k v) [] W refl (suits-any xs (leaf n o e k v') (leaf n o e' k v) (λ z. z) (opened .1))

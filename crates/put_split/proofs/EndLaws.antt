@@ -1,10 +1,10 @@
 -- The end of every split: the link to the hole names the new tree, and R grows. What a Prefix adds. Assumes nothing.
-use Prim.Native.Nat.{ℕ, suc, _+_, _-_, _<_, _≤_}
-use mathlib.Core.Path.{_≡_, refl, sym, ap, _∙_}
+use Prim.Native.Nat.{ℕ, suc, _+_, _<_, _≤_}
+use mathlib.Core.Path.{_≡_, refl, ap, _∙_}
 use mathlib.Core.List.{List, [], _∷_, _++_, append-nil}
 use mathlib.Core.Bool.{Bool, true, false}
 use native.Mathlib.Omega.{arith}
-use lib.ListN.{length, getD, drop}
+use lib.ListN.{length, drop}
 use lib.Dec.{eqb}
 use borrow.Author.Tests.{eq-eqb, ne-eqb}
 use Rattle.layout.specs.Kind.{Leaf, Prefix, Node4, Kind}
@@ -13,14 +13,14 @@ use Rattle.model.specs.Edition.{edition1}
 use Rattle.model.specs.Tree.{Art, asPrefix, prefixIf}
 use Rattle.model.specs.State.{State, tally}
 use Rattle.model.specs.Item.{Item, body, leafy, sum}
-use Rattle.model.specs.Frame.{Lay, slotOf, items, View, Heap, Root, tree, rootItems, Stands}
+use Rattle.model.specs.Frame.{Lay, slotOf, View, tree, rootItems, Stands}
 use Rattle.model.specs.Frame.Lay.{prefix}
-use Rattle.model.specs.Touch.{Touch, touch, holder, findLay}
+use Rattle.model.specs.Touch.{holder, findLay}
 use Rattle.model.proofs.StringLaws.{shared-whole}
-use Rattle.model.proofs.ItemLaws.{in-over, sum-app}
-use Rattle.room.specs.View.{taken, recorded, rooted}
+use Rattle.model.proofs.ItemLaws.{in-over}
+use Rattle.room.specs.View.{recorded, rooted}
 use Rattle.room.specs.Step.{Took}
-use Rattle.room.proofs.HeapLaws.{took-lies, Lies}
+use Rattle.room.proofs.HeapLaws.{took-lies}
 use Rattle.between.specs.Hole.{Step, plug, pathOf, holderOf, Link}
 use Rattle.between.specs.Work.{Suits, rootOf, Work}
 use Rattle.between.specs.Since.{Since, SlotsIn, holderItems}

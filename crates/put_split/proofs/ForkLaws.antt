@@ -1,38 +1,31 @@
 -- Where two strings part: a Node4 with a new Leaf and another tree, and what stays of a path. Assumes nothing.
-use Prim.Native.Nat.{ℕ, _+_, _-_, _*_, _<_, _≤_}
-use mathlib.Core.Path.{_≡_, refl, sym, ap, _∙_}
-use mathlib.Core.List.{List, [], _∷_, _++_, append-assoc}
-use mathlib.Core.Bool.{Bool, true, false}
-use mathlib.Core.Option.{some}
+use Prim.Native.Nat.{ℕ, _+_, _≤_}
+use mathlib.Core.Path.{_≡_, refl, ap}
+use mathlib.Core.List.{List, [], _∷_, _++_}
 use native.Mathlib.Omega.{arith}
-use lib.ListN.{length, getD, take, drop, length-append}
-use lib.Seq.{take-append-seam, drop-append-seam, getD-append-seam, take-append-le}
-use lib.Dec.{eqb, ltb}
-use borrow.Author.Tests.{eq-eqb, ne-eqb}
-use Rattle.layout.specs.Kind.{Leaf, Node4, bodySize}
-use Rattle.layout.specs.Entry.{placeOf}
-use Rattle.model.specs.Strings.{pick}
+use lib.ListN.{getD}
+use lib.Dec.{eqb}
+use borrow.Author.Tests.{ne-eqb}
+use Rattle.layout.specs.Kind.{Leaf, Node4}
 use Rattle.model.specs.Edition.{edition1}
-use Rattle.model.specs.Tree.{Art, Kids, extentOf, fork}
-use Rattle.model.specs.Item.{Item, body, extent, cover, leafy, sum}
-use Rattle.model.specs.Body.{InnerAt}
-use Rattle.model.specs.Frame.{Lay, LayKids, slotOf, art, items, LeafOf, View, Heap, Tree, Begins}
+use Rattle.model.specs.Tree.{Art, extentOf, fork}
+use Rattle.model.specs.Item.{Item, body, extent, cover, sum}
+use Rattle.model.specs.Frame.{Lay, LayKids, slotOf, art, items, LeafOf, View, Begins}
 use Rattle.model.specs.Frame.Lay.{leaf, node}
 use Rattle.model.specs.Frame.LayKids.{nil, kid}
-use Rattle.model.specs.Touch.{findLay, hasByte}
+use Rattle.model.specs.Touch.{findLay}
 use Rattle.model.proofs.ItemLaws.{sum-cons}
-use Rattle.node.specs.Moved.{Only}
 use Rattle.room.specs.View.{listOf, placeFrom, taken}
 use Rattle.room.proofs.HeapLaws.{cover-body}
 use Rattle.between.specs.Hole.{joinLay, Step}
-use Rattle.between.specs.Work.{Forest, kidTrees, Work}
+use Rattle.between.specs.Work.{Work}
 use Rattle.between.specs.Since.{Since}
 use Rattle.between.specs.Edit.{leafView, leafIn, MadeLeaf}
-use Rattle.between.proofs.TreeLaws.{sum-none, leaf-sum, node-sum, kid-sum, nil-sum, leaf-parts, as-leaf, as-kid, as-nil}
+use Rattle.between.proofs.TreeLaws.{node-sum, kid-sum, nil-sum, leaf-parts, as-leaf, as-kid, as-nil}
 use Rattle.between.proofs.KidsLaws.{join-sum, join-trees, join-art}
 use Rattle.between.proofs.WorkLaws.{forest-first, forest-more, forest-sum, entries-first, work-as, work-write, make-node, work-kids}
 use Rattle.between.proofs.EditLaws.{fork-node}
-use Rattle.between.proofs.LeadLaws.{join-look, leaf-look}
+use Rattle.between.proofs.LeadLaws.{join-look}
 use Rattle.between.proofs.SinceLaws.{since-leaf, since-write}
 use Rattle.leaf_new.specs.Make.{LeafRoom}
 use Rattle.put_split.specs.Parts.{ForkWritten, Forked}

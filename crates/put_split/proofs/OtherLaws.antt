@@ -9,7 +9,7 @@ use Rattle.layout.specs.Number.{Bytes}
 use Rattle.layout.specs.Place.{entryAt}
 use Rattle.layout.specs.Kind.{Leaf, Prefix, Node4}
 use Rattle.layout.specs.Entry.{placeOf}
-use Rattle.model.specs.Strings.{Byte, shared}
+use Rattle.model.specs.Strings.{Parted, Byte, shared}
 use Rattle.model.specs.Edition.{edition1, Legal}
 use Rattle.model.specs.Tree.{Art, extentOf, fork, newKey}
 use Rattle.model.specs.State.{State}
@@ -17,7 +17,7 @@ use Rattle.model.specs.Item.{Item}
 use Rattle.model.specs.Body.{LeafAt}
 use Rattle.model.specs.Frame.{Lay, LeafOf, View, Heap, tree, Stands}
 use Rattle.model.specs.Frame.Lay.{leaf}
-use Rattle.model.proofs.StringLaws.{Parted, all-left}
+use Rattle.model.proofs.StringLaws.{all-left}
 use Rattle.model.proofs.Edition1.{key-passes, lawful1}
 use Rattle.model.proofs.WellLaws.{parted-from}
 use Rattle.model.proofs.StandsGood.{bytes-text}
@@ -31,12 +31,13 @@ use Rattle.between.specs.Work.{Work}
 use Rattle.between.specs.Edit.{leafView}
 use Rattle.between.proofs.TreeLaws.{begins-word}
 use Rattle.between.proofs.LinkLaws.{link-room, relinked}
-use Rattle.between.proofs.WorkLaws.{standsView, records-few, first-owns}
+use Rattle.between.proofs.WorkLaws.{standsView, first-owns}
 use Rattle.between.proofs.BookedLaws.{room-same}
 use Rattle.descent.specs.declared.spot.Spot.{Spot}
 use Rattle.leaf_new.specs.Make.{Counts, Counted, Relinked}
 use Rattle.leaf_new.specs.Put.{PutStep}
-use Rattle.put_replace.proofs.DoneLaws.{any-root, any-room, change-is, room-is, put-done}
+use Rattle.leaf_new.proofs.LeafLaws.{counts-of}
+use Rattle.leaf_new.proofs.DoneLaws.{any-root, any-room, change-is, room-is, put-done}
 use Rattle.put_replace.proofs.ReplaceLaws as replace
 use Rattle.put_split.specs.Parts.{LeafHere, Forks, Forked, PrefixWritten}
 use Rattle.put_split.specs.Split.{AtOther, Beside}
@@ -53,7 +54,7 @@ relink-ok {f} {xs = xs} {s = s} at L W =
 
 pub count-ok : {f0 f f' : List ℕ} {st : State} {h : View} {xs : List Step} {s : ℕ} {ts : List (List ℕ × Lay)} {loose : List Item} {at m : ℕ} (w : Stands edition1 f0 st) → Link xs at → Work edition1 f h xs s ts loose
     → (1 ≤ m) × (m < 65536) → Relinked f f' at m → h .nums .R ≡ w .nums .R → Counts f'
-count-ok {xs = xs} {at = at} {m = m} w L W fits R e = let W' = relinked m (fits .0) (fits .1) at xs L W R in record { view = _; heap = W' .heap; few = omega (arith, records-few w) }
+count-ok {xs = xs} {at = at} {m = m} w L W fits R e = counts-of w (relinked m (fits .0) (fits .1) at xs L W R .heap) e
 
 module _ {f k v : List ℕ} {p : Spot} (A : AtOther f k v p) where
   abbrev xs : List Step

@@ -1,21 +1,19 @@
 -- The bodies that a split writes: a Prefix, a Node4 of two children, and the Node4 with a new Leaf. Assumes nothing.
-use Prim.Native.Nat.{ℕ, _+_, _-_, _*_, _<_, _≤_}
+use Prim.Native.Nat.{ℕ, _+_, _<_, _≤_}
 use mathlib.Core.Path.{_≡_, refl, sym, ap, _∙_}
-use mathlib.Core.List.{List, [], _∷_, _++_}
+use mathlib.Core.List.{List, [], _∷_}
 use mathlib.Core.Option.{none}
 use native.Mathlib.Omega.{arith}
 use lib.ListN.{length, getD, length-append, List·getD-append}
 use borrow.Author.Tests.{ne-eqb}
 use Rattle.layout.specs.Number.{byteAt, le, put}
-use Rattle.layout.specs.Place.{entryAt, leafExtent, leafKey, prefixChild, prefixLength, prefixZero, prefixBytes, prefixMost}
+use Rattle.layout.specs.Place.{entryAt, leafExtent, leafKey, prefixChild, prefixLength, prefixZero, prefixBytes}
 use Rattle.layout.specs.Kind.{Leaf, Node4, most}
 use Rattle.layout.specs.Entry.{placeOf}
 use Rattle.layout.proofs.NumberLaws.{le-put}
 use Rattle.model.specs.Edition.{edition1}
-use Rattle.model.specs.Tree.{extentOf}
-use Rattle.model.specs.Item.{Item, body, extent}
-use Rattle.model.specs.Body.{PrefixAt, InnerAt, LeafAt, lookKid}
-use Rattle.model.specs.Frame.{Lay, View, Heap}
+use Rattle.model.specs.Item.{body}
+use Rattle.model.specs.Body.{InnerAt, LeafAt, lookKid}
 use Rattle.model.proofs.Edition1.{key-passes}
 use Rattle.model.proofs.UniqueLaws.{look-nil}
 use Rattle.node.specs.Kids.{insertKid}
@@ -27,12 +25,10 @@ use Rattle.room.specs.Step.{Pasted}
 use Rattle.node.proofs.MoveLaws.{only-put, only-then}
 use Rattle.room.proofs.HeapLaws.{le-below, lies, Lies}
 use Rattle.descent.proofs.KeyLaws.{walked-in, walked-out}
-use Rattle.between.specs.Hole.{Step, stepsItems}
-use Rattle.between.specs.Work.{forestItems, Work}
-use Rattle.between.specs.Edit.{leafView, leafIn, MadeLeaf}
+use Rattle.between.specs.Edit.{leafView, MadeLeaf}
 use Rattle.between.proofs.WorkLaws.{entries-first, first-owns, open-leaf}
 use Rattle.leaf_new.specs.Make.{Makes, NewLeaf}
-use Rattle.put_split.specs.Parts.{PrefixWritten, ForkWritten, LeafHere, Forks, Forked}
+use Rattle.put_split.specs.Parts.{PrefixWritten, ForkWritten, Forks, Forked}
 
 -- ---- a Prefix
 
@@ -98,9 +94,6 @@ byte-in {f} {o} {d} {n} {e} en ee l e' k v L =
 
 pub byte-out : {f : List ℕ} {o d n : ℕ} → n ≡ le 2 f (o + leafKey) → n ≤ d → (e' : ℕ) (k v : List ℕ) → LeafAt f o e' k v → 0 ≡ getD (edition1 .walked k) d 0
 byte-out {d = d} en l e' k v L = walked-out k d (omega (arith, L .keyLength))
-
-pub byte-ok : {f : List ℕ} {o d n e : ℕ} → LeafHere f o → n ≡ le 2 f (o + leafKey) → e ≡ le 4 f (o + leafExtent) → d < n → e + d < length f
-byte-ok H en ee l = let L = H .at in omega (arith, L .keyLength, L .extent, L .room)
 
 -- ---- the Node4 with a new Leaf
 

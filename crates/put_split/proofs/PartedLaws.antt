@@ -8,13 +8,13 @@ use native.Mathlib.Omega.{arith}
 use lib.ListN.{length, getD, take, drop, length-append, List·getD-append}
 use lib.Seq.{take-append-seam, drop-append-seam, getD-append-seam, getD-append-add}
 use Rattle.layout.specs.Kind.{Node4}
-use Rattle.model.specs.Strings.{same, shared}
+use Rattle.model.specs.Strings.{same, shared, Parted}
 use Rattle.model.specs.Edition.{edition1}
 use Rattle.model.specs.Tree.{Art, Change, asPrefix, fork, newKey, prefixIf, putTree}
 use Rattle.model.specs.Frame.{Begins}
 use Rattle.model.specs.Frame.Lay.{leaf}
 use Rattle.model.specs.Touch.{touch, holder, touchPut}
-use Rattle.model.proofs.StringLaws.{bool-cases, shared-at, Parted, same-true}
+use Rattle.model.proofs.StringLaws.{bool-cases, shared-at, same-true}
 use Rattle.model.proofs.Edition1.{key-passes, before-byte}
 use Rattle.descent.proofs.KeyLaws.{walked-in}
 use Rattle.descent.proofs.SeatLaws.{text-part}

@@ -1,34 +1,31 @@
 -- "a Leaf with another key, q walked bytes shared from there: a Node4, and a Prefix if q > 0": from what the calls leave to the model's put.
 -- Assumes nothing.
-use Prim.Native.Nat.{ℕ, _+_, _-_, _<_, _≤_}
+use Prim.Native.Nat.{ℕ, _+_, _≤_}
 use mathlib.Core.Path.{_≡_, refl, sym, ap, subst, _∙_}
 use mathlib.Core.List.{List, [], _∷_, _++_, append-nil}
-use mathlib.Core.Bool.{true, false}
 use mathlib.Core.Option.{some}
 use native.Mathlib.Omega.{arith}
 use lib.ListN.{length, getD, drop}
 use lib.Seq.{drop-append-seam}
-use lib.Dec.{ltb}
 use Rattle.layout.specs.Number.{Bytes}
 use Rattle.layout.specs.Kind.{Leaf, Prefix, Node4}
 use Rattle.layout.specs.Entry.{placeOf}
 use Rattle.model.specs.Edition.{edition1}
-use Rattle.model.specs.Tree.{Art, Change, extentOf, asPrefix, fork, newKey, prefixIf, putTree}
+use Rattle.model.specs.Tree.{Art, extentOf, asPrefix, fork, newKey, prefixIf, putTree}
 use Rattle.model.specs.State.{State}
-use Rattle.model.specs.Item.{Item, body, extent, cover, leafy, sum}
-use Rattle.model.specs.Frame.{Lay, slotOf, art, items, View, Heap, tree, Stands, Begins}
+use Rattle.model.specs.Item.{Item, body, cover, leafy, sum}
+use Rattle.model.specs.Frame.{Lay, slotOf, art, View, Stands, Begins}
 use Rattle.model.specs.Frame.Lay.{leaf, prefix, node}
 use Rattle.model.specs.Touch.{Touch, touch, holder, touchPut}
-use Rattle.model.proofs.StringLaws.{Parted}
 use Rattle.model.proofs.ItemLaws.{sum-cons}
 use Rattle.room.specs.View.{listOf, placeFrom, taken}
 use Rattle.room.specs.Step.{Took}
 use Rattle.room.specs.Book.{takenAll, RoomFor, Kinds}
 use Rattle.room.proofs.HeapLaws.{cover-body}
 use Rattle.room.proofs.BookLaws.{room-next}
-use Rattle.between.specs.Hole.{Step, plug, pathOf, holderOf, Link}
+use Rattle.between.specs.Hole.{Step, plug, pathOf, holderOf}
 use Rattle.between.specs.Work.{Work}
-use Rattle.between.specs.Since.{Since, Accounts, holderItems}
+use Rattle.between.specs.Since.{Accounts, holderItems}
 use Rattle.between.specs.Edit.{Booked, leafView, leafIn}
 use Rattle.between.proofs.TreeLaws.{sum-none, prefix-sum}
 use Rattle.between.proofs.HoleLaws.{is-node, suits-any}
@@ -37,12 +34,12 @@ use Rattle.between.proofs.WorkLaws.{standsView, work-of, work-open, work-take, 
 use Rattle.between.proofs.SinceLaws.{since-start, since-take, since-write}
 use Rattle.between.proofs.BookedLaws.{booked-row, booked-as, booked-extend}
 use Rattle.leaf_new.specs.Make.{Counted, Relinked}
-use Rattle.put_replace.proofs.DoneLaws.{Edited}
+use Rattle.leaf_new.proofs.DoneLaws.{Edited}
 use Rattle.put_split.specs.Parts.{PrefixWritten, Forked}
 use Rattle.put_split.specs.Split.{Beside}
-use Rattle.put_split.proofs.PartedLaws.{shared-is, byte-here, begins-here, begins-there, put-leaf, touch-leaf}
+use Rattle.put_split.proofs.PartedLaws.{byte-here, begins-here, begins-there, put-leaf, touch-leaf}
 use Rattle.put_split.proofs.ForkLaws.{work-under, forkKids, fork-sum, fork-art, fork-look, fork-work, fork-since}
-use Rattle.put_split.proofs.EndLaws.{node4-kind, prefix-kind, leaf-kind, leafy-not, tally-two, tally-three, as-prefix-some, prefix-if-some, prefix-look, took-slot, endView, end-work, end-since, end-booked, holders-in, holders-some}
+use Rattle.put_split.proofs.EndLaws.{node4-kind, prefix-kind, leaf-kind, leafy-not, tally-two, tally-three, as-prefix-some, prefix-if-some, prefix-look, took-slot, end-work, end-since, end-booked, holders-in, holders-some}
 
 -- the kinds of what is taken, in the order of the takes
 pub two-kinds : Kinds (Node4 ∷ Leaf ∷ [])

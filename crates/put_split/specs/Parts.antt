@@ -1,8 +1,8 @@
 -- The bodies that a split writes: a Prefix, a Node4 of two children, and that Node4 with a new Leaf as one of the two.
-use Prim.Native.Nat.{ℕ, _+_, _<_, _≤_}
+use Prim.Native.Nat.{ℕ, _+_, _≤_}
 use mathlib.Core.Path.{_≡_}
 use mathlib.Core.List.{List, [], _∷_}
-use lib.ListN.{length, getD}
+use lib.ListN.{length}
 use Rattle.layout.specs.Kind.{Node4}
 use Rattle.layout.specs.Entry.{placeOf}
 use Rattle.model.specs.Edition.{edition1}

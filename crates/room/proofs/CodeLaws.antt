@@ -13,9 +13,9 @@ use Rattle.layout.specs.Entry.{entryOf, placeOf, highOf}
 use Rattle.layout.proofs.NumberLaws.{le-put}
 use Rattle.layout.proofs.EntryLaws.{entry-own, place-lt}
 use Rattle.model.specs.Tree.{up8}
-use Rattle.model.specs.Item.{Item, body, extent, bulk}
+use Rattle.model.specs.Item.{Item, body, extent, bulk, Same}
 use Rattle.model.specs.Frame.{View, Chain, Heap, freed}
-use Rattle.model.proofs.ItemLaws.{Same, sum-app, sum-cons}
+use Rattle.model.proofs.ItemLaws.{sum-app, sum-cons}
 use Rattle.node.specs.Moved.{Only}
 use Rattle.room.specs.View.{listOf, popped, given, takenFrom, slotFrom, placeFrom, taken, Roomy, retired, recorded, rooted}
 use Rattle.room.specs.Step.{But, Takes, Took, Frees, Freed, Pasted, Extended, Retires, Renumbered}

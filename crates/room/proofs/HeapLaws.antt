@@ -14,9 +14,9 @@ use Rattle.layout.specs.Entry.{entryOf, entryPlace, entryHigh, highOf}
 use Rattle.layout.proofs.NumberLaws.{le-same}
 use Rattle.layout.proofs.KindLaws.{size-least}
 use Rattle.layout.proofs.EntryLaws.{high-of-entry, place-of-entry}
-use Rattle.model.specs.Item.{Item, body, extent, onSlot, cover, onEntry, sum, Sound}
+use Rattle.model.specs.Item.{Item, body, extent, onSlot, cover, onEntry, touch, sum, Same, Sound}
 use Rattle.model.specs.Frame.{Numbers, View, Entry, Chain, listItems, freed, Header, Lists, Heap}
-use Rattle.model.proofs.ItemLaws.{Same, touch, in-yes, in-where, sum-app, sum-cons, sound-same, entry-none, touch-few, touch-head}
+use Rattle.model.proofs.ItemLaws.{in-yes, in-where, sum-app, sum-cons, sound-same, entry-none, touch-few, touch-head}
 use Rattle.node.specs.Moved.{Only}
 use Rattle.room.specs.View.{renumbered, holding, listOf, slotFrom, placeFrom, takenFrom, taken}
 use Rattle.room.specs.Step.{But, Kept, Took}

@@ -13,9 +13,9 @@ use Rattle.layout.specs.Kind.{bodySize, Kind}
 use Rattle.layout.specs.Entry.{entryOf, entryPlace, entryHigh, placeOf, highOf}
 use Rattle.layout.proofs.KindLaws.{size-eighth, size-least}
 use Rattle.layout.proofs.EntryLaws.{high-of-entry, place-of-entry, place-lt, place-eighth}
-use Rattle.model.specs.Item.{Item, body, extent, onEntry, sum, Sound}
+use Rattle.model.specs.Item.{Item, body, extent, onEntry, touch, sum, Same, Sound}
 use Rattle.model.specs.Frame.{View, Entry, Chain, listItems, freed, Lists, all, Heap}
-use Rattle.model.proofs.ItemLaws.{Same, touch, sum-app, sum-cons, sound-same, sound-fresh, sound-extent, sound-retire, touch-is, touch-head}
+use Rattle.model.proofs.ItemLaws.{sum-app, sum-cons, sound-same, sound-fresh, sound-extent, sound-retire, touch-is, touch-head}
 use Rattle.node.specs.Moved.{Only}
 use Rattle.room.specs.View.{listOf, popped, given, released, extended, retired, recorded, rooted}
 use Rattle.room.specs.Step.{But, Kept, Freed, Renumbered}

@@ -8,9 +8,8 @@ use Rattle.layout.specs.Number.{byteAt}
 use Rattle.layout.specs.Place.{atB, atSpare, entryAt}
 use Rattle.layout.specs.Kind.{Kind}
 use Rattle.model.specs.Tree.{up8}
-use Rattle.model.specs.Item.{Item, body, extent, sum}
+use Rattle.model.specs.Item.{Item, body, extent, touch, sum, Same}
 use Rattle.model.specs.Frame.{View, Heap, Entry}
-use Rattle.model.proofs.ItemLaws.{Same, touch}
 use Rattle.node.specs.Moved.{Only}
 use Rattle.room.specs.View.{listOf, slotFrom, placeFrom, taken, Roomy, released, extended}
 

@@ -13,9 +13,8 @@ ghost use Rattle.layout.specs.Place.{atB, atU, atHead, entryAt};
 ghost use Rattle.layout.specs.Kind.{bodySize};
 ghost use Rattle.layout.specs.Entry.{entryOf, placeOf, highOf};
 ghost use Rattle.model.specs.Tree.{up8};
-ghost use Rattle.model.specs.Item.{Item, body, extent};
+ghost use Rattle.model.specs.Item.{Item, body, extent, Same};
 ghost use Rattle.model.specs.Frame.{View, Heap};
-ghost use Rattle.model.proofs.ItemLaws.{Same};
 ghost use Rattle.room.specs.View.{Roomy, retired, recorded, rooted};
 ghost use Rattle.room.specs.Step.{Takes, Took, Frees, Freed, Extends, Extended, Retires, Renumbered};
 

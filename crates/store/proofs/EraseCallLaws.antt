@@ -4,14 +4,13 @@ use mathlib.Core.Path.{_≡_, refl, sym, ap, subst, _∙_}
 use mathlib.Core.List.{List}
 use mathlib.Core.Bool.{false}
 use native.Mathlib.Omega.{arith}
-use lib.ListN.{getD}
 use Rattle.layout.specs.Number.{Bytes}
 use Rattle.fields.specs.declared.header.Header.{Header}
 use Rattle.model.specs.Edition.{edition1}
 use Rattle.model.specs.State.{State, Done, done, unless, callErase, onErase}
 use Rattle.model.specs.Frame.{Good}
 use Rattle.model.specs.Promise.{changes, CheckPromise, ErasePromise}
-use Rattle.model.proofs.StandsGood.{bytes-text}
+use Rattle.model.proofs.TextLaws.{bytes-all}
 use Rattle.audit.specs.Audit.{AuditTold}
 use Rattle.room.specs.declared.fit.Room.{Room}
 use Rattle.erase_core.specs.Core.{Left, Roomed, EraseMade}
@@ -89,7 +88,7 @@ module _ (f k : List ℕ) {n m : ℕ} (is : n ≡ m) {free : List ℕ} {h : Head
             record {
               st = stands .0;
               stands = stands .1;
-              legal = record { passes = sym fault ∙ legal; bytes = bytes-text k 0 k bk (λ i l. ap (λ j. getD k j 0) (omega arith)) };
+              legal = record { passes = sym fault ∙ legal; bytes = bytes-all k bk };
               room = R .of (stands .0) (stands .1 .root) (T .room (stands .0) (stands .1));
             }
 

@@ -1,5 +1,5 @@
 -- Look-up's ends: refused by the check or the key, found, absent. Assumes nothing.
-use Prim.Native.Nat.{ℕ, _+_, _≤_}
+use Prim.Native.Nat.{ℕ}
 use mathlib.Core.Path.{_≡_, refl, ap, sym, _∙_}
 use mathlib.Core.List.{List, []}
 use mathlib.Core.Bool.{Bool, true, false}
@@ -9,13 +9,12 @@ use native.Mathlib.Omega.{arith}
 use lib.ListN.{length, take, drop}
 use lib.Dec.{eqb, ltb}
 use borrow.Author.Tests.{eq-eqb, ne-eqb}
-use Rattle.layout.specs.Number.{le}
 use Rattle.model.specs.Strings.{pick, hasZero}
 use Rattle.model.specs.Edition.{edition1}
 use Rattle.model.specs.State.{State, findIn}
 use Rattle.model.specs.Frame.{Root, Stands, Good}
 use Rattle.model.specs.Touch.{Part, findAt}
-use Rattle.model.specs.Promise.{Told, CheckPromise, LookUpPromise, Found, notFound, foundOf, onLookUp}
+use Rattle.model.specs.Promise.{Told, CheckPromise, LookUpPromise, notFound, foundOf}
 use Rattle.descent.specs.declared.lookup.Held.{Held}
 use Rattle.descent.specs.Lookup.{partOf, valueIn, orEmpty, Looked}
 use Rattle.descent.proofs.LookLaws.{value-stands}

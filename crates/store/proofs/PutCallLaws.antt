@@ -4,15 +4,15 @@ use mathlib.Core.Path.{_≡_, refl, sym, ap, subst, _∙_}
 use mathlib.Core.List.{List}
 use mathlib.Core.Bool.{false}
 use native.Mathlib.Omega.{arith}
-use lib.ListN.{length, getD}
+use lib.ListN.{length}
 use borrow.Author.Tests.{lt-ltb, le-ltb}
 use Rattle.layout.specs.Number.{Bytes}
-use Rattle.model.specs.Strings.{pick, All, Byte}
+use Rattle.model.specs.Strings.{pick}
 use Rattle.model.specs.Edition.{edition1, valueFault}
 use Rattle.model.specs.State.{State, Done, done, unless, callPut, onPut}
 use Rattle.model.specs.Frame.{Good}
 use Rattle.model.specs.Promise.{changes, CheckPromise, PutPromise}
-use Rattle.model.proofs.StandsGood.{bytes-text}
+use Rattle.model.proofs.TextLaws.{bytes-all}
 use Rattle.fields.specs.declared.header.Header.{Header}
 use Rattle.audit.specs.Audit.{AuditTold}
 use Rattle.room.specs.declared.fit.Room.{Room}
@@ -21,10 +21,6 @@ use Rattle.put_core.proofs.CoreLaws.{left-same}
 use Rattle.store.specs.Left.{Within, RoomLeft}
 use Rattle.store.proofs.LookLaws.{told-good, check-two, key-four, standing}
 use Rattle.store.proofs.LeftLaws.{within}
-
--- the bytes of a slice
-all-bytes : (p : List ℕ) → Bytes p → All Byte p
-all-bytes p B = bytes-text p 0 p B (λ i h. ap (λ j. getD p j 0) (omega arith))
 
 module _ (f k v : List ℕ) where
   -- the check refuses
@@ -87,8 +83,8 @@ module _ (f k v : List ℕ) {n m : ℕ} (is : n ≡ m) {free : List ℕ} {h : He
               record {
                 st = stands .0;
                 stands = stands .1;
-                legal = record { passes = sym fault ∙ legal; bytes = all-bytes k bk };
-                legalValue = record { passes = short; bytes = all-bytes v bv };
+                legal = record { passes = sym fault ∙ legal; bytes = bytes-all k bk };
+                legalValue = record { passes = short; bytes = bytes-all v bv };
                 room = R .of (stands .0) (stands .1 .root) (T .room (stands .0) (stands .1));
               }
 

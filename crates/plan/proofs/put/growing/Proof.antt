@@ -1,5 +1,5 @@
 -- `growing` needs the next kind where the node is full. Assumes nothing.
-use mathlib.Core.List.{[], _∷_}
+use mathlib.Core.List.{[]}
 use native.Mathlib.Omega.{arith}
 use Rattle.room.proofs.FitLaws.{asks-small}
 use Rattle.plan.proofs.PutLaws.{up-kind, grow-stays, grow-up}
