@@ -60,9 +60,6 @@ module _ {E : Edition} {k : List ℕ} {xs : List Step} where
   pub leads-byte : {b : ℕ} {r : List ℕ} → Leads E k xs (b ∷ r) → getD (E .walked k) (length (pathOf xs)) 0 ≡ b
   leads-byte {b} {r} L = rw (L .word) (getD-append-seam (pathOf xs) b r 0)
 
-  pub leads-begins : {r : List ℕ} → Leads E k xs r → Begins (E .walked k) (pathOf xs)
-  leads-begins {r} L = rw (L .word) (take-append-seam (pathOf xs) r)
-
   -- and with bytes more
   pub leads-on : (p r : List ℕ) → Leads E k xs (p ++ r) → Begins (E .walked k) (pathOf xs ++ p)
   leads-on p r L = rw (L .word ∙ sym (append-assoc (pathOf xs) p r)) (take-append-seam (pathOf xs ++ p) r)

@@ -86,10 +86,6 @@ module _ (E : Edition) (f path : List ℕ) where
   unfolding Trees
   as-nil = tt
 
--- the paths of a tree may be written otherwise
-pub tree-path : (E : Edition) (f : List ℕ) {path path' : List ℕ} (t : Lay) → path ≡ path' → Tree E f path t → Tree E f path' t
-tree-path E f t e T = rw (← e) T
-
 -- a word that begins with a path
 pub begins-of : (w p r : List ℕ) → w ≡ p ++ r → Begins w p
 begins-of w p r e = rw e (take-append-seam p r)

@@ -112,11 +112,6 @@ unfolding kidTrees
 kids-sum w path nil ts = omega (arith, nil-sum w)
 kids-sum w path (kid b j t ks) ts = omega (arith, forest-sum w (path ++ b ∷ []) t (kidTrees path ks ts), kids-sum w path ks ts, kid-sum w b j t ks)
 
--- of one child
-pub kids-one : (path : List ℕ) (b j : ℕ) (t : Lay) (ts : List (List ℕ × Lay)) → kidTrees path (kid b j t nil) ts ≡ (path ++ b ∷ [], t) ∷ ts
-unfolding kidTrees
-kids-one path b j t ts = refl
-
 -- ---- the operations
 
 -- what a take adds to what is owned, and that it leaves the root slot

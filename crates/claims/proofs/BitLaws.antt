@@ -177,10 +177,6 @@ module _ (m : List ℕ) (at c b : ℕ) (M : Mask (at % 64) c b) (fits : at % 64 
       let r : (at / 64 * 64 + o .at) % 64 ≡ o .at = omega arith in
       record { unit = at / 64 * 64 + o .at; from = omega arith; below = omega arith; mark = rw (q, r) (o .left) }
 
--- the units of a claim had no mark
-pub claimed-free : {lo n : ℕ} {m m' : List ℕ} → Claimed lo n m m' → (u : ℕ) → lo ≤ u → u < lo + n → bit m u ≡ 0
-claimed-free {lo} {n} {m} {m'} C u h l = omega (arith, C .marks u, bit-few m' u, in-yes lo n u h l)
-
 -- ---- a claim, word by word
 
 -- of count units from lo, the last, left of them from at on, are not marked yet

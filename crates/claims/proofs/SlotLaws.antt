@@ -67,10 +67,6 @@ module _ (u : ℕ) (p : ℕ → ℕ) where
     all-slots : sum bodied is ≡ sum (slotTo u) is
     all-slots = bodies-to u is slot-past
 
-    -- no more bodies than slots
-    pub bodies-few : sum bodied is ≤ u
-    bodies-few = omega (arith, all-slots, slots-to u)
-
     slot-once : sum bodied is ≡ u → (s : ℕ) → 1 ≤ s → s ≤ u → sum (onSlot s) is ≡ 1
     slot-once e zero h l = absurd (omega arith)
     slot-once e (suc v) h l =

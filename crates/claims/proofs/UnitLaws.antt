@@ -1,5 +1,5 @@
--- What a map's marks say of the items that it shows: a claim adds one item, a refused claim says that two items would
--- overlap, and the items of a map do not. Assumes nothing.
+-- What a map's marks say of the items that it shows: a refused claim says that two items would overlap, and the items of a map do not.
+-- Assumes nothing.
 use Prim.Native.Nat.{ℕ, _+_, _-_, _*_, _/_, _%_, _<_, _≤_}
 use mathlib.Core.Path.{_≡_, refl, sym, ap, _∙_}
 use mathlib.Core.List.{List, [], _∷_}
@@ -8,9 +8,9 @@ use native.Mathlib.Decide.{decLe, decLt}
 use lib.ListN.{length, getD, replicate, length-replicate, getD-replicate, List·getD-eq-default}
 use Rattle.layout.specs.Kind.{bodySize, bodySizes}
 use Rattle.layout.proofs.KindLaws.{size-eighth}
-use Rattle.model.specs.Item.{Item, body, extent, inside, cover, bulk, sum, Sound}
+use Rattle.model.specs.Item.{Item, body, extent, inside, cover, bulk, sum}
 use Rattle.model.proofs.ItemLaws.{in-yes, in-under, in-over, sum-cons}
-use Rattle.claims.specs.Units.{bit, Claimed, Taken, Each, place, Eighth, Eighths, Within, Seen, Fits}
+use Rattle.claims.specs.Units.{bit, Taken, Each, place, Eighth, Eighths, Within, Seen, Fits}
 use Rattle.claims.proofs.BitLaws.{in-same, digit-zero, bit-few}
 
 -- ---- one item
@@ -65,24 +65,8 @@ bit-fresh n = record { marks = λ u. rw (zeros (u / 64)) (digit-zero (u % 64)) }
       | no p ↦ let h : length {A = ℕ} (replicate n 0) ≤ k = simp length-replicate (omega arith) in List·getD-eq-default (replicate n 0) 0 h
     ]
 
--- another order
-pub seen-same : {m : List ℕ} {is js : List Item} → Seen m is → ((a : ℕ) → sum (cover a) is ≡ sum (cover a) js) → Seen m js
-seen-same S e = record { marks = λ u. S .marks u ∙ e (8 * u) }
-
 module _ {m : List ℕ} {is : List Item} (S : Seen m is) where
-  -- a claim
-  pub claim-item : {m' : List ℕ} (i : Item) → Eighth i → Claimed (place i / 8) (bulk i / 8) m m' → Seen m' (i ∷ is)
-  claim-item i E C = record { marks = λ u. omega (arith, C .marks u, S .marks u, sum-cons (cover (8 * u)) i is, cover-unit (8 * u) u i E (omega arith)) }
-
-  pub claim-body : {m' : List ℕ} (s k o : ℕ) → o % 8 ≡ 0 → Claimed (o / 8) (bodySize k / 8) m m' → Seen m' (body s k o ∷ is)
-  unfolding bulk place
-  claim-body s k o h C = claim-item (body s k o) (body-eighth s k o h) C
-
-  pub claim-extent : {m' : List ℕ} (e n : ℕ) → e % 8 ≡ 0 → n % 8 ≡ 0 → Claimed (e / 8) (n / 8) m m' → Seen m' (extent e n ∷ is)
-  unfolding bulk place
-  claim-extent e n h l C = claim-item (extent e n) (extent-eighth e n h l) C
-
-  -- a refused one
+  -- a refused claim
   pub refused-item : (i : Item) → Eighth i → Taken (place i / 8) (bulk i / 8) m → ((a : ℕ) → sum (cover a) (i ∷ is) ≤ 1) → ⊥
   refused-item i E T few =
       let u = T .unit in
@@ -148,6 +132,3 @@ fits-item {d} {b} i is F n =
 pub fits-within : {d b : ℕ} (is : List Item) → Fits d b is → Each (λ i. 1 ≤ bulk i) is → Each (Within d b) is
 fits-within [] F P = tt
 fits-within (i ∷ is) F P = (fits-item i is F (P .0), fits-within is (fits-rest i is F) (P .1))
-
-pub sound-fits : {d u b x : ℕ} {is : List Item} → Sound d u b x is → Fits d b is
-sound-fits S = record { apart = S .apart; low = S .low; high = S .high }

@@ -11,7 +11,7 @@ use Rattle.layout.specs.Number.{byteAt, le, put}
 use Rattle.layout.specs.Place.{atEdition}
 use Rattle.fields.specs.Header.{headerOf, putHeader, HeaderFits}
 use Rattle.fields.specs.declared.header.Header.{Header}
-use Rattle.layout.proofs.NumberLaws.{le-same, own64, over, le-laws}
+use Rattle.layout.proofs.NumberLaws.{own64, over, le-laws}
 
 -- the root slot ends at 34
 over34 : (w : ℕ) (f : List ℕ) (o v k : ℕ) → leb 34 k ≡ true → leb (o + w) 34 ≡ true → byteAt (put w f o v) k ≡ byteAt f k
@@ -43,6 +43,3 @@ module _ (f : List ℕ) (h : Header) where
   pub byte-putHeader : (a : ℕ) → 34 ≤ a → byteAt (putHeader f h) a ≡ byteAt f a
   unfolding putHeader
   byte-putHeader a l = simp (over34, le-leb 34 a l)
-
-  pub le-putHeader : (w p : ℕ) → 34 ≤ p → le w (putHeader f h) p ≡ le w f p
-  le-putHeader w p l = le-same w (putHeader f h) f p (λ a x y. byte-putHeader a (omega arith))

@@ -207,10 +207,6 @@ pub record Gave (h h' : View) (ks : List ℕ) : Type 0 where
 pub gave-none : (h : View) → length (h .lists) ≡ 8 → Gave h h []
 gave-none h e8 = record { free = λ j. omega arith; eight = e8 }
 
--- what leaves the lists
-pub gave-same : {h h' : View} {ks : List ℕ} (h'' : View) → h'' .lists ≡ h' .lists → Gave h h' ks → Gave h h'' ks
-gave-same {h} {h'} h'' e G = record { free = λ j. have-lists h' h'' e j ∙ G .free j; eight = ap length e ∙ G .eight }
-
 pub gave-more : {h h' : View} {ks : List ℕ} (s k o : ℕ) (rest : List Item) → Kind k → Gave h h' ks → Gave h (released h' s k o rest) (k ∷ ks)
 gave-more {h} {h'} {ks} s k o rest K G =
     let k1 = K .0 in

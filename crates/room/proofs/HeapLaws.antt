@@ -16,7 +16,7 @@ use Rattle.layout.proofs.KindLaws.{size-least}
 use Rattle.layout.proofs.EntryLaws.{high-of-entry, place-of-entry}
 use Rattle.model.specs.Item.{Item, body, extent, onSlot, cover, onEntry, touch, sum, Same, Sound}
 use Rattle.model.specs.Frame.{Numbers, View, Entry, Chain, listItems, freed, Header, Lists, Heap}
-use Rattle.model.proofs.ItemLaws.{in-yes, in-where, sum-app, sum-cons, sound-same, entry-none, touch-few, touch-head}
+use Rattle.model.proofs.ItemLaws.{in-yes, sum-app, sum-cons, sound-same, entry-none, touch-few, touch-head}
 use Rattle.node.specs.Moved.{Only}
 use Rattle.room.specs.View.{renumbered, holding, listOf, slotFrom, placeFrom, takenFrom, taken}
 use Rattle.room.specs.Step.{But, Kept, Took}
@@ -63,10 +63,6 @@ freed-part w k m (suc i) (l ∷ ls) e = omega (arith, sum-app w (listItems k l) 
 on-entry : (s k o a : ℕ) → entryAt s ≤ a → a < entryAt s + 4 → onEntry a (body s k o) ≡ 1
 unfolding onEntry
 on-entry s k o a h l = in-yes (entryAt s) 4 a h l
-
-pub in-entry : (s k o a : ℕ) → 1 ≤ onEntry a (body s k o) → (entryAt s ≤ a) × (a < entryAt s + 4)
-unfolding onEntry
-in-entry s k o a h = in-where (entryAt s) 4 a .is h
 
 cover-at : (a s k o : ℕ) → o ≤ a → a < o + bodySize k → cover a (body s k o) ≡ 1
 unfolding cover
@@ -190,10 +186,6 @@ others-kept {is = is} i rest S e h B T =
       ];
     }
 
-pub kept-then : {f g h : List ℕ} {is js : List Item} (ks : List Item) → Kept f g is → Kept g h js → ((a : ℕ) → sum (touch a) ks ≤ sum (touch a) is)
-    → ((a : ℕ) → sum (touch a) ks ≤ sum (touch a) js) → Kept f h ks
-kept-then ks A B p q = record { size = B .size ∙ A .size; keep = λ a h. B .keep a (omega (arith, q a)) ∙ A .keep a (omega (arith, p a)) }
-
 pub kept-part : {f g : List ℕ} {is : List Item} (js : List Item) → Kept f g is → ((a : ℕ) → sum (touch a) js ≤ sum (touch a) is) → Kept f g js
 kept-part js A p = record { size = A .size; keep = λ a h. A .keep a (omega (arith, p a)) }
 
@@ -206,9 +198,6 @@ kept-entry {f} {g} s k o K p E =
 -- two writes to the fields and the same bytes, and fewer bytes among more
 pub but-on : {f g h : List ℕ} {lo hi : ℕ} → But f g lo hi → But g h lo hi → But f h lo hi
 but-on A B = record { size = B .size ∙ A .size; first = λ a h. B .first a h ∙ A .first a h; keep = λ a h n. B .keep a h n ∙ A .keep a h n }
-
-pub but-widen : {f g : List ℕ} {lo hi : ℕ} (l u : ℕ) → But f g lo hi → l ≤ lo → hi ≤ u → But f g l u
-but-widen l u A p q = record { size = A .size; first = A .first; keep = λ a h n. A .keep a h (λ x y. n (omega arith) (omega arith)) }
 
 -- a write behind the fields
 pub only-but : {f g : List ℕ} {lo hi : ℕ} → Only f g lo hi → atSpare ≤ lo → But f g lo hi

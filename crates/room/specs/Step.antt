@@ -61,6 +61,11 @@ pub record Freed (f g : List ℕ) (h : View) (s k o : ℕ) (rest : List Item) : 
 
 -- ---- paste, extend
 
+-- g is f with the n bytes of p from i on, at o + i
+pub record Piece (f g : List ℕ) (o i n : ℕ) (p : List ℕ) : Type 0 where
+  pub only : Only f g (o + i) (o + i + n)
+  pub text : (a j : ℕ) → i ≤ j → j < i + n → a ≡ o + j → byteAt g a ≡ getD p j 0
+
 -- g is f with the first n bytes of p at o
 pub record Pasted (f g : List ℕ) (o n : ℕ) (p : List ℕ) : Type 0 where
   pub only : Only f g o (o + n)

@@ -1,32 +1,49 @@
--- `paste` writes the bytes of p and nothing else. The invariant: the first i are written. Assumes nothing.
-use denote.Ref.{now}
+-- `paste` writes the bytes of p and nothing else: its pieces cover p. The invariant: the first i are written. Assumes nothing.
 use Prim.Native.Nat.{_-_, _≤_}
-use mathlib.Core.Path.{_≡_}
 use native.Mathlib.Omega.{arith}
-use lib.ListN.{length}
 use borrow.Author.Needs.{needs}
 use Rattle.room.specs.Step.{Pasted}
-use Rattle.room.proofs.CodeLaws.{pasted-none, pasted-more}
+use Rattle.room.proofs.CodeLaws.{pasted-none, pasted-piece}
 use Rattle.room.proofs.fill.paste.Statement.{statement}
 use Rattle.room.proofs.fill.paste.Tie as tie
 
 abbrev Inv-loop : tie.InvT-loop
-Inv-loop f₀ o p i₀ f i = (i ≤ length p) × Pasted f₀ f o i p
+Inv-loop f₀ o p n i₀ f i = (i ≤ n) × Pasted f₀ f o i p
 
 abbrev μ-loop : tie.MeasureT-loop
-μ-loop f₀ o p i₀ f i = length p - i
+μ-loop f₀ o p n i₀ f i = n - i
+
+paste-short-requires : tie.Need-paste-short-requires Inv-loop μ-loop
+paste-short-requires c κs = search needs
+
+same-length : tie.Need-same-length Inv-loop μ-loop
+same-length c = search needs
+
+returns : tie.Need-returns Inv-loop μ-loop
+returns c = c .before .before .paste-short .ensures
+
+piece-requires : tie.Need-piece-requires Inv-loop μ-loop
+piece-requires c κs = search needs
+
+piece-requires-2 : tie.Need-piece-requires-2 Inv-loop μ-loop
+piece-requires-2 c κs = search needs
+
+same-length-2 : tie.Need-same-length-2 Inv-loop μ-loop
+same-length-2 c = search needs
+
+returns-2 : tie.Need-returns-2 Inv-loop μ-loop
+returns-2 c =
+    let first = pasted-piece {k = 8} (pasted-none _ _ _) (c .before .before .before .before .before .before .piece .ensures) (omega arith) (omega arith) (omega arith) in
+    pasted-piece first (c .before .before .piece2 .ensures) (omega arith) (omega arith) (omega arith)
 
 loop-holds : tie.Need-loop-holds Inv-loop μ-loop
 loop-holds c = (omega arith, pasted-none _ _ _)
 
-shared-slice-read-x : tie.Need-shared-slice-read-x Inv-loop μ-loop
-shared-slice-read-x c = search needs
+add-loop : tie.Need-add-loop Inv-loop μ-loop
+add-loop c = search needs
 
-add-f : tie.Need-add-f Inv-loop μ-loop
-add-f c = search needs
-
-slice-write-f : tie.Need-slice-write-f Inv-loop μ-loop
-slice-write-f c = search needs
+piece-requires-3 : tie.Need-piece-requires-3 Inv-loop μ-loop
+piece-requires-3 c κs = search needs
 
 add-i : tie.Need-add-i Inv-loop μ-loop
 add-i c = search needs
@@ -35,15 +52,40 @@ loop-less : tie.Need-loop-less Inv-loop μ-loop
 loop-less c = search needs
 
 loop-again : tie.Need-loop-again Inv-loop μ-loop
-loop-again c = (omega arith, pasted-more (c .before .before .loop .inv .1) (omega arith))
+loop-again c =
+    let l = c .before .before .before .before .before in
+    (omega arith, pasted-piece (l .loop .inv .1) (c .before .before .piece3 .ensures) (omega arith) (omega arith) (omega arith))
 
-same-length : tie.Need-same-length Inv-loop μ-loop
-same-length c = search needs
+piece-requires-4 : tie.Need-piece-requires-4 Inv-loop μ-loop
+piece-requires-4 c κs = search needs
 
-returns : tie.Need-returns Inv-loop μ-loop
-returns c = let e : c .before .loop .i ≡ length (now (c .before .before .args .p)) = omega arith in rw e at (c .before .loop .inv .1)
+same-length-3 : tie.Need-same-length-3 Inv-loop μ-loop
+same-length-3 c = search needs
+
+returns-3 : tie.Need-returns-3 Inv-loop μ-loop
+returns-3 c =
+    let l = c .before .before .before .before .before in
+    pasted-piece (l .loop .inv .1) (c .before .before .piece4 .ensures) (omega arith) (omega arith) (omega arith)
 
 pub paste-spec : {M : Type 1} → statement M
 paste-spec =
     tie.close
-    (tie.spec Inv-loop μ-loop loop-holds shared-slice-read-x add-f slice-write-f add-i loop-less loop-again same-length returns)
+    (tie.spec
+    Inv-loop
+    μ-loop
+    paste-short-requires
+    same-length
+    returns
+    piece-requires
+    piece-requires-2
+    same-length-2
+    returns-2
+    loop-holds
+    add-loop
+    piece-requires-3
+    add-i
+    loop-less
+    loop-again
+    piece-requires-4
+    same-length-3
+    returns-3)
