@@ -1,7 +1,7 @@
 // Packing (document 01, "The packed image"): the records of a good frame, laid out anew in another slice. The frame is only read.
-pub mod bodies;
-pub mod image;
-pub mod walk;
+mod bodies;
+mod image;
+mod walk;
 
 use answers::Pack;
 use answers::Refusal;
