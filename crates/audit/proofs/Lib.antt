@@ -1,4 +1,6 @@
 pub mod TreeLaws
+pub mod OpenLaws
 pub mod WalkLaws
+pub mod WayLaws
 pub mod RootLaws
 pub mod WholeLaws

@@ -1,5 +1,5 @@
 -- The root's items: an EmptyRoot or a tree, by the kind of its slot. Assumes nothing.
-use Prim.Native.Nat.{ℕ, _+_, _-_, _≤_}
+use Prim.Native.Nat.{ℕ, _≤_}
 use mathlib.Core.Path.{_≡_, refl, sym, ap, _∙_}
 use mathlib.Core.List.{List, [], _∷_, _++_}
 use mathlib.Core.Bool.{true, false}
@@ -10,21 +10,12 @@ use Rattle.model.specs.Item.{Item, body}
 use Rattle.model.specs.Body.{Zero}
 use Rattle.model.specs.Frame.{Lay, items, Root, bare, tree, slotOf, Entry, Tree, RootAt, rootSlot, rootItems}
 use Rattle.model.proofs.UniqueLaws.{entry-unique, tree-unique}
-use Rattle.shape.specs.Shape.{Blank}
 use Rattle.census.specs.declared.Sums.{Sums}
 use Rattle.census.specs.Told.{Told, BodyTold}
 use Rattle.census.proofs.ToldLaws.{tidy-slot, told-no, told-yes, told-as, body-sited, tally-body}
 use Rattle.audit.specs.Walk.{TreeItems}
 use Rattle.audit.specs.Audit.{RootItems, EmptyItems, EmptyTold}
 use Rattle.audit.proofs.TreeLaws.{tree-first}
-
--- ---- zeros, counted from their start
-
-pub zero-blank : (f : List ℕ) (o : ℕ) → Blank f o (o + 8) → Zero f o 8
-zero-blank f o B i h = B (o + i) (omega arith) (omega arith)
-
-pub blank-zero : (f : List ℕ) (o : ℕ) → Zero f o 8 → Blank f o (o + 8)
-blank-zero f o Z a p q = let e : o + (a - o) ≡ a = omega arith in rw e at (Z (a - o) (omega arith))
 
 -- ---- an EmptyRoot
 

@@ -1,15 +1,19 @@
 -- What the walk through the live tree tells of a slot, of a body, and of the children of a node.
-use Prim.Native.Nat.{ℕ, _+_, _≤_}
+use Prim.Native.Nat.{ℕ, _+_, _<_, _≤_}
 use mathlib.Core.Path.{_≡_}
 use mathlib.Core.List.{List, _∷_, _++_}
-use lib.ListN.{take, drop}
-use Rattle.layout.specs.Kind.{Crossing, Node4, Node256}
-use Rattle.layout.specs.Entry.{highOf}
+use mathlib.Core.Bool.{true, false}
+use lib.ListN.{length, take, drop}
+use Rattle.layout.specs.Kind.{Crossing, Node4, Node256, bodySize}
+use Rattle.layout.specs.Entry.{placeOf, highOf}
 use Rattle.model.specs.Edition.{edition1}
 use Rattle.model.specs.Item.{Item, body}
 use Rattle.model.specs.Frame.{Lay, LayKids, slotOf, items, itemsAll, pairs, Entry, Places, Tree, Trees}
-use Rattle.census.specs.Told.{Told}
+use Rattle.claims.specs.Units.{Each}
+use Rattle.shape_inner.specs.Inner.{InnerHere}
+use Rattle.census.specs.Told.{Tidy, Sited, Tally, Book, Grown, Told}
 use Rattle.census.specs.declared.Sums.{Sums}
+use Rattle.audit.specs.declared.walk.Inner.{Inner}
 
 -- the kind of a slot of the tree, the root's EmptyRoot aside
 pub record Live (kind : ℕ) : Type 0 where
@@ -51,10 +55,49 @@ pub record RunItems (f path : List ℕ) (o kind : ℕ) (ks : List (ℕ × ℕ)) 
   pub places : Places f o kind kids
   pub are : itemsAll kids ≡ xs
 
--- what is told of a body of the kind at o: of whatever slot it is, what stands below
-pub record Under (f path : List ℕ) (kind o d u b : ℕ) (m : List ℕ) (t : Sums) (m' : List ℕ) (t' : Sums) : Type 0 where
-  pub of : (s : ℕ) → Entry f s kind o → Told (Below f path s kind o) (Below f path s kind o) f d u b m t m' t'
-
--- the same with the body itself: of whatever slot it is, all that stands there
+-- what is told of a body of the kind at o: of whatever slot it is, all that stands there
 pub record At (f path : List ℕ) (kind o d u b : ℕ) (m : List ℕ) (t : Sums) (m' : List ℕ) (t' : Sums) : Type 0 where
   pub of : (s : ℕ) → Entry f s kind o → 1 ≤ s → s ≤ u → Told (TreeItems f path s) (TreeItems f path s) f d u b m t m' t'
+
+-- ---- a node whose children are still to be counted
+
+-- no tidy items of which P holds
+abbrev pub Fails : (List Item → Type 0) → ℕ → ℕ → ℕ → List ℕ → Sums → Type 0
+Fails P d u b m t = (is : List Item) → Book m t is → (xs : List Item) → P xs → Tidy d u b (xs ++ is) → ⊥
+
+-- the first of the items of which W holds were claimed and counted; of the others R holds
+pub record Opens (R W : List Item → Type 0) (f : List ℕ) (d u b : ℕ) (m : List ℕ) (t : Sums) (m' : List ℕ) (t' : Sums) : Type 0 where
+  pub items : List Item
+  pub grown : Grown m t m' t' items
+  pub sited : Each (Sited f d u b) items
+  pub join : (ys : List Item) → R ys → W (items ++ ys)
+  pub split : (zs is : List Item) → Tidy d u b (zs ++ is) → W zs → (ys : List Item) × R ys × (zs ≡ items ++ ys)
+
+-- the body of an inner node: of whatever slot it is and whatever path of the length leads to it, its children are left
+pub record NodeOpened (f : List ℕ) (depth kind o d u b : ℕ) (m : List ℕ) (t : Sums) (m' : List ℕ) (t' : Sums) : Type 0 where
+  pub node : InnerHere f o kind
+  pub room : o + bodySize kind ≤ b
+  pub short : depth ≤ 112
+  pub tally : Tally u 0 t'
+  pub more : t .slots < t' .slots
+  pub of : (path : List ℕ) (s : ℕ) → Entry f s kind o → 1 ≤ s → s ≤ u → Opens (RunItems f path o kind (node .kids)) (TreeItems f path s) f d u b m t m' t'
+
+pub record NodeTold (f : List ℕ) (depth kind o d u b : ℕ) (m : List ℕ) (t : Sums) (m' : List ℕ) (t' : Sums) : Type 0 where
+  pub holds : t' .good ≡ true → NodeOpened f depth kind o d u b m t m' t'
+  pub fails : t' .good ≡ false → (path : List ℕ) (s : ℕ) → length path ≡ depth → Entry f s kind o → 1 ≤ s → s ≤ u → Fails (TreeItems f path s) d u b m t
+
+-- a Prefix at slot s: the inner slot below it, to which the first bytes of `now` lead, is left
+pub record PrefixLeads (f path : List ℕ) (depth s d u b : ℕ) (m : List ℕ) (t : Sums) (now m' : List ℕ) (i : Inner) : Type 0 where
+  pub slot : InnerSlot f (i .slot) u
+  pub kindIs : i .kind ≡ highOf f (i .slot)
+  pub placeIs : i .place ≡ placeOf f (i .slot)
+  pub small : i .place < 1048576
+  pub deeper : depth ≤ i .depth
+  pub short : i .depth ≤ 112
+  pub tally : Tally u 0 (i .sums)
+  pub more : t .slots < i .sums .slots
+  pub opens : Opens (TreeItems f (take (i .depth) now) (i .slot)) (TreeItems f path s) f d u b m t m' (i .sums)
+
+pub record PrefixTold (f path : List ℕ) (depth s d u b : ℕ) (m : List ℕ) (t : Sums) (now m' : List ℕ) (i : Inner) : Type 0 where
+  pub holds : i .sums .good ≡ true → PrefixLeads f path depth s d u b m t now m' i
+  pub fails : i .sums .good ≡ false → Fails (TreeItems f path s) d u b m t

@@ -1,7 +1,6 @@
-// The live tree, parent first and children in byte order. The path that leads to a body stands in a lent buffer; what is left of its 113
-// bytes falls with every step down.
+// The live tree, parent first and children in byte order, in one loop. The path that leads to a body stands in a buffer, and the inner
+// nodes whose children are not all counted yet wait in arrays, the root's node first: the stack does not grow with the tree.
 use census::Sums;
-use census::kept;
 use census::refused;
 use census::take;
 use fields::body::Prefix;
@@ -13,27 +12,42 @@ use shape::leaf::leaf_good;
 use shape::prefix::prefix_good;
 use shape_inner::inner_good;
 ghost use mathlib.Core.Path.{_≡_};
+ghost use mathlib.Core.List.{[]};
+ghost use mathlib.Core.Bool.{false};
 ghost use Prim.Native.Nat.{_+_, _*_, _%_, _<_, _≤_};
 ghost use lib.ListN.{length, take};
-ghost use Rattle.layout.specs.Kind.{bodySize};
-ghost use Rattle.shape.specs.Decides.{Decides};
+ghost use Rattle.layout.specs.Entry.{placeOf, highOf};
+ghost use Rattle.pieces.specs.Decides.{Decides};
 ghost use Rattle.census.specs.Told.{Ground, Limits, Tally, Told};
-ghost use Rattle.audit.specs.Walk.{Live, InnerSlot, Kept, Extended, Under, At, TreeItems};
+ghost use Rattle.audit.specs.Walk.{InnerSlot, Kept, Extended, At, TreeItems, NodeTold, PrefixTold};
 
-// The longest path to an inner node.
+// The longest path to an inner node, and how many such paths there are, by length.
 const DEEPEST: usize = 112;
 
-// A kind that a slot of the tree has.
-fn live(kind: usize) -> bool
-    ensures { λ r. ⌜ Decides (Live kind) r ⌝ }
-{
-    if kind < Kind::LEAF {
-        return false;
+const DEPTHS: usize = 113;
+
+// The slot of an inner node below a Prefix that is counted, and how many bytes lead to it. Not good: a refusal.
+pub struct Inner {
+    pub sums: Sums,
+    pub slot: usize,
+    pub place: usize,
+    pub kind: usize,
+    pub depth: usize,
+}
+
+impl Inner {
+    fn none() -> Inner
+        ensures { λ r. ⌜ r .sums .good ≡ false ⌝ }
+    {
+        let sums = refused();
+        Inner {
+            sums: sums,
+            slot: 0,
+            place: 0,
+            kind: 0,
+            depth: 0,
+        }
     }
-    if kind == Kind::CROSSING {
-        return false;
-    }
-    kind <= Kind::NODE256
 }
 
 // A slot of 1 to u whose kind is an inner one.
@@ -92,86 +106,10 @@ fn leaf(
     take::extent(map, l.extent, l.size, d, u, b, r)
 }
 
-// The Prefix whose body lies at o: the inner node below.
-fn prefix(
-    f: &[u8],
-    map: &mut [u64],
-    path: &mut [u8],
-    depth: usize,
-    o: usize,
-    d: usize,
-    u: usize,
-    b: usize,
-    t: Sums,
-) -> Sums
-    requires { ⌜ Ground (now f) d u b × Limits d u b (length (now map)) × Tally u 0 t × (113 ≤ length (now path)) × (depth ≤ 113) × (o + 128 ≤ b) ⌝ }
-    ensures { λ r. ⌜ Kept depth (now (path .entry)) (now (path .exit)) × Under (now (f .entry)) (take depth (now (path .entry))) 2 o d u b (now (map .entry)) t (now (map .exit)) r ⌝ }
-{
-    if !prefix_good(f, o) {
-        return refused();
-    }
-    let n = Prefix::length(f, o);
-    if DEEPEST < depth + n {
-        return refused();
-    }
-    let c = Prefix::child(f, o);
-    if !inner_slot(f, c, u) {
-        return refused();
-    }
-    extend(path, depth, f, o + Prefix::BYTES, n);
-    let e = Entry::read(f, c);
-    let r = deep(f, map, path, depth + n, e.high, e.place, d, u, b, t);
-    if !r.good {
-        return refused();
-    }
-    kept(r)
-}
-
-// The inner node whose body lies at o: its children.
+// The inner node whose body lies at o: the body alone.
 fn node(
     f: &[u8],
     map: &mut [u64],
-    path: &mut [u8],
-    depth: usize,
-    o: usize,
-    kind: usize,
-    d: usize,
-    u: usize,
-    b: usize,
-    t: Sums,
-) -> Sums
-    requires { ⌜ Ground (now f) d u b × Limits d u b (length (now map)) × Tally u 0 t × (113 ≤ length (now path)) × (depth ≤ 113) × (4 ≤ kind) × (kind ≤ 7) × (o + bodySize kind ≤ b) ⌝ }
-    ensures { λ r. ⌜ Kept depth (now (path .entry)) (now (path .exit)) × Under (now (f .entry)) (take depth (now (path .entry))) kind o d u b (now (map .entry)) t (now (map .exit)) r ⌝ }
-{
-    if DEEPEST < depth {
-        return refused();
-    }
-    if !inner_good(f, o, kind) {
-        return refused();
-    }
-    let n = look::count(f, o);
-    let mut sums = t;
-    let mut from = 0;
-    let mut i = 0;
-    while i < n {
-        let c = child_at(f, o, kind, i, from);
-        path[depth] = c.byte as u8;
-        let r = visit(f, map, path, depth + 1, c.slot, d, u, b, sums);
-        if !r.good {
-            return refused();
-        }
-        sums = r;
-        from = c.byte + 1;
-        i += 1;
-    }
-    sums
-}
-
-// What stands at o, of a kind other than a Leaf's: its body, and all below.
-pub fn deep(
-    f: &[u8],
-    map: &mut [u64],
-    path: &mut [u8],
     depth: usize,
     kind: usize,
     o: usize,
@@ -180,52 +118,158 @@ pub fn deep(
     b: usize,
     t: Sums,
 ) -> Sums
-    requires { ⌜ Ground (now f) d u b × Limits d u b (length (now map)) × Tally u 0 t × (113 ≤ length (now path)) × (depth ≤ 113) × (kind ≡ 1 → ⊥) × (o % 8 ≡ 0) × (o < 1048576) ⌝ }
-    ensures { λ r. ⌜ Kept depth (now (path .entry)) (now (path .exit)) × At (now (f .entry)) (take depth (now (path .entry))) kind o d u b (now (map .entry)) t (now (map .exit)) r ⌝ }
+    requires { ⌜ Ground (now f) d u b × Limits d u b (length (now map)) × Tally u 0 t × (kind ≡ 1 → ⊥) × (kind ≡ 2 → ⊥) × (o % 8 ≡ 0) × (o < 1048576) ⌝ }
+    ensures { λ r. ⌜ NodeTold (now (f .entry)) depth kind o d u b (now (map .entry)) t (now (map .exit)) r ⌝ }
 {
-    if !live(kind) {
+    if kind < Kind::NODE4 {
+        return refused();
+    }
+    if kind > Kind::NODE256 {
         return refused();
     }
     let r = take::body(map, kind, o, d, u, b, t);
     if !r.good {
         return refused();
     }
-    if kind == Kind::PREFIX {
-        return prefix(f, map, path, depth, o, d, u, b, r);
+    if DEEPEST < depth {
+        return refused();
     }
-    node(f, map, path, depth, o, kind, d, u, b, r)
+    if !inner_good(f, o, kind) {
+        return refused();
+    }
+    r
 }
 
-// The tree at slot s, to which the first bytes of the path lead, as many as depth. Most slots are Leaves, and no call is made for one.
-fn visit(
+// The Prefix of slot s, whose body lies at o, and the way to the inner node below it.
+fn past_prefix(
     f: &[u8],
     map: &mut [u64],
     path: &mut [u8],
     depth: usize,
     s: usize,
+    o: usize,
     d: usize,
     u: usize,
     b: usize,
     t: Sums,
-) -> Sums
-    requires { ⌜ Ground (now f) d u b × Limits d u b (length (now map)) × Tally u 0 t × (113 ≤ length (now path)) × (depth ≤ 113) ⌝ }
-    ensures { λ r. ⌜ Kept depth (now (path .entry)) (now (path .exit))
-        × Told (TreeItems (now (f .entry)) (take depth (now (path .entry))) s) (TreeItems (now (f .entry)) (take depth (now (path .entry))) s) (now (f .entry)) d u b (now (map .entry)) t (now (map .exit)) r ⌝ }
+) -> Inner
+    requires { ⌜ Ground (now f) d u b × Limits d u b (length (now map)) × Tally u 0 t × (113 ≤ length (now path)) × (depth ≤ 113) × (1 ≤ s) × (s ≤ u) × (2 ≡ highOf (now f) s) × (o ≡ placeOf (now f) s) × (o < 1048576) ⌝ }
+    ensures { λ r. ⌜ Kept depth (now (path .entry)) (now (path .exit)) × PrefixTold (now (f .entry)) (take depth (now (path .entry))) depth s d u b (now (map .entry)) t (now (path .exit)) (now (map .exit)) r ⌝ }
 {
-    if s < 1 {
-        return refused();
-    }
-    if u < s {
-        return refused();
-    }
-    let e = Entry::read(f, s);
-    if e.high == Kind::LEAF {
-        return leaf(f, map, path, depth, e.place, d, u, b, t);
-    }
-    let k = kept(t);
-    let r = deep(f, map, path, depth, e.high, e.place, d, u, b, k);
+    let r = take::body(map, Kind::PREFIX, o, d, u, b, t);
     if !r.good {
-        return refused();
+        return Inner::none();
     }
-    kept(r)
+    if !prefix_good(f, o) {
+        return Inner::none();
+    }
+    let n = Prefix::length(f, o);
+    if DEEPEST < depth + n {
+        return Inner::none();
+    }
+    let c = Prefix::child(f, o);
+    if !inner_slot(f, c, u) {
+        return Inner::none();
+    }
+    extend(path, depth, f, o + Prefix::BYTES, n);
+    let e = Entry::read(f, c);
+    Inner {
+        sums: r,
+        slot: c,
+        place: e.place,
+        kind: e.high,
+        depth: depth + n,
+    }
+}
+
+// The tree at slot s, to which no path leads, of a kind other than a Leaf's. The walk arrives at a slot: a Prefix leads it to another, and a
+// node is counted. From then on it is at child i of a node: where that is a Leaf it is counted, else the node waits and the walk arrives at
+// it; after the last child the walk goes back to the node that waits.
+pub fn tree(f: &[u8], map: &mut [u64], s: usize, d: usize, u: usize, b: usize, t: Sums) -> Sums
+    requires { ⌜ Ground (now f) d u b × Limits d u b (length (now map)) × Tally u 0 t × (1 ≤ s) × (s ≤ u) × (highOf (now f) s ≡ 1 → ⊥) ⌝ }
+    ensures { λ r. ⌜ Told (TreeItems (now (f .entry)) [] s) (TreeItems (now (f .entry)) [] s) (now (f .entry)) d u b (now (map .entry)) t (now (map .exit)) r ⌝ }
+{
+    let mut path: [u8; DEPTHS] = [0; DEPTHS];
+    // of the nodes that wait: the slot, the bytes that lead to it, and the child that the walk is below
+    let mut slots: [u32; DEPTHS] = [0; DEPTHS];
+    let mut depths: [u8; DEPTHS] = [0; DEPTHS];
+    let mut turns: [u8; DEPTHS] = [0; DEPTHS];
+    let mut waiting = 0;
+    let mut sums = t;
+    let top = Entry::read(f, s);
+    let mut slot = s;
+    let mut place = top.place;
+    let mut kind = top.high;
+    let mut depth = 0;
+    let mut n = 0;
+    let mut i = 0;
+    let mut from = 0;
+    let mut arriving = 1;
+    loop {
+        if arriving == 1 {
+            if kind == Kind::PREFIX {
+                let k = past_prefix(f, map, &mut path, depth, slot, place, d, u, b, sums);
+                sums = k.sums;
+                if !sums.good {
+                    return refused();
+                }
+                slot = k.slot;
+                place = k.place;
+                kind = k.kind;
+                depth = k.depth;
+                continue;
+            }
+            sums = node(f, map, depth, kind, place, d, u, b, sums);
+            if !sums.good {
+                return refused();
+            }
+            n = look::count(f, place);
+            i = 0;
+            from = 0;
+            arriving = 0;
+            continue;
+        }
+        if i < n {
+            let c = child_at(f, place, kind, i, from);
+            path[depth] = c.byte as u8;
+            if c.slot < 1 {
+                return refused();
+            }
+            if u < c.slot {
+                return refused();
+            }
+            let e = Entry::read(f, c.slot);
+            if e.high == Kind::LEAF {
+                sums = leaf(f, map, &path, depth + 1, e.place, d, u, b, sums);
+                if !sums.good {
+                    return refused();
+                }
+                from = c.byte + 1;
+                i += 1;
+                continue;
+            }
+            slots[waiting] = slot as u32;
+            depths[waiting] = depth as u8;
+            turns[waiting] = i as u8;
+            waiting += 1;
+            slot = c.slot;
+            place = e.place;
+            kind = e.high;
+            depth += 1;
+            arriving = 1;
+            continue;
+        }
+        if waiting == 0 {
+            return sums;
+        }
+        waiting -= 1;
+        slot = slots[waiting] as usize;
+        depth = depths[waiting] as usize;
+        i = turns[waiting] as usize + 1;
+        from = path[depth] as usize + 1;
+        let e = Entry::read(f, slot);
+        place = e.place;
+        kind = e.high;
+        n = look::count(f, place);
+    }
 }

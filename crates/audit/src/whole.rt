@@ -1,5 +1,5 @@
 // The root with all below it, the lists of freed slots, and the sums over both.
-use crate::walk::deep;
+use crate::walk::tree;
 use census::Sums;
 use census::freed::lists;
 use census::refused;
@@ -7,8 +7,8 @@ use census::take;
 use fields::header::Header;
 use layout::entry::Entry;
 use layout::kind::Kind;
+use pieces::zero_eight;
 use shape::leaf::lone_good;
-use shape::zero::zero_eight;
 ghost use mathlib.Core.Path.{_≡_};
 ghost use mathlib.Core.List.{[]};
 ghost use Prim.Native.Nat.{_+_, _-_, _*_, _%_, _<_, _≤_};
@@ -73,8 +73,7 @@ fn root(f: &[u8], map: &mut [u64], s: usize, d: usize, u: usize, b: usize, t: Su
     if e.high == Kind::LEAF {
         return lone(f, map, e.place, d, u, b, t);
     }
-    let mut path: [u8; 113] = [0; 113];
-    deep(f, map, &mut path, 0, e.high, e.place, d, u, b, t)
+    tree(f, map, s, d, u, b, t)
 }
 
 // "B - D equals the sizes of all of them plus X", U slots in all, and R Leaves.

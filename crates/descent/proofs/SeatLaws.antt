@@ -217,12 +217,12 @@ module _ {f k : List ℕ} {s : Spot} (G : Going f k s) where
 -- ---- what the code reads there
 
 -- the key of a Leaf is the part of the frame from its extent on
-pub leaf-part : {f k : List ℕ} {s : Spot} {o : ℕ} (A : AtLeaf f k s o) (x n : ℕ) → x ≡ le 4 f (o + leafExtent) → n ≡ le 2 f (o + leafKey) → take (x + n - x) (drop x f) ≡ A .key
-leaf-part {f} A x n p q =
+pub leaf-part : {f k : List ℕ} {s : Spot} {o : ℕ} (A : AtLeaf f k s o) (x n m : ℕ) → x ≡ le 4 f (o + leafExtent) → n ≡ le 2 f (o + leafKey) → m ≡ n → take m (drop x f) ≡ A .key
+leaf-part {f} A x n m p q r =
     let L = A .at .at in
     let e : x ≡ A .extent = p ∙ L .extent in
-    let m : x + n - x ≡ length (A .key) = omega (arith, q, L .keyLength) in
-    rw (m, e) (text-part f (A .extent) (A .key) (omega (arith, L .room)) (text-left f (A .extent) (A .key) (A .value) (L .text)))
+    let l : m ≡ length (A .key) = r ∙ q ∙ L .keyLength in
+    rw (l, e) (text-part f (A .extent) (A .key) (omega (arith, L .room)) (text-left f (A .extent) (A .key) (A .value) (L .text)))
 
 pub prefix-part : {f k : List ℕ} {s : Spot} {o : ℕ} (A : AtPrefix f k s o) (n : ℕ) → n ≡ le 2 f (o + prefixLength) → take (o + 16 + n - (o + 16)) (drop (o + 16) f) ≡ A .bytes
 prefix-part {f} {k} {s} {o} A n q =

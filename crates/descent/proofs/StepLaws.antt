@@ -17,7 +17,7 @@ use Rattle.model.specs.Frame.Lay.{leaf, node}
 use Rattle.model.specs.Frame.LayKids.{kid}
 use Rattle.model.proofs.StringLaws.Meets.{whole, ends}
 use Rattle.node.specs.Kids.{orZero, placeOf}
-use Rattle.inner.specs.Inner.{linkAt, placeAt, NodeHas}
+use Rattle.inner.specs.Inner.{linkAt, placeAt}
 use Rattle.inner.proofs.InnerLaws.{inner-asc}
 use Rattle.between.specs.Hole.{Step, under, among, app, plug, pathOf, Link}
 use Rattle.between.specs.Lead.{Leads, NotUnder}
@@ -168,9 +168,6 @@ module _ {f k : List ℕ} {s : Spot} {o kind : ℕ} (A : AtNode f k s o kind) (b
       (λ z. absurd (omega arith)) (λ z. absurd (omega arith))
       (λ z. record { kids = A .kids; is = A .is; short = A .short; byte = A .byte; after = A .after; next = its-rest; absent = rw q at h })
       (λ z. absurd (omega arith))
-
-  pub node-child : (c ≡ 0 → ⊥) → NodeHas f o kind b
-  node-child n = record { kids = pairs (A .kids); node = A .at .inner; child = c; has = or-some (lookKid b (pairs (A .kids))) c d n }
 
   pub node-below : (at : ℕ) → (c ≡ 0 → ⊥) → at ≡ linkAt o kind (placeOf b (pairs (A .kids))) (placeAt f o kind b) b → Stepped f k s (belowNode s o kind b c at)
   node-below at n l =

@@ -18,13 +18,13 @@ fn at_leaf(f: &[u8], key: &[u8], s: Spot, place: usize) -> Spot
     ensures { λ r. ⌜ Stepped (now (f .entry)) (now (key .entry)) s r ⌝ }
 {
     let from = Leaf::extent(f, place);
-    let to = from + Leaf::key_length(f, place);
-    let own = &f[from..to];
-    if check::same(own, key) {
+    let n = Leaf::key_length(f, place);
+    if key::stands_at(key, f, from, n) {
         return s.ended(Spot::FOUND, place, Kind::LEAF, 0);
     }
+    let to = from + n;
     let depth = s.depth;
-    let q = key::shared_from(key, own, depth);
+    let q = key::shared_from(key, &f[from..to], depth);
     s.ended(Spot::OTHER, place, Kind::LEAF, q)
 }
 
@@ -50,12 +50,11 @@ fn at_node(f: &[u8], key: &[u8], s: Spot, place: usize, kind: usize) -> Spot
 {
     let depth = s.depth;
     let b = key::walked_at(key, depth);
-    let child = look::find(f, place, kind, b);
-    if child == 0 {
+    let seat = look::seat(f, place, kind, b);
+    if seat.slot == 0 {
         return s.ended(Spot::MISSING, place, kind, 0);
     }
-    let link = look::link(f, place, kind, b);
-    s.below_node(place, kind, b, child, link)
+    s.below_node(place, kind, b, seat.slot, seat.link)
 }
 
 // One step: deeper, or to the end.

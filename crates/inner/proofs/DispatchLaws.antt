@@ -1,5 +1,5 @@
 -- Each operation by kind: what its parts ask, and what they give back. Assumes nothing.
-use Prim.Native.Nat.{ℕ, _+_, _*_, _-_, _<_, _≤_}
+use Prim.Native.Nat.{ℕ, _+_, _*_, _<_, _≤_}
 use mathlib.Core.Path.{_≡_, refl, _∙_, ap, sym}
 use mathlib.Core.List.{List, [], _∷_}
 use mathlib.Core.Option.{none}
@@ -12,14 +12,14 @@ use Rattle.layout.specs.Place.{node48Index, node48Children, node256Children}
 use Rattle.layout.specs.Kind.{Node48, bodySize, most}
 use Rattle.model.specs.Strings.{pick}
 use Rattle.model.specs.Body.{byteIn, childIn, lookKid, SortedAt, Node48At, Node256At, InnerAt}
-use Rattle.node.specs.Kids.{insertKid, removeKid, placeOf, nextKid, Reached}
+use Rattle.node.specs.Kids.{insertKid, removeKid, nextKid, Reached}
 use Rattle.node.specs.Moved.{Only}
 use Rattle.node.specs.Sorted.{Sorted, SortedOpen, SortedHas}
-use Rattle.node.proofs.MoveLaws.{only-put, only-widen}
+use Rattle.node.proofs.MoveLaws.{only-widen}
 use Rattle.node.proofs.KidsLaws.{asc-byte, next-reached}
 use Rattle.node_big.specs.Indexed.{Lowest, Open48, Has48, Open256, Has256}
-use Rattle.inner.specs.Inner.{sortedBytes, placeAt, linkAt, appended, NodeSome, NodeOpen, NodeHas, Visit, Added, Removed, Replaced}
-use Rattle.inner.proofs.InnerLaws.{size-sorted, most-sorted, as-sorted, of-sorted, of-48, of-256, inner-room, inner-count, inner-asc, inner-one, inner-set, link-inside, link-places}
+use Rattle.inner.specs.Inner.{sortedBytes, placeAt, appended, NodeSome, NodeOpen, NodeHas, Visit, Added, Removed}
+use Rattle.inner.proofs.InnerLaws.{size-sorted, most-sorted, as-sorted, of-sorted, of-48, of-256, inner-count, inner-asc}
 
 -- ---- Node4 and Node16, at the numbers that the tables gave
 
@@ -117,23 +117,6 @@ module _ {f g : List ℕ} {o kind b : ℕ} where
 
   pub removed-256 : kind ≡ 7 → Only f g o (o + 1032) → ((ks : List (ℕ × ℕ)) → Node256At f o ks → Node256At g o (removeKid b ks)) → Removed f g o kind b
   removed-256 e O I = record { only = rw e O; inner = λ ks N. of-256 e (I ks (N .seven e)); others = λ d d8 ne. no-places f g o kind d (λ z. omega arith) }
-
--- ---- another child
-
-module _ {f : List ℕ} {o kind b at : ℕ} (H : NodeHas f o kind b) (b8 : b < 256) (L : (ks : List (ℕ × ℕ)) → InnerAt f o kind ks → at ≡ linkAt o kind (placeOf b ks) (placeAt f o kind b) b) where
-  pub link-room : at + 4 ≤ length f
-  link-room = let e = L (H .kids) (H .node) in let i = link-inside b (H .child) (H .kids) (H .node) b8 (H .has) in let r = inner-room (H .kids) (H .node) in omega arith
-
-  pub replaced : {g : List ℕ} {slot : ℕ} → 1 ≤ slot → slot < 4294967296 → g ≡ put 4 f at slot → Replaced f g o kind b slot
-  replaced {g} {slot} pos s32 E =
-      let e = L (H .kids) (H .node) in
-      let i = link-inside b (H .child) (H .kids) (H .node) b8 (H .has) in
-      let E' : g ≡ put 4 f (linkAt o kind (placeOf b (H .kids)) (placeAt f o kind b) b) slot = rw e at E in
-      record {
-        only = rw E (only-widen o (o + bodySize kind) (only-put 4 f at slot) (omega arith) (omega arith));
-        inner = λ ks N. let q = inner-one (H .kids) ks (H .node) N in rw (← q, E') (inner-set b (H .child) (H .kids) (H .node) b8 (H .has) slot pos s32);
-        places = λ d d8. rw E' (link-places b (H .child) (H .kids) (H .node) b8 (H .has) slot d d8);
-      }
 
 -- ---- the children in order
 

@@ -11,17 +11,16 @@ use borrow.Author.Tests.{lt-ltb, ne-eqb}
 use Rattle.layout.specs.Number.{byteAt, le, put}
 use Rattle.layout.specs.Place.{nodeCount, node48Index, node48Children, node256Children}
 use Rattle.layout.specs.Kind.{Node48, bodySize, most}
-use Rattle.layout.proofs.NumberLaws.{le1}
 use Rattle.model.specs.Strings.{pick}
-use Rattle.model.specs.Body.{childIn, Asc, lookKid, SortedAt, Node48At, Node256At, InnerAt}
+use Rattle.model.specs.Body.{Asc, lookKid, SortedAt, Node48At, Node256At, InnerAt}
 use Rattle.model.specs.Frame.{LayKids, nil, kid, pairs, Places}
 use Rattle.node.specs.Kids.{setKid, placeOf}
 use Rattle.node.specs.Moved.{Keeps, Cleared}
 use Rattle.node.proofs.MoveLaws.{only-put}
-use Rattle.node.proofs.KidsLaws.{place-lt, look-in}
+use Rattle.node.proofs.KidsLaws.{place-lt}
 use Rattle.node.proofs.SortedLaws.{sorted-set, sorted-empty, sorted-keeps, sorted-one}
-use Rattle.node_big.proofs.Laws48.{set48, empty48, keeps48, one48, look48-in, some48}
-use Rattle.node_big.proofs.Laws256.{set256, empty256, keeps256, one256, find256}
+use Rattle.node_big.proofs.Laws48.{set48, empty48, keeps48, one48}
+use Rattle.node_big.proofs.Laws256.{set256, empty256, keeps256, one256}
 use Rattle.inner.specs.Inner.{sortedBytes, placeAt, linkAt, Emptied}
 
 -- ---- the kinds
@@ -176,25 +175,6 @@ module _ {f : List ℕ} {o kind : ℕ} (b s0 : ℕ) (ks : List (ℕ × ℕ)) (N 
       (λ e.
       rw e (rw (link-48 o 6 (placeOf b ks) (byteAt f (o + node48Index + b)) b refl) (omega arith, omega (arith, N .six e .place b b8), λ z. omega arith)))
       (λ e. rw e (rw (link-256 o 7 (placeOf b ks) 0 b refl) (omega arith, omega arith, λ z. absurd (omega arith))))
-
-  pub link-read : le 4 f (linkAt o kind (placeOf b ks) (placeAt f o kind b) b) ≡ s0
-  link-read = by-kind (λ k. le 4 f (linkAt o k (placeOf b ks) (placeAt f o k b) b) ≡ s0) kind (N .range)
-      (λ h.
-      let S = as-sorted N h in
-      let l = place-lt b ks has in
-      let x = look-in b ks l in
-      let c : childIn ks (placeOf b ks) ≡ s0 = some-inj (sym x ∙ has) in
-      rw (link-sorted o kind (placeOf b ks) (placeAt f o kind b) b h) (S .children (placeOf b ks) (omega (arith, S .few)) ∙ c))
-      (λ e.
-      let q = some48 b ks (N .six e) b8 refl has in
-      let x = look48-in b ks (N .six e) b8 (omega (arith, le1 f (o + node48Index + b))) in
-      rw e (rw (link-48 o 6 (placeOf b ks) (byteAt f (o + node48Index + b)) b refl) (some-inj (sym x ∙ has))))
-      (λ e.
-      let x = find256 b ks (N .seven e) b8 refl in
-      rw e (rw (link-256 o 7 (placeOf b ks) 0 b refl) (x ∙ rw has refl)))
-    where
-      some-inj : {x y : ℕ} → some x ≡ some y → x ≡ y
-      some-inj e = cc
 
   -- written, it names another child
   pub inner-set : (s : ℕ) → 1 ≤ s → s < 4294967296 → InnerAt (put 4 f (linkAt o kind (placeOf b ks) (placeAt f o kind b) b) s) o kind (setKid b s ks)

@@ -11,7 +11,7 @@ use Rattle.layout.specs.Place.{node4Bytes, node16Bytes, node48Index, node48Chil
 use Rattle.layout.specs.Kind.{Node48, bodySize, most}
 use Rattle.model.specs.Strings.{pick}
 use Rattle.model.specs.Body.{InnerAt, Zero, lookKid, childIn}
-use Rattle.node.specs.Kids.{insertKid, removeKid, setKid, Reached}
+use Rattle.node.specs.Kids.{insertKid, removeKid, Reached}
 use Rattle.node.specs.Moved.{Only}
 use Rattle.node_big.specs.Indexed.{Lowest, Numbered}
 
@@ -104,11 +104,6 @@ pub record Removed (f g : List ℕ) (o kind b : ℕ) : Type 0 where
   pub only : Only f g o (o + bodySize kind)
   pub inner : (ks : List (ℕ × ℕ)) → InnerAt f o kind ks → InnerAt g o kind (removeKid b ks)
   pub others : OtherPlaces f g o kind b
-
-pub record Replaced (f g : List ℕ) (o kind b slot : ℕ) : Type 0 where
-  pub only : Only f g o (o + bodySize kind)
-  pub inner : (ks : List (ℕ × ℕ)) → InnerAt f o kind ks → InnerAt g o kind (setKid b slot ks)
-  pub places : (d : ℕ) → d < 256 → placeAt g o kind d ≡ placeAt f o kind d
 
 pub record Carried (f g : List ℕ) (from kind to kind' : ℕ) : Type 0 where
   pub only : Only f g to (to + bodySize kind')

@@ -1,6 +1,5 @@
-// Children set, added and removed in an inner body of any kind.
+// Children added and removed in an inner body of any kind.
 use crate::look;
-use fields::body::Node;
 use layout::kind;
 use layout::kind::Kind;
 use node::moves;
@@ -10,7 +9,7 @@ use node_big::node256;
 ghost use Prim.Native.Nat.{_+_, _≤_, _<_};
 ghost use lib.ListN.{length};
 ghost use Rattle.layout.specs.Kind.{bodySize};
-ghost use Rattle.inner.specs.Inner.{NodeOpen, NodeHas, Emptied, Added, Removed, Replaced};
+ghost use Rattle.inner.specs.Inner.{NodeOpen, NodeHas, Emptied, Added, Removed};
 
 // A body of no children.
 pub fn empty(f: &mut [u8], o: usize, kind: usize)
@@ -18,15 +17,6 @@ pub fn empty(f: &mut [u8], o: usize, kind: usize)
     ensures { λ _. ⌜ Emptied (now (f .entry)) (now (f .exit)) o kind ⌝ }
 {
     moves::clear(f, o, kind::body_size(kind));
-}
-
-// Another child at byte b, which has one.
-pub fn set_child(f: &mut [u8], o: usize, kind: usize, b: u8, slot: usize)
-    requires { ⌜ NodeHas (now f) o kind b × (1 ≤ slot) × (slot < 4294967296) ⌝ }
-    ensures { λ _. ⌜ Replaced (now (f .entry)) (now (f .exit)) o kind b slot ⌝ }
-{
-    let at = look::link(f, o, kind, b);
-    Node::set_child(f, at, slot);
 }
 
 // A child at byte b, which has none, in a body that is not full.

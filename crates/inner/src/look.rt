@@ -2,10 +2,9 @@
 use fields::body::Node;
 use fields::body::Node4;
 use fields::body::Node16;
-use fields::body::Node256;
 use layout::kind;
 use layout::kind::Kind;
-use node::CHILD_SIZE;
+use node::Seat;
 use node::sorted;
 use node_big::node48;
 use node_big::node256;
@@ -15,7 +14,7 @@ ghost use Prim.Native.Nat.{ℕ, _+_, _≤_, _<_};
 ghost use lib.ListN.{length};
 ghost use Rattle.model.specs.Body.{InnerAt, lookKid};
 ghost use Rattle.node.specs.Kids.{orZero, placeOf};
-ghost use Rattle.inner.specs.Inner.{sortedBytes, placeAt, linkAt, NodeSome, NodeHas};
+ghost use Rattle.inner.specs.Inner.{sortedBytes, placeAt, linkAt, NodeSome};
 
 const SORTED_BYTES: [usize; 6] = [0, 0, 0, 0, Node4::BYTES, Node16::BYTES];
 
@@ -41,30 +40,16 @@ pub fn count(f: &[u8], o: usize) -> usize
     Node::count(f, o)
 }
 
-// The child of byte b, 0 where there is none.
-pub fn find(f: &[u8], o: usize, kind: usize, b: u8) -> usize
+// The child of byte b, 0 where there is none, and where it stands: four bytes that a caller may write.
+pub fn seat(f: &[u8], o: usize, kind: usize, b: u8) -> Seat
     requires { ⌜ NodeSome (now f) o kind ⌝ }
-    ensures { λ r. ⌜ ((ks : List (ℕ × ℕ)) → InnerAt (now (f .entry)) o kind ks → r ≡ orZero (lookKid b ks)) ⌝ }
+    ensures { λ r. ⌜ ((ks : List (ℕ × ℕ)) → InnerAt (now (f .entry)) o kind ks → (r .slot ≡ orZero (lookKid b ks)) × (r .link ≡ linkAt o kind (placeOf b ks) (placeAt (now (f .entry)) o kind b) b)) ⌝ }
 {
     if kind <= Kind::NODE16 {
-        return sorted::find(f, o, kind::most_children(kind), sorted_bytes(kind), b);
+        return sorted::seat(f, o, kind::most_children(kind), sorted_bytes(kind), b);
     }
     if kind == Kind::NODE48 {
-        return node48::find(f, o, b);
+        return node48::seat(f, o, b);
     }
-    node256::find(f, o, b)
-}
-
-// Where the child of byte b stands: four bytes that a caller may write.
-pub fn link(f: &[u8], o: usize, kind: usize, b: u8) -> usize
-    requires { ⌜ NodeHas (now f) o kind b ⌝ }
-    ensures { λ r. ⌜ ((ks : List (ℕ × ℕ)) → InnerAt (now (f .entry)) o kind ks → r ≡ linkAt o kind (placeOf b ks) (placeAt (now (f .entry)) o kind b) b) ⌝ }
-{
-    if kind <= Kind::NODE16 {
-        return sorted::link(f, o, kind::most_children(kind), sorted_bytes(kind), b);
-    }
-    if kind == Kind::NODE48 {
-        return node48::link(f, o, b);
-    }
-    o + Node256::CHILDREN + CHILD_SIZE * b as usize
+    node256::seat(f, o, b)
 }

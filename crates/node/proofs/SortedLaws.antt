@@ -45,14 +45,14 @@ has-place {b = b} H en P =
     let c = H .node .count in
     omega arith
 
-pub find-in : {f : List ℕ} {o cap bytes r : ℕ} (b i : ℕ) (ks : List (ℕ × ℕ)) → SortedAt f o cap bytes ks → i ≡ placeOf b ks → i < length ks → r ≡ le 4 f (o + bytes + cap + 4 * i) → r ≡ orZero (lookKid b ks)
-find-in {r = r} b i ks N e h q =
+pub seat-in : {f : List ℕ} {o cap bytes r : ℕ} (b i : ℕ) (ks : List (ℕ × ℕ)) → SortedAt f o cap bytes ks → i ≡ placeOf b ks → i < length ks → r ≡ le 4 f (o + bytes + cap + 4 * i) → r ≡ orZero (lookKid b ks)
+seat-in {r = r} b i ks N e h q =
     let few = N .few in
     let look : lookKid b ks ≡ some (childIn ks i) = rw e (look-in b ks (omega arith)) in
     rw look (q ∙ N .children i (omega arith))
 
-pub find-out : (b i : ℕ) (ks : List (ℕ × ℕ)) → i ≡ placeOf b ks → length ks ≤ i → 0 ≡ orZero (lookKid b ks)
-find-out b i ks e h = rw (look-out b ks (omega arith)) refl
+pub seat-out : (b i : ℕ) (ks : List (ℕ × ℕ)) → i ≡ placeOf b ks → length ks ≤ i → 0 ≡ orZero (lookKid b ks)
+seat-out b i ks e h = rw (look-out b ks (omega arith)) refl
 
 module _ {f : List ℕ} {o cap bytes : ℕ} {from : ℕ} (i : ℕ) (ks : List (ℕ × ℕ)) (N : SortedAt f o cap bytes ks) where
   pub next-in : {x y : ℕ} → i < length ks → ((k : ℕ) → k < i → byteAt f (o + bytes + k) < from) → from ≤ x → x ≡ le 1 f (o + bytes + i) → y ≡ le 4 f (o + bytes + cap + 4 * i)

@@ -10,3 +10,9 @@ pub struct Child {
     pub byte: usize,
     pub slot: usize,
 }
+
+// Where a byte leads: its child, 0 where there is none, and the place of the four bytes that name the child.
+pub struct Seat {
+    pub slot: usize,
+    pub link: usize,
+}

@@ -2,6 +2,7 @@
 // are in use, as many as the count, with bytes ascending.
 use crate::CHILD_SIZE;
 use crate::Child;
+use crate::Seat;
 use crate::moves;
 use fields::body::Node;
 use layout::number;
@@ -46,27 +47,25 @@ fn rank(f: &[u8], at: usize, n: usize, b: u8) -> usize
     i
 }
 
-// The child of byte b, 0 where there is none.
-pub fn find(f: &[u8], o: usize, cap: usize, bytes: usize, b: u8) -> usize
+// The child of byte b, 0 where there is none, and where it stands.
+pub fn seat(f: &[u8], o: usize, cap: usize, bytes: usize, b: u8) -> Seat
     requires { ⌜ Sorted (now f) o cap bytes ⌝ }
-    ensures { λ r. ⌜ ((ks : List (ℕ × ℕ)) → SortedAt (now (f .entry)) o cap bytes ks → r ≡ orZero (lookKid b ks)) ⌝ }
+    ensures { λ r. ⌜ ((ks : List (ℕ × ℕ)) → SortedAt (now (f .entry)) o cap bytes ks → (r .slot ≡ orZero (lookKid b ks)) × (r .link ≡ o + bytes + cap + 4 * placeOf b ks)) ⌝ }
 {
     let n = Node::count(f, o);
     let i = place(f, o + bytes, n, b);
+    let link = o + bytes + cap + CHILD_SIZE * i;
     if n <= i {
-        return 0;
+        return Seat {
+            slot: 0,
+            link: link,
+        };
     }
-    Node::child(f, o + bytes + cap + CHILD_SIZE * i)
-}
-
-// Where the child of byte b stands.
-pub fn link(f: &[u8], o: usize, cap: usize, bytes: usize, b: u8) -> usize
-    requires { ⌜ Sorted (now f) o cap bytes ⌝ }
-    ensures { λ r. ⌜ ((ks : List (ℕ × ℕ)) → SortedAt (now (f .entry)) o cap bytes ks → r ≡ o + bytes + cap + 4 * placeOf b ks) ⌝ }
-{
-    let n = Node::count(f, o);
-    let p = place(f, o + bytes, n, b);
-    o + bytes + cap + CHILD_SIZE * p
+    let s = Node::child(f, link);
+    Seat {
+        slot: s,
+        link: link,
+    }
 }
 
 // The child at place i.

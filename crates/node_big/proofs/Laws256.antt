@@ -35,8 +35,8 @@ unfolding slotOrNone
 slot-number zero = refl
 slot-number (suc s) = refl
 
-pub find256 : {f : List ℕ} {o r : ℕ} (b : ℕ) (ks : List (ℕ × ℕ)) → Node256At f o ks → b < 256 → r ≡ le 4 f (o + node256Children + 4 * b) → r ≡ orZero (lookKid b ks)
-find256 {f} {o} b ks N b8 e = e ∙ sym (slot-number (le 4 f (o + node256Children + 4 * b))) ∙ ap orZero (N .look b b8)
+pub seat256 : {f : List ℕ} {o r : ℕ} (b : ℕ) (ks : List (ℕ × ℕ)) → Node256At f o ks → b < 256 → r ≡ le 4 f (o + node256Children + 4 * b) → r ≡ orZero (lookKid b ks)
+seat256 {f} {o} b ks N b8 e = e ∙ sym (slot-number (le 4 f (o + node256Children + 4 * b))) ∙ ap orZero (N .look b b8)
 
 -- what one list has, every list of the body has
 pub has256 : {f : List ℕ} {o s : ℕ} (b : ℕ) (ks ls : List (ℕ × ℕ)) → b < 256 → Node256At f o ks → Node256At f o ls → lookKid b ks ≡ some s → lookKid b ls ≡ some s

@@ -57,14 +57,14 @@ module _ {f : List ℕ} {o : ℕ} (b : ℕ) (ks : List (ℕ × ℕ)) (N : Node48
   pub look48-out : byteAt f (o + node48Index + b) ≡ 0 → lookKid b ks ≡ none
   look48-out e = sym (N .look b b8) ∙ named-zero f o (byteAt f (o + node48Index + b)) e
 
-  pub find48-in : {p r : ℕ} → p ≡ le 1 f (o + node48Index + b) → (p ≡ 0 → ⊥) → r ≡ le 4 f (o + node48Children + 4 * (p - 1)) → r ≡ orZero (lookKid b ks)
-  find48-in {p} e h q =
+  pub seat48-in : {p r : ℕ} → p ≡ le 1 f (o + node48Index + b) → (p ≡ 0 → ⊥) → r ≡ le 4 f (o + node48Children + 4 * (p - 1)) → r ≡ orZero (lookKid b ks)
+  seat48-in {p} e h q =
       let e' : byteAt f (o + node48Index + b) ≡ p = sym (le1 f (o + node48Index + b)) ∙ sym e in
       let l : lookKid b ks ≡ some (le 4 f (o + node48Children + 4 * (p - 1))) = rw e' at (look48-in (omega arith)) in
       rw l q
 
-  pub find48-out : {p : ℕ} → p ≡ le 1 f (o + node48Index + b) → p ≡ 0 → 0 ≡ orZero (lookKid b ks)
-  find48-out e h = rw (look48-out (sym (le1 f (o + node48Index + b)) ∙ sym e ∙ h)) refl
+  pub seat48-out : {p : ℕ} → p ≡ le 1 f (o + node48Index + b) → p ≡ 0 → 0 ≡ orZero (lookKid b ks)
+  seat48-out e h = rw (look48-out (sym (le1 f (o + node48Index + b)) ∙ sym e ∙ h)) refl
 
   pub place48 : {p : ℕ} → p ≡ le 1 f (o + node48Index + b) → p ≤ 48
   place48 e = omega (arith, N .place b b8, le1 f (o + node48Index + b))

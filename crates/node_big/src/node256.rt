@@ -3,6 +3,7 @@ use fields::body::Node;
 use fields::body::Node256;
 use node::CHILD_SIZE;
 use node::Child;
+use node::Seat;
 ghost use mathlib.Core.Path.{_≡_};
 ghost use mathlib.Core.List.{List};
 ghost use mathlib.Core.Option.{none};
@@ -15,12 +16,17 @@ ghost use Rattle.node.specs.Kids.{orZero, insertKid, removeKid, nextKid};
 ghost use Rattle.node.specs.Moved.{Only};
 ghost use Rattle.node_big.specs.Indexed.{In256, Open256, Has256, Wrote256};
 
-// The child of byte b, 0 where there is none.
-pub fn find(f: &[u8], o: usize, b: u8) -> usize
+// The child of byte b, 0 where there is none, and where it stands.
+pub fn seat(f: &[u8], o: usize, b: u8) -> Seat
     requires { ⌜ In256 (now f) o ⌝ }
-    ensures { λ r. ⌜ ((ks : List (ℕ × ℕ)) → Node256At (now (f .entry)) o ks → r ≡ orZero (lookKid b ks)) ⌝ }
+    ensures { λ r. ⌜ ((ks : List (ℕ × ℕ)) → Node256At (now (f .entry)) o ks → r .slot ≡ orZero (lookKid b ks)) × (r .link ≡ o + node256Children + 4 * b) ⌝ }
 {
-    Node::child(f, o + Node256::CHILDREN + CHILD_SIZE * b as usize)
+    let link = o + Node256::CHILDREN + CHILD_SIZE * b as usize;
+    let s = Node::child(f, link);
+    Seat {
+        slot: s,
+        link: link,
+    }
 }
 
 // The first child whose byte is `from` or more.

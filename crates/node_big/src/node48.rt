@@ -4,6 +4,7 @@ use fields::body::Node48;
 use layout::number;
 use node::CHILD_SIZE;
 use node::Child;
+use node::Seat;
 ghost use mathlib.Core.Path.{_≡_};
 ghost use mathlib.Core.List.{List};
 ghost use mathlib.Core.Option.{none};
@@ -16,25 +17,26 @@ ghost use Rattle.node.specs.Kids.{orZero, insertKid, removeKid, nextKid};
 ghost use Rattle.node.specs.Moved.{Only};
 ghost use Rattle.node_big.specs.Indexed.{Lowest, In48, Open48, Has48, Wrote48};
 
-// The child of byte b, 0 where there is none.
-pub fn find(f: &[u8], o: usize, b: u8) -> usize
+// The child of byte b, 0 where there is none, and where it stands.
+pub fn seat(f: &[u8], o: usize, b: u8) -> Seat
     requires { ⌜ In48 (now f) o ⌝ }
-    ensures { λ r. ⌜ ((ks : List (ℕ × ℕ)) → Node48At (now (f .entry)) o ks → r ≡ orZero (lookKid b ks)) ⌝ }
+    ensures { λ r. ⌜ ((ks : List (ℕ × ℕ)) → Node48At (now (f .entry)) o ks → r .slot ≡ orZero (lookKid b ks))
+        × (r .link ≡ o + node48Children + 4 * (byteAt (now (f .entry)) (o + node48Index + b) - 1)) ⌝ }
 {
     let p = number::read1(f, o + Node48::INDEX + b as usize);
+    let children = o + Node48::CHILDREN;
     if p == 0 {
-        return 0;
+        return Seat {
+            slot: 0,
+            link: children,
+        };
     }
-    Node::child(f, o + Node48::CHILDREN + CHILD_SIZE * (p - 1))
-}
-
-// Where the child of byte b stands.
-pub fn link(f: &[u8], o: usize, b: u8) -> usize
-    requires { ⌜ Has48 (now f) o b ⌝ }
-    ensures { λ r. ⌜ r ≡ o + node48Children + 4 * (byteAt (now (f .entry)) (o + node48Index + b) - 1) ⌝ }
-{
-    let p = number::read1(f, o + Node48::INDEX + b as usize);
-    o + Node48::CHILDREN + CHILD_SIZE * (p - 1)
+    let link = children + CHILD_SIZE * (p - 1);
+    let s = Node::child(f, link);
+    Seat {
+        slot: s,
+        link: link,
+    }
 }
 
 // The first child whose byte is `from` or more.

@@ -13,7 +13,7 @@ use Rattle.model.specs.Strings.{pick, hasZero}
 use Rattle.model.specs.Edition.{edition1}
 use Rattle.model.specs.Body.{Text}
 use Rattle.model.specs.Frame.{Begins}
-use Rattle.shape.proofs.DecideLaws.{clash}
+use Rattle.pieces.proofs.DecideLaws.{clash}
 
 -- ---- n bytes from a place
 

@@ -8,9 +8,10 @@ use lib.ListN.{length}
 use Rattle.layout.specs.Number.{le}
 use Rattle.layout.specs.Place.{atEdition, atN, atD, atB, atU, atSpare, headerSize}
 use Rattle.model.specs.Frame.{Numbers, Header}
-use Rattle.shape.specs.Decides.{Decides}
-use Rattle.shape.specs.Shape.{Blank, LengthFits, NumbersFit, numbersOf, HeaderTold}
-use Rattle.shape.proofs.DecideLaws.{clash}
+use Rattle.pieces.specs.Decides.{Decides}
+use Rattle.pieces.specs.Range.{Blank}
+use Rattle.shape.specs.Shape.{LengthFits, NumbersFit, numbersOf, HeaderTold}
+use Rattle.pieces.proofs.DecideLaws.{clash}
 
 -- the fields read
 pub record HeaderRead (f : List ℕ) (n d b u : ℕ) : Type 0 where

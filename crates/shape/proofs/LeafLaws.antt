@@ -13,8 +13,9 @@ use Rattle.layout.proofs.NumberLaws.{lt-or-le}
 use Rattle.model.specs.Edition.{edition1}
 use Rattle.model.specs.Tree.{up8}
 use Rattle.model.specs.Body.{LeafAt}
-use Rattle.shape.specs.Shape.{Blank, Clean, ExtentFits, Follows, Ends, KeyHere, LeafHere, LeafTold}
-use Rattle.shape.proofs.DecideLaws.{clash}
+use Rattle.pieces.specs.Range.{Blank, Clean, Alike}
+use Rattle.shape.specs.Shape.{ExtentFits, Ends, KeyHere, LeafHere, LeafTold}
+use Rattle.pieces.proofs.DecideLaws.{clash}
 use Rattle.shape.proofs.ZeroLaws.{blank-zero, zero-blank}
 use Rattle.shape.proofs.BytesLaws.{bytesFrom, bytes-long, bytes-text, bytes-append, text-left, clean-has, has-clean, LegalKey, legal-key, key-legal, walked-at, BeginsAt, begins-at, at-begins}
 
@@ -24,11 +25,11 @@ module _ (f : List ℕ) (e k : ℕ) (path : List ℕ) (depth : ℕ) where
   pub key-end : KeyHere f e k path depth → Ends path k depth
   key-end K = record { short = K .short; end = K .end }
 
-  pub key-follows : (n : ℕ) → n ≤ depth → n ≤ k → KeyHere f e k path depth → Follows f e path 0 n
-  key-follows n x y K i p q = K .same i (omega arith) (omega arith)
+  pub key-follows : (n : ℕ) → n ≤ depth → n ≤ k → KeyHere f e k path depth → Alike f e path 0 n
+  key-follows n x y K i l = let z : 0 + i ≡ i = omega arith in rw z (K .same i (omega arith) (omega arith))
 
-  pub key-here : (n : ℕ) → ((i : ℕ) → i < depth → i < k → i < n) → Ends path k depth → Follows f e path 0 n → Clean f e (e + k) → KeyHere f e k path depth
-  key-here n h E F C = record { short = E .short; clean = C; same = λ i x y. F i (omega arith) (h i x y); end = E .end }
+  pub key-here : (n : ℕ) → ((i : ℕ) → i < depth → i < k → i < n) → Ends path k depth → Alike f e path 0 n → Clean f e (e + k) → KeyHere f e k path depth
+  key-here n h E F C = record { short = E .short; clean = C; same = λ i x y. let z : 0 + i ≡ i = omega arith in rw z at (F i (h i x y)); end = E .end }
 
 -- no path at all
 pub key-lone : (f : List ℕ) (e k : ℕ) → Clean f e (e + k) → KeyHere f e k [] 0

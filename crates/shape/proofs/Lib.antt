@@ -1,4 +1,3 @@
-pub mod DecideLaws
 pub mod ZeroLaws
 pub mod BytesLaws
 pub mod HeaderLaws

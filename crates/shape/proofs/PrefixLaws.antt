@@ -6,13 +6,16 @@ use mathlib.Core.Bool.{Bool}
 use native.Mathlib.Omega.{arith}
 use lib.ListN.{length}
 use lib.Seq.{ext-getD}
-use Rattle.layout.specs.Number.{byteAt, le}
+use Rattle.layout.specs.Number.{le}
 use Rattle.layout.specs.Place.{prefixChild, prefixLength, prefixZero, prefixBytes}
 use Rattle.model.specs.Body.{PrefixAt}
-use Rattle.shape.specs.Decides.{Decides}
-use Rattle.shape.specs.Shape.{Blank, PrefixHere}
-use Rattle.shape.proofs.DecideLaws.{handed}
-use Rattle.shape.proofs.ZeroLaws.{blank-le, le-blank, blank-zero, zero-blank, range-join}
+use Rattle.pieces.specs.Decides.{Decides}
+use Rattle.pieces.specs.Range.{IsZero, Blank}
+use Rattle.shape.specs.Shape.{PrefixHere}
+use Rattle.pieces.proofs.DecideLaws.{handed}
+use Rattle.pieces.proofs.RangeLaws.{range-join}
+use Rattle.pieces.proofs.ZeroLaws.{blank-le, le-blank}
+use Rattle.shape.proofs.ZeroLaws.{blank-zero, zero-blank}
 use Rattle.shape.proofs.BytesLaws.{bytesFrom, bytes-long, bytes-text}
 
 module _ (f : List ℕ) (o n : ℕ) (long : n ≡ le 2 f (o + prefixLength)) where
@@ -38,7 +41,7 @@ module _ (f : List ℕ) (o n : ℕ) (long : n ≡ le 2 f (o + prefixLength)) whe
   prefix-end room low high two eight D =
       let s = bytes-long f (o + prefixBytes) n in
       let ten : Blank f (o + prefixZero) (o + prefixZero + 10)
-      = range-join (λ (a : ℕ). byteAt f a ≡ 0) (o + prefixZero) (o + 8) (o + prefixZero + 10)
+      = range-join (IsZero f) (o + prefixZero) (o + 8) (o + prefixZero + 10)
       (λ a x y. le-blank 2 f (o + prefixZero) two a x (omega arith)) (λ a x y. eight a x (omega arith)) in
       handed D
       (λ rest. record {

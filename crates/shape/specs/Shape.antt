@@ -6,17 +6,11 @@ use mathlib.Core.Bool.{Bool, true, false}
 use lib.ListN.{length, getD}
 use Rattle.layout.specs.Number.{le, byteAt}
 use Rattle.layout.specs.Place.{atEdition, atF, atN, atB, atU, atR, atX, atRoot, dataStart}
+use Rattle.pieces.specs.Range.{Clean}
 use Rattle.model.specs.Edition.{edition1}
 use Rattle.model.specs.Tree.{extentOf}
 use Rattle.model.specs.Body.{PrefixAt}
 use Rattle.model.specs.Frame.{Numbers, FrameLength, SlotCapacity, Header, LeafOf}
-
--- every byte of a range is 0, and none is
-abbrev pub Blank : List ℕ → ℕ → ℕ → Type 0
-Blank f from to = (a : ℕ) → from ≤ a → a < to → byteAt f a ≡ 0
-
-abbrev pub Clean : List ℕ → ℕ → ℕ → Type 0
-Clean f from to = (a : ℕ) → from ≤ a → a < to → byteAt f a ≡ 0 → ⊥
 
 -- ---- the header
 
@@ -67,10 +61,6 @@ pub record ExtentFits (e k size d b : ℕ) : Type 0 where
   pub high : e + size ≤ b
   pub some : 1 ≤ k
   pub most : k ≤ 112
-
--- the bytes from e are those of a path, at the places from..to
-abbrev pub Follows : List ℕ → ℕ → List ℕ → ℕ → ℕ → Type 0
-Follows f e path from to = (i : ℕ) → from ≤ i → i < to → byteAt f (e + i) ≡ getD path i 0
 
 -- the first depth bytes of a path are no more than k, or k and then a byte 0
 pub record Ends (path : List ℕ) (k depth : ℕ) : Type 0 where

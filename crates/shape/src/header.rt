@@ -1,8 +1,7 @@
 // The frame's length and its header.
-use crate::zero;
 use fields::header::Header;
 use layout::entry::Entry;
-ghost use Rattle.shape.specs.Decides.{Decides};
+ghost use Rattle.pieces.specs.Decides.{Decides};
 ghost use Rattle.shape.specs.Shape.{LengthFits, NumbersFit, HeaderTold};
 
 // F, a multiple of 8
@@ -78,8 +77,8 @@ pub fn header_good(f: &[u8]) -> bool
     if !numbers_fit(f.len(), n, d, b, u) {
         return false;
     }
-    if !zero::zero_range(f, Header::AT_SPARE, Header::SIZE) {
+    if !pieces::all_zero(f, Header::AT_SPARE, Header::SIZE) {
         return false;
     }
-    zero::zero_range(f, Header::SIZE + Entry::SIZE * u, d)
+    pieces::all_zero(f, Header::SIZE + Entry::SIZE * u, d)
 }

@@ -1,11 +1,10 @@
 // A Leaf's body and its extent, against the path that leads to it.
-use crate::zero;
 use fields::body::Leaf;
 ghost use Prim.Native.Nat.{ℕ, _+_, _≤_, _<_};
 ghost use mathlib.Core.List.{[]};
 ghost use lib.ListN.{length, take};
-ghost use Rattle.shape.specs.Decides.{Decides};
-ghost use Rattle.shape.specs.Shape.{ExtentFits, Follows, Ends, KeyHere, LeafTold};
+ghost use Rattle.pieces.specs.Decides.{Decides};
+ghost use Rattle.shape.specs.Shape.{ExtentFits, Ends, KeyHere, LeafTold};
 
 // the most bytes that a key has
 const KEY_MOST: usize = 112;
@@ -37,62 +36,6 @@ fn extent_fits(e: usize, k: usize, size: usize, d: usize, b: usize) -> bool
     e + size <= b
 }
 
-// The n bytes of the path from a place on are those of the key at e. All are looked at, so that several go at a time.
-fn alike(f: &[u8], e: usize, path: &[u8], from: usize, n: usize) -> bool
-    requires { ⌜ (e + from + n ≤ length (now f)) × (from + n ≤ length (now path)) ⌝ }
-    ensures { λ r. ⌜ Decides (Follows (now (f .entry)) e (now (path .entry)) from (from + n)) r ⌝ }
-{
-    let mut good = true;
-    let mut i = 0;
-    while i < n {
-        if f[e + from + i] == path[from + i] {
-            i += 1;
-            continue;
-        }
-        good = false;
-        i += 1;
-    }
-    good
-}
-
-// The first n bytes of the path, a few, are those of the key at e.
-fn follows_short(f: &[u8], e: usize, path: &[u8], n: usize) -> bool
-    requires { ⌜ (n < 8) × (e + n ≤ length (now f)) × (n ≤ length (now path)) ⌝ }
-    ensures { λ r. ⌜ Decides (Follows (now (f .entry)) e (now (path .entry)) 0 n) r ⌝ }
-{
-    if n < zero::QUARTER {
-        return alike(f, e, path, 0, n);
-    }
-    if !alike(f, e, path, 0, zero::QUARTER) {
-        return false;
-    }
-    alike(f, e, path, n - zero::QUARTER, zero::QUARTER)
-}
-
-// The first n bytes of the path are those of the key at e. In pieces, as `no_zero`.
-fn follows(f: &[u8], e: usize, path: &[u8], n: usize) -> bool
-    requires { ⌜ (e + n ≤ length (now f)) × (n ≤ length (now path)) ⌝ }
-    ensures { λ r. ⌜ Decides (Follows (now (f .entry)) e (now (path .entry)) 0 n) r ⌝ }
-{
-    if n < zero::HALF {
-        return follows_short(f, e, path, n);
-    }
-    if n < zero::PIECE {
-        if !alike(f, e, path, 0, zero::HALF) {
-            return false;
-        }
-        return alike(f, e, path, n - zero::HALF, zero::HALF);
-    }
-    let mut i = 0;
-    while i + zero::PIECE < n {
-        if !alike(f, e, path, i, zero::PIECE) {
-            return false;
-        }
-        i += zero::PIECE;
-    }
-    alike(f, e, path, n - zero::PIECE, zero::PIECE)
-}
-
 // A path of a depth ends within a key of k bytes, or with the byte 0 behind it.
 fn ends(path: &[u8], k: usize, depth: usize) -> bool
     requires { ⌜ depth ≤ length (now path) ⌝ }
@@ -121,10 +64,10 @@ fn key_good(f: &[u8], e: usize, k: usize, path: &[u8], depth: usize) -> bool
     if !ends(path, k, depth) {
         return false;
     }
-    if !follows(f, e, path, lesser(depth, k)) {
+    if !pieces::same(f, e, path, 0, lesser(depth, k)) {
         return false;
     }
-    zero::no_zero(f, e, e + k)
+    pieces::no_zero(f, e, e + k)
 }
 
 // The body at o is a Leaf's whose extent lies between d and b, and the path leads to it.
@@ -143,7 +86,7 @@ pub fn leaf_good(f: &[u8], o: usize, path: &[u8], depth: usize, d: usize, b: usi
     if !extent_fits(e, k, size, d, b) {
         return none;
     }
-    if !zero::zero_eight(f, o + Leaf::ZERO) {
+    if !pieces::zero_eight(f, o + Leaf::ZERO) {
         return none;
     }
     if !key_good(f, e, k, path, depth) {
@@ -172,10 +115,10 @@ pub fn lone_good(f: &[u8], o: usize, d: usize, b: usize) -> LeafFound
     if !extent_fits(e, k, size, d, b) {
         return none;
     }
-    if !zero::zero_eight(f, o + Leaf::ZERO) {
+    if !pieces::zero_eight(f, o + Leaf::ZERO) {
         return none;
     }
-    if !zero::full(f, e, k) {
+    if !pieces::no_zero(f, e, e + k) {
         return none;
     }
     LeafFound {

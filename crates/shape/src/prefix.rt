@@ -1,10 +1,9 @@
 // A Prefix's body.
-use crate::zero;
 use fields::body::Prefix;
 use layout::number;
 ghost use Prim.Native.Nat.{_+_, _≤_};
 ghost use lib.ListN.{length};
-ghost use Rattle.shape.specs.Decides.{Decides};
+ghost use Rattle.pieces.specs.Decides.{Decides};
 ghost use Rattle.shape.specs.Shape.{PrefixHere};
 
 // It has 1 to 112 bytes, and the rest is zero.
@@ -22,8 +21,8 @@ pub fn prefix_good(f: &[u8], o: usize) -> bool
     if number::read2(f, o + Prefix::ZERO) != 0 {
         return false;
     }
-    if !zero::zero_eight(f, o + (Prefix::ZERO + 2)) {
+    if !pieces::zero_eight(f, o + (Prefix::ZERO + 2)) {
         return false;
     }
-    zero::zero_range(f, o + Prefix::BYTES + n, o + Prefix::SIZE)
+    pieces::all_zero(f, o + Prefix::BYTES + n, o + Prefix::SIZE)
 }

@@ -13,8 +13,8 @@ use Rattle.layout.specs.Number.{byteAt, le}
 use Rattle.layout.specs.Place.{node48Index, node48Children}
 use Rattle.layout.proofs.NumberLaws.{lt-or-le}
 use Rattle.model.specs.Body.{namedChild}
-use Rattle.shape.specs.Decides.{Decides}
-use Rattle.shape.proofs.DecideLaws.{handed}
+use Rattle.pieces.specs.Decides.{Decides}
+use Rattle.pieces.proofs.DecideLaws.{handed}
 use Rattle.shape_inner.specs.Inner.{child48, Unmarked, IndexedHere}
 use Rattle.shape_inner.proofs.KidsLaws.{Counted, counted-none, counted-some, counted-end}
 

@@ -13,9 +13,9 @@ use Rattle.layout.specs.Place.{nodeCount, nodeZero, node4Bytes, node16Bytes, no
 use Rattle.layout.specs.Kind.{bodySize}
 use Rattle.layout.proofs.NumberLaws.{lt-or-le, le-lt}
 use Rattle.model.specs.Body.{namedChild, slotOrNone, SortedAt, Node48At, Node256At, InnerAt}
-use Rattle.shape.specs.Decides.{Decides}
-use Rattle.shape.proofs.DecideLaws.{handed}
-use Rattle.shape.proofs.ZeroLaws.{blank-le, le-blank}
+use Rattle.pieces.specs.Decides.{Decides}
+use Rattle.pieces.proofs.DecideLaws.{handed}
+use Rattle.pieces.proofs.ZeroLaws.{blank-le, le-blank}
 use Rattle.shape_inner.specs.Inner.{CountFits, InnerHere, sortedKids, SortedHere, child48, child256, kids48, kids256, IndexedHere}
 use Rattle.shape_inner.proofs.KidsLaws.{Small, kids-asc, kids-look, kids-only}
 use Rattle.shape_inner.proofs.SortedLaws.{sorted-long, sorted-only, sorted-here, here-sorted}

@@ -11,7 +11,7 @@ use Rattle.layout.specs.Number.{byteAt, le, Bytes}
 use Rattle.layout.specs.Place.{nodeCount, nodeZero}
 use Rattle.layout.proofs.NumberLaws.{lt-or-le, le-lt}
 use Rattle.model.specs.Body.{Asc, SortedAt}
-use Rattle.shape.proofs.ZeroLaws.{range-more}
+use Rattle.pieces.proofs.RangeLaws.{range-more}
 use Rattle.shape_inner.specs.Inner.{sortedKids, Unused, SortedHere}
 
 -- ---- the bytes ascend, one after the other

@@ -12,7 +12,7 @@ ghost use mathlib.Core.Path.{_≡_};
 ghost use lib.ListN.{length};
 ghost use Rattle.layout.specs.Kind.{bodySize};
 ghost use Rattle.model.specs.Body.{Asc};
-ghost use Rattle.shape.specs.Decides.{Decides};
+ghost use Rattle.pieces.specs.Decides.{Decides};
 ghost use Rattle.shape_inner.specs.Inner.{CountFits, InnerHere, sortedKids, Unused, SortedHere, Unmarked, IndexedHere, kids256};
 
 // Bytes of a child.

@@ -6,7 +6,7 @@ use layout::entry::Entry;
 ghost use Rattle.answers.specs.Number.{formatNumber};
 ghost use Rattle.model.specs.Edition.{edition1};
 ghost use Rattle.model.specs.Promise.{FormatPromise};
-ghost use Rattle.shape.specs.Decides.{Decides};
+ghost use Rattle.pieces.specs.Decides.{Decides};
 ghost use Rattle.blank.specs.Limits.{Limits};
 
 const LEAST_LENGTH: usize = 1024;

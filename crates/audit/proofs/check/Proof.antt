@@ -3,7 +3,7 @@ use mathlib.Core.Path.{refl, ap}
 use native.Mathlib.Omega.{arith}
 use borrow.Author.Tests.{not-true, not-false}
 use Rattle.answers.specs.Number.{checkNumber}
-use Rattle.shape.proofs.DecideLaws.{refuted, passed}
+use Rattle.pieces.proofs.DecideLaws.{refuted, passed}
 use Rattle.audit.proofs.WholeLaws.{audit-length, audit-bad, audit-good, header-none}
 use borrow.Author.Needs.{needs}
 use Rattle.audit.proofs.check.Statement.{statement}

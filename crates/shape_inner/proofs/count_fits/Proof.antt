@@ -1,7 +1,7 @@
 -- `count_fits` decides that a kind may have so many children. Assumes nothing.
 use native.Mathlib.Omega.{arith}
 use borrow.Author.Needs.{needs}
-use Rattle.shape.proofs.DecideLaws.{denied, by-le}
+use Rattle.pieces.proofs.DecideLaws.{denied, by-le}
 use Rattle.shape_inner.proofs.count_fits.Statement.{statement}
 use Rattle.shape_inner.proofs.count_fits.Tie as tie
 

@@ -3,7 +3,7 @@ use Prim.Native.Nat.{_-_, _≤_}
 use mathlib.Core.Path.{sym, _∙_}
 use native.Mathlib.Omega.{arith}
 use borrow.Author.Needs.{needs}
-use Rattle.shape.proofs.DecideLaws.{by-eq}
+use Rattle.pieces.proofs.DecideLaws.{by-eq}
 use Rattle.shape_inner.specs.Inner.{child256}
 use Rattle.shape_inner.proofs.KidsLaws.{Counted, counted-end, direct-skip, direct-more}
 use Rattle.shape_inner.proofs.direct_good.Statement.{statement}

@@ -6,7 +6,7 @@ use borrow.Author.Needs.{needs}
 use Rattle.layout.proofs.NumberLaws.{le1}
 use Rattle.layout.specs.Place.{node48Index}
 use Rattle.layout.specs.Number.{byteAt}
-use Rattle.shape.proofs.DecideLaws.{denied}
+use Rattle.pieces.proofs.DecideLaws.{denied}
 use Rattle.shape_inner.proofs.IndexedLaws.{Marked, marked-none, marked-skip, marked-more, marked-far, marked-twice, marked-count, marked-end}
 use Rattle.shape_inner.proofs.indexed_good.Statement.{statement}
 use Rattle.shape_inner.proofs.indexed_good.Tie as tie

@@ -5,7 +5,7 @@ use native.Mathlib.Omega.{arith}
 use borrow.Author.Needs.{needs}
 use Rattle.layout.proofs.KindLaws.{size-least}
 use Rattle.layout.specs.Number.{le}
-use Rattle.shape.proofs.DecideLaws.{denied, refuted, passed}
+use Rattle.pieces.proofs.DecideLaws.{denied, refuted, passed}
 use Rattle.shape_inner.proofs.InnerLaws.{Head, inner-fits, inner-two, inner-four, node4-end, node16-end, node48-end, node256-end}
 use Rattle.shape_inner.proofs.inner_good.Statement.{statement}
 use Rattle.shape_inner.proofs.inner_good.Tie as tie

@@ -5,7 +5,7 @@ use native.Mathlib.Omega.{arith}
 use borrow.Author.Needs.{needs}
 use Rattle.layout.proofs.NumberLaws.{le1}
 use Rattle.layout.specs.Number.{byteAt}
-use Rattle.shape.proofs.DecideLaws.{granted, denied}
+use Rattle.pieces.proofs.DecideLaws.{granted, denied}
 use Rattle.shape_inner.proofs.SortedLaws.{Left, left-all, left-more, left-low, left-end}
 use Rattle.shape_inner.proofs.rising.Statement.{statement}
 use Rattle.shape_inner.proofs.rising.Tie as tie

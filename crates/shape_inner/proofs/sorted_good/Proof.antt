@@ -1,6 +1,6 @@
 -- `sorted_good` decides the body of a Node4 or Node16 by its two halves. Assumes nothing.
 use borrow.Author.Needs.{needs}
-use Rattle.shape.proofs.DecideLaws.{denied, refuted, passed, handed}
+use Rattle.pieces.proofs.DecideLaws.{denied, refuted, passed, handed}
 use Rattle.shape_inner.proofs.sorted_good.Statement.{statement}
 use Rattle.shape_inner.proofs.sorted_good.Tie as tie
 

@@ -6,7 +6,7 @@ use borrow.Author.Count.{below-more}
 use borrow.Author.Needs.{needs}
 use lib.ListN.{getD}
 use Rattle.layout.specs.Number.{le}
-use Rattle.shape.proofs.DecideLaws.{granted, denied}
+use Rattle.pieces.proofs.DecideLaws.{granted, denied}
 use Rattle.shape_inner.proofs.unmarked.Statement.{statement}
 use Rattle.shape_inner.proofs.unmarked.Tie as tie
 

@@ -4,7 +4,7 @@ use mathlib.Core.Path.{_≡_}
 use native.Mathlib.Omega.{arith}
 use borrow.Author.Needs.{needs}
 use Rattle.layout.proofs.NumberLaws.{le1}
-use Rattle.shape.proofs.DecideLaws.{granted, denied}
+use Rattle.pieces.proofs.DecideLaws.{granted, denied}
 use Rattle.shape_inner.specs.Inner.{Unused}
 use Rattle.shape_inner.proofs.SortedLaws.{unused-none, unused-more}
 use Rattle.shape_inner.proofs.unused.Statement.{statement}

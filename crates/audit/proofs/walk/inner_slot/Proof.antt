@@ -1,7 +1,7 @@
 -- `inner_slot` decides `InnerSlot`. Assumes nothing.
 use native.Mathlib.Omega.{arith}
 use borrow.Author.Needs.{needs}
-use Rattle.shape.proofs.DecideLaws.{denied, by-le}
+use Rattle.pieces.proofs.DecideLaws.{denied, by-le}
 use Rattle.audit.proofs.walk.inner_slot.Statement.{statement}
 use Rattle.audit.proofs.walk.inner_slot.Tie as tie
 

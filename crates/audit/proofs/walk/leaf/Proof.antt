@@ -3,7 +3,7 @@ use native.Mathlib.Omega.{arith}
 use Prim.Native.Nat.{_+_, _≤_}
 use borrow.Author.Needs.{needs}
 use borrow.Author.Tests.{not-true, not-false}
-use Rattle.audit.proofs.WalkLaws.{at-body, at-on, live-leaf, leaf-whole, leaf-bad, leaf-on}
+use Rattle.audit.proofs.WalkLaws.{leaf-body, leaf-whole, leaf-bad, leaf-on}
 use Rattle.audit.proofs.walk.leaf.Statement.{statement}
 use Rattle.audit.proofs.walk.leaf.Tie as tie
 
@@ -17,7 +17,7 @@ same-length : tie.Need-same-length
 same-length c = search needs
 
 returns : tie.Need-returns
-returns c = at-body (c .before .before .before .before .before .body .ensures) (not-true _ (c .before .if1 .taken)) (c .refused .ensures)
+returns c = leaf-body (c .before .before .before .before .before .body .ensures) (not-true _ (c .before .if1 .taken)) (c .refused .ensures)
 
 leaf-good-requires : tie.Need-leaf-good-requires
 leaf-good-requires c κs =
@@ -34,7 +34,7 @@ same-length-2 c = search needs
 
 returns-2 : tie.Need-returns-2
 returns-2 c =
-    at-on (c .before .before .before .before .before .before .before .before .body .ensures) (not-false _ (c .before .before .before .before .if1 .left)) live-leaf (leaf-bad (c .before .before .before .leaf-good .ensures) (not-true _ (c .before .if2 .taken)) (c .refused2 .ensures))
+    leaf-bad (c .before .before .before .before .before .before .before .before .body .ensures) (not-false _ (c .before .before .before .before .if1 .left)) (c .before .before .before .leaf-good .ensures) (not-true _ (c .before .if2 .taken)) (c .refused2 .ensures)
 
 extent-requires : tie.Need-extent-requires
 extent-requires c κs =
@@ -47,7 +47,7 @@ same-length-3 c = search needs
 
 returns-3 : tie.Need-returns-3
 returns-3 c =
-    at-on (c .before .before .before .before .before .before .before .before .before .before .before .body .ensures) (not-false _ (c .before .before .before .before .before .before .before .if1 .left)) live-leaf (leaf-on (c .before .before .before .before .before .before .leaf-good .ensures .holds (not-false _ (c .before .before .before .before .if2 .left))) (c .before .before .extent .ensures))
+    leaf-on (c .before .before .before .before .before .before .before .before .before .before .before .body .ensures) (not-false _ (c .before .before .before .before .before .before .before .if1 .left)) (c .before .before .before .before .before .before .leaf-good .ensures .holds (not-false _ (c .before .before .before .before .if2 .left))) (c .before .before .extent .ensures)
 
 pub leaf-spec : {M : Type 1} → statement M
 leaf-spec =

@@ -1,8 +1,9 @@
 -- One law for each answer (RootLaws). Assumes nothing.
 use native.Mathlib.Omega.{arith}
 use borrow.Author.Tests.{not-true, not-false}
-use Rattle.shape.proofs.DecideLaws.{refuted, passed}
-use Rattle.audit.proofs.RootLaws.{zero-blank, blank-zero, empty-body, empty-zero, empty-good}
+use Rattle.pieces.proofs.DecideLaws.{refuted, passed}
+use Rattle.shape.proofs.ZeroLaws.{blank-zero, zero-blank}
+use Rattle.audit.proofs.RootLaws.{empty-body, empty-zero, empty-good}
 use borrow.Author.Needs.{needs}
 use Rattle.audit.proofs.whole.empty.Statement.{statement}
 use Rattle.audit.proofs.whole.empty.Tie as tie
@@ -31,7 +32,7 @@ same-length-2 c = search needs
 returns-2 : tie.Need-returns-2
 returns-2 c =
     let a = c .before .before .before .before .before .before .before .before .before .before .before .args in
-    empty-zero (c .before .before .before .before .before .before .before .body .ensures) (λ Z. refuted (c .before .before .zero-eight .ensures) (c .before .if2 .taken) (blank-zero (a .f .now) (a .o) Z)) (c .refused2 .ensures)
+    empty-zero (c .before .before .before .before .before .before .before .body .ensures) (λ Z. refuted (c .before .before .zero-eight .ensures) (c .before .if2 .taken) (zero-blank (a .f .now) (a .o) 8 Z)) (c .refused2 .ensures)
 
 same-length-3 : tie.Need-same-length-3
 same-length-3 c = search needs
@@ -39,7 +40,7 @@ same-length-3 c = search needs
 returns-3 : tie.Need-returns-3
 returns-3 c =
     let a = c .before .before .before .before .before .before .before .before .before .before .args in
-    empty-good (c .before .before .before .before .before .before .body .ensures) (not-false _ (c .before .before .if1 .left)) (zero-blank (a .f .now) (a .o) (passed (c .before .zero-eight .ensures) (c .if2 .left)))
+    empty-good (c .before .before .before .before .before .before .body .ensures) (not-false _ (c .before .before .if1 .left)) (blank-zero (a .f .now) (a .o) 8 (passed (c .before .zero-eight .ensures) (c .if2 .left)))
 
 pub empty-spec : {M : Type 1} → statement M
 empty-spec =

@@ -1,5 +1,5 @@
 -- One law for each answer (RootLaws). Assumes nothing.
-use mathlib.Core.Path.{refl}
+use mathlib.Core.Path.{_∙_}
 use native.Mathlib.Omega.{arith}
 use Rattle.audit.proofs.WalkLaws.{slot-at}
 use Rattle.audit.proofs.RootLaws.{root-slot, root-empty, root-tree}
@@ -44,19 +44,18 @@ returns-4 c =
     let e = c .before .before .before .before .before .before .before .before .read .ensures in
     root-tree (e .0) (c .before .before .before .before .before .before .if3 .left) (slot-at (e .0) (e .1) (omega (arith, c .before .before .before .before .before .before .before .before .before .before .if1 .left)) (omega (arith, c .before .before .before .before .before .before .before .before .before .if2 .left)) (c .before .before .before .before .if4 .taken) (c .before .before .lone .ensures))
 
-slice-aggregate-deep : tie.Need-slice-aggregate-deep
-slice-aggregate-deep c = search needs
-
-deep-requires : tie.Need-deep-requires
-deep-requires c κs = search needs
+tree-requires : tie.Need-tree-requires
+tree-requires c κs =
+    let p = c .before .before .before .before .before .before .before .before .before .before .pre in
+    let e = c .before .before .before .before .before .read .ensures in
+    (p .0, p .1, p .2, omega (arith, c .before .before .before .before .before .before .before .if1 .left), omega (arith, c .before .before .before .before .before .before .if2 .left), λ q. c .before .if4 .left (e .0 ∙ q))
 
 same-length-3 : tie.Need-same-length-3
 same-length-3 c = search needs
 
 returns-5 : tie.Need-returns-5
 returns-5 c =
-    let e = c .before .before .before .before .before .before .before .before .before .before .read .ensures in
-    root-tree (e .0) (c .before .before .before .before .before .before .before .before .if3 .left) (slot-at (e .0) (e .1) (omega (arith, c .before .before .before .before .before .before .before .before .before .before .before .before .if1 .left)) (omega (arith, c .before .before .before .before .before .before .before .before .before .before .before .if2 .left)) refl (c .before .before .before .deep .ensures .1))
+    root-tree (c .before .before .before .before .before .before .before .before .read .ensures .0) (c .before .before .before .before .before .before .if3 .left) (c .before .before .tree .ensures)
 
 pub root-spec : {M : Type 1} → statement M
 root-spec =
@@ -73,7 +72,6 @@ root-spec =
     lone-requires
     same-length-2
     returns-4
-    slice-aggregate-deep
-    deep-requires
+    tree-requires
     same-length-3
     returns-5)

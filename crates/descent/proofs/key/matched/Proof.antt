@@ -1,4 +1,4 @@
--- `matched`: the bytes counted and those that what is left shares are all that is shared. Assumes nothing.
+-- `matched`: all bytes are shared, or the bytes counted and those that what is left shares are all that is shared. Assumes nothing.
 use Prim.Native.Nat.{_+_, _-_, _≤_}
 use mathlib.Core.Path.{refl, sym, _∙_, _≡_}
 use native.Mathlib.Omega.{arith}
@@ -6,7 +6,7 @@ use lib.ListN.{drop, length}
 use borrow.Author.Needs.{needs}
 use Rattle.model.specs.Strings.{shared}
 use Rattle.model.specs.Edition.{edition1}
-use Rattle.descent.proofs.KeyLaws.{walked-length, share-more, share-part, share-left, share-right}
+use Rattle.descent.proofs.KeyLaws.{walked-length, share-key, share-more, share-part, share-left, share-right}
 use Rattle.descent.proofs.key.matched.Statement.{statement}
 use Rattle.descent.proofs.key.matched.Tie as tie
 
@@ -16,17 +16,31 @@ Inv-loop p key d q₀ q = (q ≤ length p) × (shared p (drop d (edition1 .walke
 abbrev μ-loop : tie.MeasureT-loop
 μ-loop p key d q₀ q = length p - q
 
-loop-holds : tie.Need-loop-holds Inv-loop μ-loop
-loop-holds c = let d = c .before .before .args .d in let e : d + 0 ≡ d = omega arith in (omega arith, rw e (omega arith))
-
 add-if1 : tie.Need-add-if1 Inv-loop μ-loop
 add-if1 c = search needs
 
-returns : tie.Need-returns Inv-loop μ-loop
-returns c = let a = c .before .before .before .before .before .args in let l = c .before .before .loop in let p = a .p .now in let w = edition1 .walked (a .key .now) in let d = a .d in let n = walked-length (a .key .now) in sym (l .inv .1 ∙ share-right p w (l .q) (l .q) (d + l .q) (omega arith))
+same-requires : tie.Need-same-requires Inv-loop μ-loop
+same-requires c κs = search needs
 
-shared-slice-read-if2 : tie.Need-shared-slice-read-if2 Inv-loop μ-loop
-shared-slice-read-if2 c = search needs
+returns : tie.Need-returns Inv-loop μ-loop
+returns c = let a = c .before .before .before .before .before .args in share-key (a .p .now) (a .key .now) (a .d) (c .before .before .if1 .taken) (c .before .same .ensures .holds (c .if2 .taken))
+
+loop-holds : tie.Need-loop-holds Inv-loop μ-loop
+loop-holds c = let d = c .before .before .before .args .d in let e : d + 0 ≡ d = omega arith in (omega arith, rw e (omega arith))
+
+add-if3 : tie.Need-add-if3 Inv-loop μ-loop
+add-if3 c = search needs
+
+returns-2 : tie.Need-returns-2 Inv-loop μ-loop
+returns-2 c =
+    let a = c .before .before .before .before .before .before .args in
+    let l = c .before .before .loop in
+    let w = edition1 .walked (a .key .now) in
+    let n = walked-length (a .key .now) in
+    sym (l .inv .1 ∙ share-right (a .p .now) w (l .q) (l .q) (a .d + l .q) (omega arith))
+
+shared-slice-read-if4 : tie.Need-shared-slice-read-if4 Inv-loop μ-loop
+shared-slice-read-if4 c = search needs
 
 add-walked-at : tie.Need-add-walked-at Inv-loop μ-loop
 add-walked-at c = search needs
@@ -34,8 +48,13 @@ add-walked-at c = search needs
 walked-at-requires : tie.Need-walked-at-requires Inv-loop μ-loop
 walked-at-requires c κs = search needs
 
-returns-2 : tie.Need-returns-2 Inv-loop μ-loop
-returns-2 c = let a = c .before .before .before .before .before .before .before .before .args in let l = c .before .before .before .before .before .loop in let p = a .p .now in let w = edition1 .walked (a .key .now) in let d = a .d in let n = walked-length (a .key .now) in sym (l .inv .1 ∙ share-part p w (l .q) (l .q) (d + l .q) (omega arith) (omega arith) (λ e. c .if2 .taken (e ∙ sym (c .before .walked-at .ensures))))
+returns-3 : tie.Need-returns-3 Inv-loop μ-loop
+returns-3 c =
+    let a = c .before .before .before .before .before .before .before .before .before .args in
+    let l = c .before .before .before .before .before .loop in
+    let w = edition1 .walked (a .key .now) in
+    let n = walked-length (a .key .now) in
+    sym (l .inv .1 ∙ share-part (a .p .now) w (l .q) (l .q) (a .d + l .q) (omega arith) (omega arith) (λ e. c .if4 .taken (e ∙ sym (c .before .walked-at .ensures))))
 
 add-q : tie.Need-add-q Inv-loop μ-loop
 add-q c = search needs
@@ -44,10 +63,20 @@ loop-less : tie.Need-loop-less Inv-loop μ-loop
 loop-less c = search needs
 
 loop-again : tie.Need-loop-again Inv-loop μ-loop
-loop-again c = let a = c .before .before .before .before .before .before .before .before .args in let l = c .before .before .before .before .before .loop in let p = a .p .now in let w = edition1 .walked (a .key .now) in let d = a .d in let n = walked-length (a .key .now) in (omega arith, l .inv .1 ∙ share-more p w (l .q) (l .q) (d + l .q) (l .q + 1) (l .q + 1) (d + (l .q + 1)) refl refl (omega arith) (omega arith) (omega arith) (c .if2 .left ∙ c .before .walked-at .ensures))
+loop-again c =
+    let a = c .before .before .before .before .before .before .before .before .before .args in
+    let l = c .before .before .before .before .before .loop in
+    let w = edition1 .walked (a .key .now) in
+    let n = walked-length (a .key .now) in
+    (omega arith, l .inv .1 ∙ share-more (a .p .now) w (l .q) (l .q) (a .d + l .q) (l .q + 1) (l .q + 1) (a .d + (l .q + 1)) refl refl (omega arith) (omega arith) (omega arith) (c .if4 .left ∙ c .before .walked-at .ensures))
 
-returns-3 : tie.Need-returns-3 Inv-loop μ-loop
-returns-3 c = let a = c .before .before .before .before .args in let l = c .before .loop in let p = a .p .now in let w = edition1 .walked (a .key .now) in let d = a .d in let n = walked-length (a .key .now) in sym (l .inv .1 ∙ share-left p w (l .q) (l .q) (d + l .q) (omega arith))
+returns-4 : tie.Need-returns-4 Inv-loop μ-loop
+returns-4 c =
+    let a = c .before .before .before .before .before .args in
+    let l = c .before .loop in
+    let w = edition1 .walked (a .key .now) in
+    let n = walked-length (a .key .now) in
+    sym (l .inv .1 ∙ share-left (a .p .now) w (l .q) (l .q) (a .d + l .q) (omega arith))
 
 pub matched-spec : {M : Type 1} → statement M
 matched-spec =
@@ -55,14 +84,17 @@ matched-spec =
     (tie.spec
     Inv-loop
     μ-loop
-    loop-holds
     add-if1
+    same-requires
     returns
-    shared-slice-read-if2
+    loop-holds
+    add-if3
+    returns-2
+    shared-slice-read-if4
     add-walked-at
     walked-at-requires
-    returns-2
+    returns-3
     add-q
     loop-less
     loop-again
-    returns-3)
+    returns-4)

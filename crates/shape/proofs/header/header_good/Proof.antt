@@ -2,7 +2,7 @@
 use native.Mathlib.Omega.{arith}
 use borrow.Author.Needs.{needs}
 use Rattle.shape.proofs.HeaderLaws.{HeaderRead, header-denied, header-edition, header-numbers, header-end}
-use Rattle.shape.proofs.DecideLaws.{refuted, passed}
+use Rattle.pieces.proofs.DecideLaws.{refuted, passed}
 use Rattle.shape.proofs.header.header_good.Statement.{statement}
 use Rattle.shape.proofs.header.header_good.Tie as tie
 
@@ -43,28 +43,28 @@ returns-2 : tie.Need-returns-2
 returns-2 c = let m = c .before .before in
     header-denied _ (λ h H e. refuted (c .before .numbers-fit .ensures) (c .if2 .taken) (header-numbers _ _ _ _ _ (fields m) h H))
 
-zero-range-requires : tie.Need-zero-range-requires
-zero-range-requires c κs = search needs
+all-zero-requires : tie.Need-all-zero-requires
+all-zero-requires c κs = search needs
 
 returns-3 : tie.Need-returns-3
-returns-3 c = header-denied _ (λ h H e. refuted (c .before .zero-range .ensures) (c .if3 .taken) (H .spare))
+returns-3 c = header-denied _ (λ h H e. refuted (c .before .all-zero .ensures) (c .if3 .taken) (H .spare))
 
-mul-zero-range : tie.Need-mul-zero-range
-mul-zero-range c = search needs
+mul-all-zero : tie.Need-mul-all-zero
+mul-all-zero c = search needs
 
-add-zero-range : tie.Need-add-zero-range
-add-zero-range c = search needs
+add-all-zero : tie.Need-add-all-zero
+add-all-zero c = search needs
 
-zero-range-requires-2 : tie.Need-zero-range-requires-2
-zero-range-requires-2 c κs = let N = passed (c .before .before .before .numbers-fit .ensures) (c .before .before .if2 .left) in
+all-zero-requires-2 : tie.Need-all-zero-requires-2
+all-zero-requires-2 c κs = let N = passed (c .before .before .before .numbers-fit .ensures) (c .before .before .if2 .left) in
     let L = c .before .before .before .before .before .before .before .before .before .before .before .pre in
     omega arith
 
 returns-4 : tie.Need-returns-4
 returns-4 c = let m = c .before .before .before .before .before in
     let N = passed (c .before .before .before .before .numbers-fit .ensures) (c .before .before .before .if2 .left) in
-    let s = passed (c .before .before .zero-range .ensures) (c .before .if3 .left) in
-    header-end _ _ _ _ _ (fields m) (c .before .before .before .before .before .before .before .before .before .before .before .before .pre) (omega (arith, c .before .before .before .before .before .before .before .before .before .before .edition .ensures .0, c .before .before .before .before .before .before .before .before .before .if1 .left)) N s (c .zero-range2 .ensures)
+    let s = passed (c .before .before .all-zero .ensures) (c .before .if3 .left) in
+    header-end _ _ _ _ _ (fields m) (c .before .before .before .before .before .before .before .before .before .before .before .before .pre) (omega (arith, c .before .before .before .before .before .before .before .before .before .before .edition .ensures .0, c .before .before .before .before .before .before .before .before .before .if1 .left)) N s (c .all-zero2 .ensures)
 
 pub header-good-spec : {M : Type 1} → statement M
 header-good-spec =
@@ -78,9 +78,9 @@ header-good-spec =
     slots-given-requires
     numbers-fit-requires
     returns-2
-    zero-range-requires
+    all-zero-requires
     returns-3
-    mul-zero-range
-    add-zero-range
-    zero-range-requires-2
+    mul-all-zero
+    add-all-zero
+    all-zero-requires-2
     returns-4)

@@ -3,7 +3,7 @@ use native.Mathlib.Omega.{arith}
 use borrow.Author.Needs.{needs}
 use denote.Ref.{now}
 use lib.ListN.{length}
-use Rattle.shape.proofs.DecideLaws.{denied, by-eq}
+use Rattle.pieces.proofs.DecideLaws.{denied, by-eq}
 use Rattle.shape.proofs.header.length_good.Statement.{statement}
 use Rattle.shape.proofs.header.length_good.Tie as tie
 

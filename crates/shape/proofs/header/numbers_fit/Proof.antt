@@ -1,7 +1,7 @@
 -- `numbers_fit` decides the limits of N, D, B and U. Assumes nothing.
 use native.Mathlib.Omega.{arith}
 use borrow.Author.Needs.{needs}
-use Rattle.shape.proofs.DecideLaws.{denied, by-le}
+use Rattle.pieces.proofs.DecideLaws.{denied, by-le}
 use Rattle.shape.proofs.header.numbers_fit.Statement.{statement}
 use Rattle.shape.proofs.header.numbers_fit.Tie as tie
 

@@ -1,7 +1,7 @@
 -- `ends` decides `Ends`. Assumes nothing.
 use native.Mathlib.Omega.{arith}
 use borrow.Author.Needs.{needs}
-use Rattle.shape.proofs.DecideLaws.{granted, denied, by-eq}
+use Rattle.pieces.proofs.DecideLaws.{granted, denied, by-eq}
 use Rattle.shape.proofs.leaf.ends.Statement.{statement}
 use Rattle.shape.proofs.leaf.ends.Tie as tie
 

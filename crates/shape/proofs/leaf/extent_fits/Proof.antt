@@ -2,7 +2,7 @@
 use Prim.Native.Nat.{_+_}
 use native.Mathlib.Omega.{arith}
 use borrow.Author.Needs.{needs}
-use Rattle.shape.proofs.DecideLaws.{denied, by-le}
+use Rattle.pieces.proofs.DecideLaws.{denied, by-le}
 use Rattle.shape.proofs.leaf.extent_fits.Statement.{statement}
 use Rattle.shape.proofs.leaf.extent_fits.Tie as tie
 

@@ -2,7 +2,7 @@
 use native.Mathlib.Omega.{arith}
 use borrow.Author.Needs.{needs}
 use Rattle.shape.proofs.LeafLaws.{LeafRead, leaf-denied, leaf-extent, leaf-blank, leaf-key, leaf-end}
-use Rattle.shape.proofs.DecideLaws.{refuted, passed}
+use Rattle.pieces.proofs.DecideLaws.{refuted, passed}
 use Rattle.shape.proofs.leaf.leaf_good.Statement.{statement}
 use Rattle.shape.proofs.leaf.leaf_good.Tie as tie
 

@@ -3,7 +3,7 @@ use mathlib.Core.List.{[]}
 use native.Mathlib.Omega.{arith}
 use borrow.Author.Needs.{needs}
 use Rattle.shape.proofs.LeafLaws.{LeafRead, leaf-denied, leaf-extent, leaf-blank, leaf-key, leaf-end, key-lone}
-use Rattle.shape.proofs.DecideLaws.{refuted, passed}
+use Rattle.pieces.proofs.DecideLaws.{refuted, passed}
 use Rattle.shape.proofs.leaf.lone_good.Statement.{statement}
 use Rattle.shape.proofs.leaf.lone_good.Tie as tie
 
@@ -55,18 +55,21 @@ returns-2 c = let a = c .before .before .before .before .before .before .before 
     let m = c .before .before .before .before in
     leaf-denied (λ e n L. refuted (c .before .zero-eight .ensures) (c .if2 .taken) (leaf-blank (a .f .now) [] (a .o) (a .d) (a .b) 0 (m .before .before .extent .result) (m .before .key-length .result) (m .value-length .result) (omega arith) (fields m) e n L))
 
-full-requires : tie.Need-full-requires
-full-requires c κs = let X = passed (c .before .before .before .extent-fits .ensures) (c .before .before .if1 .left) in omega arith
+add-no-zero : tie.Need-add-no-zero
+add-no-zero c = search needs
+
+no-zero-requires : tie.Need-no-zero-requires
+no-zero-requires c κs = let X = passed (c .before .before .before .extent-fits .ensures) (c .before .before .if1 .left) in omega arith
 
 returns-3 : tie.Need-returns-3
 returns-3 c = let a = c .before .before .before .before .before .before .before .before .before .before .args in
     let m = c .before .before .before .before .before .before in
-    leaf-denied (λ e n L. refuted (c .before .full .ensures) (c .if3 .taken) (leaf-key (a .f .now) [] (a .o) (a .d) (a .b) 0 (m .before .before .extent .result) (m .before .key-length .result) (m .value-length .result) (omega arith) (fields m) e n L .clean))
+    leaf-denied (λ e n L. refuted (c .before .no-zero .ensures) (c .if3 .taken) (leaf-key (a .f .now) [] (a .o) (a .d) (a .b) 0 (m .before .before .extent .result) (m .before .key-length .result) (m .value-length .result) (omega arith) (fields m) e n L .clean))
 
 returns-4 : tie.Need-returns-4
 returns-4 c = let a = c .before .before .before .before .before .before .before .before .before .before .args in
     let m = c .before .before .before .before .before .before in
-    leaf-end (a .f .now) [] (a .o) (a .d) (a .b) 0 (m .before .before .extent .result) (m .before .key-length .result) (m .value-length .result) (omega arith) (fields m) (omega arith) (passed (c .before .before .before .before .before .extent-fits .ensures) (c .before .before .before .before .if1 .left)) (passed (c .before .before .before .zero-eight .ensures) (c .before .before .if2 .left)) (key-lone (a .f .now) (m .before .before .extent .result) (m .before .key-length .result) (passed (c .before .full .ensures) (c .if3 .left)))
+    leaf-end (a .f .now) [] (a .o) (a .d) (a .b) 0 (m .before .before .extent .result) (m .before .key-length .result) (m .value-length .result) (omega arith) (fields m) (omega arith) (passed (c .before .before .before .before .before .extent-fits .ensures) (c .before .before .before .before .if1 .left)) (passed (c .before .before .before .zero-eight .ensures) (c .before .before .if2 .left)) (key-lone (a .f .now) (m .before .before .extent .result) (m .before .key-length .result) (passed (c .before .no-zero .ensures) (c .if3 .left)))
 
 pub lone-good-spec : {M : Type 1} → statement M
 lone-good-spec =
@@ -83,6 +86,7 @@ lone-good-spec =
     add-zero-eight
     zero-eight-requires
     returns-2
-    full-requires
+    add-no-zero
+    no-zero-requires
     returns-3
     returns-4)

@@ -2,7 +2,7 @@
 use native.Mathlib.Omega.{arith}
 use borrow.Author.Needs.{needs}
 use Rattle.shape.proofs.PrefixLaws.{prefix-long, prefix-two, prefix-eight, prefix-end}
-use Rattle.shape.proofs.DecideLaws.{denied, refuted, passed}
+use Rattle.pieces.proofs.DecideLaws.{denied, refuted, passed}
 use Rattle.shape.proofs.prefix.prefix_good.Statement.{statement}
 use Rattle.shape.proofs.prefix.prefix_good.Tie as tie
 
@@ -39,22 +39,22 @@ returns-4 : tie.Need-returns-4
 returns-4 c = let a = c .before .before .before .before .before .before .before .before .args in let m = c .before .before .before .before .before .before in
     denied (λ p. refuted (c .before .zero-eight .ensures) (c .if4 .taken) (prefix-eight (a .f .now) (a .o) (m .length .result) (m .length .ensures .0) p))
 
-add-zero-range : tie.Need-add-zero-range
-add-zero-range c = search needs
+add-all-zero : tie.Need-add-all-zero
+add-all-zero c = search needs
 
-add-zero-range-2 : tie.Need-add-zero-range-2
-add-zero-range-2 c = search needs
+add-all-zero-2 : tie.Need-add-all-zero-2
+add-all-zero-2 c = search needs
 
-add-zero-range-3 : tie.Need-add-zero-range-3
-add-zero-range-3 c = search needs
+add-all-zero-3 : tie.Need-add-all-zero-3
+add-all-zero-3 c = search needs
 
-zero-range-requires : tie.Need-zero-range-requires
-zero-range-requires c κs = search needs
+all-zero-requires : tie.Need-all-zero-requires
+all-zero-requires c κs = search needs
 
 returns-5 : tie.Need-returns-5
 returns-5 c = let a = c .before .before .before .before .before .before .before .before .before .args in let m = c .before .before .before .before .before .before .before in
     prefix-end (a .f .now) (a .o) (m .length .result) (m .length .ensures .0) (omega arith) (omega arith) (omega arith) (omega arith)
-    (passed (c .before .before .zero-eight .ensures) (c .before .if4 .left)) (c .zero-range .ensures)
+    (passed (c .before .before .zero-eight .ensures) (c .before .if4 .left)) (c .all-zero .ensures)
 
 pub prefix-good-spec : {M : Type 1} → statement M
 prefix-good-spec =
@@ -70,8 +70,8 @@ prefix-good-spec =
     add-zero-eight-2
     zero-eight-requires
     returns-4
-    add-zero-range
-    add-zero-range-2
-    add-zero-range-3
-    zero-range-requires
+    add-all-zero
+    add-all-zero-2
+    add-all-zero-3
+    all-zero-requires
     returns-5)

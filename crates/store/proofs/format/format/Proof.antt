@@ -2,7 +2,7 @@
 use mathlib.Core.Path.{_≡_}
 use native.Mathlib.Omega.{arith}
 use lib.ListN.{length}
-use Rattle.shape.proofs.DecideLaws.{passed, refuted}
+use Rattle.pieces.proofs.DecideLaws.{passed, refuted}
 use Rattle.store.proofs.FormatLaws.{refused, formatted}
 use borrow.Author.Needs.{needs}
 use Rattle.store.proofs.format.format.Statement.{statement}

@@ -1,6 +1,6 @@
 -- Each test refuses what is against the limits, and what passes them all is within. Assumes nothing.
 use native.Mathlib.Omega.{arith}
-use Rattle.shape.proofs.DecideLaws.{granted, denied}
+use Rattle.pieces.proofs.DecideLaws.{granted, denied}
 use borrow.Author.Needs.{needs}
 use Rattle.store.proofs.format.limits_hold.Statement.{statement}
 use Rattle.store.proofs.format.limits_hold.Tie as tie
