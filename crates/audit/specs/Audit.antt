@@ -14,9 +14,6 @@ use Rattle.model.specs.Body.{Zero}
 use Rattle.model.specs.Frame.{Root, RootAt, rootSlot, rootItems, Stands, Good}
 use Rattle.model.specs.Frame as frame
 use Rattle.model.specs.Promise.{CheckPromise}
-use Rattle.answers.specs.declared.Refusal.{Refusal}
-use Rattle.answers.specs.declared.Check.{Check}
-use Rattle.answers.specs.declared.Check.the-variants as verdict
 use Rattle.shape.specs.Shape.{numbersOf}
 use Rattle.census.specs.declared.Sums.{Sums}
 use Rattle.census.specs.Told.{Told}
@@ -61,9 +58,6 @@ pub record Counted (f free : List ℕ) : Type 0 where
 pub record WholeTold (f : List ℕ) (good : Bool) (free : List ℕ) : Type 0 where
   pub holds : good ≡ true → Counted f free
   pub fails : good ≡ false → Good edition1 f → ⊥
-
-pub record Refused (why : Refusal) (v : Check) : Type 0 where
-  pub is : v ≡ verdict.Refused why
 
 -- the free counts and the header's numbers are the state's
 pub record RoomOf (free : List ℕ) (h : Header) (s : State) (root : Root) : Type 0 where

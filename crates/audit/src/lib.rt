@@ -2,25 +2,31 @@
 pub mod walk;
 pub mod whole;
 
-use answers::Check;
-use answers::Refusal;
 use fields::header::Header;
 use layout::kind::Kind;
 use shape::header::header_good;
 use shape::header::length_good;
 ghost use mathlib.Core.Path.{_≡_};
-ghost use Rattle.answers.specs.Number.{checkNumber};
-ghost use Rattle.audit.specs.Audit.{AuditTold, Refused};
+ghost use Rattle.audit.specs.Audit.{AuditTold};
 
-// The verdict, and of a good frame how many slots each list has, by kind, and what the header says.
+// The number, and of a good frame how many slots each list has, by kind, and what the header says.
 pub struct Audit {
-    pub verdict: Check,
+    pub number: usize,
     pub free: [usize; Kind::TABLE],
     pub header: Header,
 }
 
-fn refuse(why: Refusal) -> Audit
-    ensures { λ r. ⌜ Refused why (r .verdict) ⌝ }
+impl Audit {
+    // document 01's numbers
+    pub const GOOD: usize = 0;
+
+    pub const BAD_LENGTH: usize = 1;
+
+    pub const BAD_FRAME: usize = 2;
+}
+
+fn refuse(number: usize) -> Audit
+    ensures { λ r. ⌜ r .number ≡ number ⌝ }
 {
     let free: [usize; Kind::TABLE] = [0; Kind::TABLE];
     let header = Header {
@@ -34,7 +40,7 @@ fn refuse(why: Refusal) -> Audit
         root: 0,
     };
     Audit {
-        verdict: Check::Refused(why),
+        number: number,
         free: free,
         header: header,
     }
@@ -42,22 +48,22 @@ fn refuse(why: Refusal) -> Audit
 
 // 1 exactly if the slice's length is outside F's limits or differs from the stored F, 0 exactly if the frame is good, else 2.
 pub fn check(f: &[u8]) -> Audit
-    ensures { λ r. ⌜ AuditTold (now (f .entry)) (checkNumber (r .verdict)) (r .free) (r .header) ⌝ }
+    ensures { λ r. ⌜ AuditTold (now (f .entry)) (r .number) (r .free) (r .header) ⌝ }
 {
     if !length_good(f) {
-        return refuse(Refusal::Length);
+        return refuse(Audit::BAD_LENGTH);
     }
     if !header_good(f) {
-        return refuse(Refusal::Frame);
+        return refuse(Audit::BAD_FRAME);
     }
     let w = whole::all(f);
     if !w.good {
-        return refuse(Refusal::Frame);
+        return refuse(Audit::BAD_FRAME);
     }
     let free = w.free;
     let header = Header::read(f);
     Audit {
-        verdict: Check::Good,
+        number: Audit::GOOD,
         free: free,
         header: header,
     }

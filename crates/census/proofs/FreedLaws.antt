@@ -1,15 +1,17 @@
 -- The lists of freed slots, a slot and a list at a time. Assumes nothing.
-use Prim.Native.Nat.{ℕ, suc, _+_, _-_, _<_, _≤_}
+use Prim.Native.Nat.{ℕ, zero, suc, _+_, _*_, _-_, _<_, _≤_}
 use mathlib.Core.Path.{_≡_, refl, sym, ap, _∙_}
 use mathlib.Core.List.{List, [], _∷_, _++_, map, append-assoc, append-nil}
 use mathlib.Core.Bool.{true, false}
 use native.Mathlib.Omega.{arith}
-use lib.ListN.{length, take, set}
+use lib.ListN.{length, replicate, take, set}
 use lib.Seq.{take-suc-set}
 use Rattle.layout.specs.Number.{le}
-use Rattle.layout.specs.Place.{atHead}
+use Rattle.layout.specs.Place.{atHead, atSpare}
 use Rattle.layout.specs.Kind.{Crossing}
 use Rattle.layout.specs.Entry.{placeOf, highOf}
+use Rattle.pieces.specs.Range.{Blank}
+use Rattle.pieces.proofs.ZeroLaws.{blank-le}
 use Rattle.model.specs.Item.{Item, body, onSlot, sum}
 use Rattle.model.specs.Frame.{Chain, listItems, freed}
 use Rattle.model.proofs.ItemLaws.{in-under, sum-app, sum-cons}
@@ -17,7 +19,7 @@ use Rattle.model.proofs.UniqueLaws.{chain-unique}
 use Rattle.claims.specs.Units.{Each}
 use Rattle.census.specs.declared.Sums.{Sums}
 use Rattle.census.specs.Told.{isBody, Sited, Tally, BodyTold, Told}
-use Rattle.census.specs.Freed.{ChainItems, ListOf, ListItems, ListsOf, FreedItems, CountedFrom}
+use Rattle.census.specs.Freed.{ChainItems, ListOf, ListItems, ListsOf, FreedItems, CountedFrom, CountedItems}
 use Rattle.census.proofs.ToldLaws.{tidy-slot, tidy-part, grown-none, told-no, told-yes, told-as, told-on, told-first, body-sited}
 
 -- ---- along the links
@@ -154,3 +156,23 @@ unfolding ListsOf freed
 lists-end {before = before} e q T =
     told-yes (T .good)
     (record { items = []; are = record { at = record { lists = []; eight = omega arith; are = tt; items = refl }; counts = q ∙ sym (append-nil before) }; grown = grown-none; sited = tt; tally = T })
+
+-- ---- no list has a slot
+
+-- the n lists from a kind on, whose heads are zero bytes
+heads-zero : (f : List ℕ) (n kind : ℕ) → Blank f (atHead kind) (atHead kind + 2 * n) → ListsOf f kind (replicate n [])
+unfolding ListsOf Chain
+heads-zero f zero kind z = tt
+heads-zero f (suc n) kind z =
+    (record { chain = blank-le 2 f (atHead kind) (λ a x y. z a x (omega arith)); third = λ q. refl }, heads-zero f n (suc kind) (λ a x y. z a (omega arith) (omega arith)))
+
+freed-none : (n kind : ℕ) → freed kind (replicate n []) ≡ []
+unfolding freed listItems
+freed-none zero kind = refl
+freed-none (suc n) kind = freed-none n (suc kind)
+
+pub lists-none : {f : List ℕ} {d u b : ℕ} {m : List ℕ} {t : Sums} → Blank f (atHead 1) atSpare → Tally u 0 t
+    → Told (CountedItems f (replicate 9 0)) (FreedItems f 1) f d u b m t m t
+lists-none {f} z T =
+    told-yes (T .good)
+    (record { items = []; are = record { at = record { lists = replicate 8 []; eight = refl; are = heads-zero f 8 1 z; items = freed-none 8 1 }; counts = refl }; grown = grown-none; sited = tt; tally = T })

@@ -64,11 +64,17 @@ fn list(f: &[u8], map: &mut [u64], kind: usize, d: usize, u: usize, b: usize, t:
     kept(t)
 }
 
-// All eight, and how many slots each has.
+// All eight, and how many slots each has. Most frames have none: all the heads are looked at together first.
 pub fn lists(f: &[u8], map: &mut [u64], d: usize, u: usize, b: usize, t: Sums) -> Freed
     requires { ⌜ Ground (now f) d u b × Limits d u b (length (now map)) × Tally u 0 t ⌝ }
     ensures { λ r. ⌜ Told (CountedItems (now (f .entry)) (r .free)) (FreedItems (now (f .entry)) 1) (now (f .entry)) d u b (now (map .entry)) t (now (map .exit)) (r .sums) ⌝ }
 {
+    if pieces::all_zero(f, Header::AT_HEADS, Header::AT_SPARE) {
+        return Freed {
+            sums: kept(t),
+            free: [0; Kind::TABLE],
+        };
+    }
     let mut free: [usize; Kind::TABLE] = [0; Kind::TABLE];
     let mut sums = kept(t);
     let mut kind = 1;

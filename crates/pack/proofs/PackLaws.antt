@@ -22,9 +22,9 @@ use Rattle.pack.specs.Image.{Known, Imaged}
 refused : (f o : List ℕ) (n : ℕ) → CheckPromise edition1 f n → (n ≡ 0 → ⊥) → PackPromise edition1 f o n o
 refused f o n p ne = record { told = p .told; output7 = λ g x. absurd (ne (p .good0 g)); packed0 = λ s w e. absurd (ne (p .good0 (s, w))); kept = λ x. refl }
 
-module _ {f : List ℕ} {free : List ℕ} {h : Header} {m n : ℕ} (e : n ≡ m) (A : AuditTold f m free h) where
+module _ {f : List ℕ} {free : List ℕ} {h : Header} {n : ℕ} (A : AuditTold f n free h) where
   promised : CheckPromise edition1 f n
-  promised = rw e (A .promise)
+  promised = A .promise
 
   pub pack-one : (o : List ℕ) → n ≡ 1 → PackPromise edition1 f o 1 o
   pack-one o z = refused f o 1 (rw z at promised) (λ x. omega arith)

@@ -5,6 +5,7 @@ mod walk;
 
 use answers::Pack;
 use answers::Refusal;
+use audit::Audit;
 ghost use Rattle.answers.specs.Number.{packNumber};
 ghost use Rattle.model.specs.Edition.{edition1};
 ghost use Rattle.model.specs.Promise.{PackPromise};
@@ -14,12 +15,11 @@ pub fn pack(frame: &[u8], out: &mut [u8]) -> Pack
     ensures { λ r. ⌜ PackPromise edition1 (now (frame .entry)) (now (out .entry)) (packNumber r) (now (out .exit)) ⌝ }
 {
     let a = audit::check(frame);
-    let verdict = a.verdict;
-    let n = answers::check_number(verdict);
-    if n == 1 {
+    let n = a.number;
+    if n == Audit::BAD_LENGTH {
         return Pack::Refused(Refusal::Length);
     }
-    if n != 0 {
+    if n != Audit::GOOD {
         return Pack::Refused(Refusal::Frame);
     }
     if out.len() != frame.len() {

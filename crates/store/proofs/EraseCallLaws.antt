@@ -58,9 +58,9 @@ module _ (f k : List ℕ) where
 
 -- ---- the ends, by the tests that led there: n is the check's number, e the key's fault
 
-module _ (f k : List ℕ) {n m : ℕ} (is : n ≡ m) {free : List ℕ} {h : Header} (T : AuditTold f m free h) where
+module _ (f k : List ℕ) {n : ℕ} {free : List ℕ} {h : Header} (T : AuditTold f n free h) where
   checked : CheckPromise edition1 f n
-  checked = rw is (T .promise)
+  checked = T .promise
 
   pub erase-one : n ≡ 1 → ErasePromise edition1 f k 1 f
   erase-one e = refused-frame f k 1 (rw e at checked) (λ z. omega arith)
@@ -70,7 +70,7 @@ module _ (f k : List ℕ) {n m : ℕ} (is : n ≡ m) {free : List ℕ} {h : Head
 
   module _ (good : n ≡ 0) where
     stands : Good edition1 f
-    stands = let S = standing f k n m is (T .promise) good in (S .st, S .stands)
+    stands = let S = standing f k n (T .promise) good in (S .st, S .stands)
 
     pub erase-within : Within h
     erase-within = within (stands .1) (T .room (stands .0) (stands .1))

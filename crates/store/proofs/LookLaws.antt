@@ -100,10 +100,7 @@ key-four k a b = four (eqb (length k) 0) (ltb 112 (length k)) (hasZero k) a b
 
 -- ---- the ends, by the tests that led there: n is the check's number, e the key's fault
 
-module _ (f k : List ℕ) (n m : ℕ) (is : n ≡ m) (P : CheckPromise edition1 f m) where
-  given : CheckPromise edition1 f n
-  given = rw is P
-
+module _ (f k : List ℕ) (n : ℕ) (given : CheckPromise edition1 f n) where
   pub end-one : n ≡ 1 → LookUpPromise edition1 f k (notFound 1)
   end-one e = refused-frame f k 1 (rw e at given) (λ z. omega arith)
 

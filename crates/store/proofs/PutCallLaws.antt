@@ -49,9 +49,9 @@ module _ (f k v : List ℕ) where
 
 -- ---- the ends, by the tests that led there: n is the check's number, e the key's fault
 
-module _ (f k v : List ℕ) {n m : ℕ} (is : n ≡ m) {free : List ℕ} {h : Header} (T : AuditTold f m free h) where
+module _ (f k v : List ℕ) {n : ℕ} {free : List ℕ} {h : Header} (T : AuditTold f n free h) where
   checked : CheckPromise edition1 f n
-  checked = rw is (T .promise)
+  checked = T .promise
 
   pub put-one : n ≡ 1 → PutPromise edition1 f k v 1 f
   put-one e = refused-frame f k v 1 (rw e at checked) (λ z. omega arith)
@@ -61,7 +61,7 @@ module _ (f k v : List ℕ) {n m : ℕ} (is : n ≡ m) {free : List ℕ} {h : He
 
   module _ (good : n ≡ 0) where
     stands : Good edition1 f
-    stands = let S = standing f k n m is (T .promise) good in (S .st, S .stands)
+    stands = let S = standing f k n (T .promise) good in (S .st, S .stands)
 
     pub put-within : Within h
     put-within = within (stands .1) (T .room (stands .0) (stands .1))

@@ -2,6 +2,7 @@
 use crate::left;
 use answers::Erase;
 use answers::Refusal;
+use audit::Audit;
 use descent::key;
 ghost use Rattle.answers.specs.Number.{eraseNumber};
 ghost use Rattle.model.specs.Edition.{edition1};
@@ -11,12 +12,11 @@ pub fn erase(frame: &mut [u8], key: &[u8]) -> Erase
     ensures { λ r. ⌜ ErasePromise edition1 (now (frame .entry)) (now (key .entry)) (eraseNumber r) (now (frame .exit)) ⌝ }
 {
     let a = audit::check(frame);
-    let verdict = a.verdict;
-    let n = answers::check_number(verdict);
-    if n == 1 {
+    let n = a.number;
+    if n == Audit::BAD_LENGTH {
         return Erase::Refused(Refusal::Length);
     }
-    if n != 0 {
+    if n != Audit::GOOD {
         return Erase::Refused(Refusal::Frame);
     }
     let fault = key::fault(key);

@@ -2,6 +2,7 @@
 use answers::Check;
 use answers::LookUp;
 use answers::Refusal;
+use audit::Audit;
 use descent::key;
 use descent::lookup;
 ghost use mathlib.Core.Path.{_≡_};
@@ -14,17 +15,25 @@ pub fn check(frame: &[u8]) -> Check
     ensures { λ r. ⌜ CheckPromise edition1 (now (frame .entry)) (checkNumber r) ⌝ }
 {
     let a = audit::check(frame);
-    a.verdict
+    let n = a.number;
+    if n == Audit::BAD_LENGTH {
+        return Check::Refused(Refusal::Length);
+    }
+    if n != Audit::GOOD {
+        return Check::Refused(Refusal::Frame);
+    }
+    Check::Good
 }
 
 pub fn look_up(frame: &[u8], key: &[u8]) -> LookUp
     ensures { λ r. ⌜ LookUpPromise edition1 (now (frame .entry)) (now (key .entry)) (foundIn r) ⌝ }
 {
-    let n = answers::check_number(check(frame));
-    if n == 1 {
+    let a = audit::check(frame);
+    let n = a.number;
+    if n == Audit::BAD_LENGTH {
         return LookUp::Refused(Refusal::Length);
     }
-    if n != 0 {
+    if n != Audit::GOOD {
         return LookUp::Refused(Refusal::Frame);
     }
     let fault = key::fault(key);
@@ -46,8 +55,9 @@ pub fn look_up(frame: &[u8], key: &[u8]) -> LookUp
 pub fn value<'a>(frame: &'a [u8], key: &[u8]) -> &'a [u8]
     ensures { λ r. ⌜ ValueAt (now (frame .entry)) (now (key .entry)) (now r) ⌝ }
 {
-    let n = answers::check_number(check(frame));
-    if n != 0 {
+    let a = audit::check(frame);
+    let n = a.number;
+    if n != Audit::GOOD {
         return &frame[..0];
     }
     let fault = key::fault(key);

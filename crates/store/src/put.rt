@@ -2,6 +2,7 @@
 use crate::left;
 use answers::Put;
 use answers::Refusal;
+use audit::Audit;
 use descent::key;
 ghost use Rattle.answers.specs.Number.{putNumber};
 ghost use Rattle.model.specs.Edition.{edition1};
@@ -14,12 +15,11 @@ pub fn put(frame: &mut [u8], key: &[u8], value: &[u8]) -> Put
     ensures { λ r. ⌜ PutPromise edition1 (now (frame .entry)) (now (key .entry)) (now (value .entry)) (putNumber r) (now (frame .exit)) ⌝ }
 {
     let a = audit::check(frame);
-    let verdict = a.verdict;
-    let n = answers::check_number(verdict);
-    if n == 1 {
+    let n = a.number;
+    if n == Audit::BAD_LENGTH {
         return Put::Refused(Refusal::Length);
     }
-    if n != 0 {
+    if n != Audit::GOOD {
         return Put::Refused(Refusal::Frame);
     }
     let fault = key::fault(key);

@@ -2,7 +2,6 @@
 use mathlib.Core.Path.{refl, ap}
 use native.Mathlib.Omega.{arith}
 use borrow.Author.Tests.{not-true, not-false}
-use Rattle.answers.specs.Number.{checkNumber}
 use Rattle.pieces.proofs.DecideLaws.{refuted, passed}
 use Rattle.audit.proofs.WholeLaws.{audit-length, audit-bad, audit-good, header-none}
 use borrow.Author.Needs.{needs}
@@ -16,7 +15,7 @@ refuse-requires : tie.Need-refuse-requires
 refuse-requires c κs = search needs
 
 returns : tie.Need-returns
-returns c = audit-length (refuted (c .before .before .length-good .ensures) (c .before .if1 .taken)) (ap checkNumber (c .refuse .ensures .is))
+returns c = audit-length (refuted (c .before .before .length-good .ensures) (c .before .if1 .taken)) (c .refuse .ensures)
 
 header-good-requires : tie.Need-header-good-requires
 header-good-requires c κs = passed (c .before .length-good .ensures) (c .if1 .left)
@@ -26,7 +25,7 @@ refuse-requires-2 c κs = search needs
 
 returns-2 : tie.Need-returns-2
 returns-2 c =
-    audit-bad (passed (c .before .before .before .before .length-good .ensures) (c .before .before .before .if1 .left)) (header-none (c .before .before .header-good .ensures) (not-true _ (c .before .if2 .taken))) (ap checkNumber (c .refuse2 .ensures .is))
+    audit-bad (passed (c .before .before .before .before .length-good .ensures) (c .before .before .before .if1 .left)) (header-none (c .before .before .header-good .ensures) (not-true _ (c .before .if2 .taken))) (c .refuse2 .ensures)
 
 all-requires : tie.Need-all-requires
 all-requires c κs =
@@ -38,7 +37,7 @@ refuse-requires-3 c κs = search needs
 
 returns-3 : tie.Need-returns-3
 returns-3 c =
-    audit-bad (passed (c .before .before .before .before .before .before .before .length-good .ensures) (c .before .before .before .before .before .before .if1 .left)) (c .before .before .before .all .ensures .fails (not-true _ (c .before .if3 .taken))) (ap checkNumber (c .refuse3 .ensures .is))
+    audit-bad (passed (c .before .before .before .before .before .before .before .length-good .ensures) (c .before .before .before .before .before .before .if1 .left)) (c .before .before .before .all .ensures .fails (not-true _ (c .before .if3 .taken))) (c .refuse3 .ensures)
 
 read-requires : tie.Need-read-requires
 read-requires c κs = let L = passed (c .before .before .before .before .before .before .before .length-good .ensures) (c .before .before .before .before .before .before .if1 .left) in omega (arith, L .limits)

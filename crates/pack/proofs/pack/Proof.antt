@@ -8,21 +8,18 @@ use Rattle.pack.proofs.pack.Tie as tie
 check-requires : tie.Need-check-requires
 check-requires c κs = search needs
 
-check-number-requires : tie.Need-check-number-requires
-check-number-requires c κs = search needs
-
 returns : tie.Need-returns
-returns c = pack-one (c .before .check-number .ensures) (c .before .before .check .ensures) _ (c .if1 .taken)
+returns c = pack-one (c .before .check .ensures) _ (c .if1 .taken)
 
 returns-2 : tie.Need-returns-2
-returns-2 c = pack-two (c .before .before .check-number .ensures) (c .before .before .before .check .ensures) _ (λ z. omega arith) (λ z. omega arith)
+returns-2 c = pack-two (c .before .before .check .ensures) _ (λ z. omega arith) (λ z. omega arith)
 
 returns-3 : tie.Need-returns-3
-returns-3 c = pack-seven (c .before .before .before .check-number .ensures) (c .before .before .before .before .check .ensures) (omega arith) _ (λ z. omega arith)
+returns-3 c = pack-seven (c .before .before .before .check .ensures) (omega arith) _ (λ z. omega arith)
 
 write-requires : tie.Need-write-requires
 write-requires c κs =
-    let n = c .before .before .before .before .before in (known (n .check-number .ensures) (n .before .check .ensures) (omega arith), omega arith)
+    let n = c .before .before .before .before .before in (known (n .check .ensures) (omega arith), omega arith)
 
 same-length : tie.Need-same-length
 same-length c = search needs
@@ -30,14 +27,13 @@ same-length c = search needs
 returns-4 : tie.Need-returns-4
 returns-4 c =
     let n = c .before .before .before .before .before .before .before .before in
-    pack-done (n .check-number .ensures) (n .before .check .ensures) (omega arith) _ (omega arith) (c .before .before .write .ensures)
+    pack-done (n .check .ensures) (omega arith) _ (omega arith) (c .before .before .write .ensures)
 
 pub pack-spec : {M : Type 1} → statement M
 pack-spec =
     tie.close
     (tie.spec
     check-requires
-    check-number-requires
     returns
     returns-2
     returns-3

@@ -1,104 +1,37 @@
--- `all_zero` decides that the range is all zero: its pieces cover it. Assumes nothing.
-use Prim.Native.Nat.{_+_, _-_, _≤_}
+-- A range of a piece or more goes by pieces. Assumes nothing.
 use native.Mathlib.Omega.{arith}
 use borrow.Author.Needs.{needs}
-use Rattle.pieces.specs.Range.{Blank, IsZero}
-use Rattle.pieces.proofs.RangeLaws.{piece-bad, piece-last, piece-two, piece-next}
+use Rattle.pieces.specs.Range.{IsZero}
+use Rattle.pieces.proofs.RangeLaws.{test-all}
 use Rattle.pieces.proofs.all_zero.Statement.{statement}
 use Rattle.pieces.proofs.all_zero.Tie as tie
 
-abbrev Inv-loop : tie.InvT-loop
-Inv-loop f from to i₀ i = (from ≤ i) × (i ≤ to) × (from + 16 ≤ to) × Blank f from i
-
-abbrev μ-loop : tie.MeasureT-loop
-μ-loop f from to i₀ i = to - i
-
-sub-if1 : tie.Need-sub-if1 Inv-loop μ-loop
+sub-if1 : tie.Need-sub-if1
 sub-if1 c = search needs
 
-all-zero-short-requires : tie.Need-all-zero-short-requires Inv-loop μ-loop
-all-zero-short-requires c κs = search needs
-
-returns : tie.Need-returns Inv-loop μ-loop
-returns c = c .all-zero-short .ensures
-
-sub-if2 : tie.Need-sub-if2 Inv-loop μ-loop
-sub-if2 c = search needs
-
-zeros-requires : tie.Need-zeros-requires Inv-loop μ-loop
-zeros-requires c κs = search needs
-
-returns-2 : tie.Need-returns-2 Inv-loop μ-loop
-returns-2 c = let a = c .before .before .before .before .before .args in
-    piece-bad (IsZero (a .f .now)) (omega arith) (omega arith) (c .before .zeros .ensures) (c .if3 .taken)
-
-sub-zeros : tie.Need-sub-zeros Inv-loop μ-loop
+sub-zeros : tie.Need-sub-zeros
 sub-zeros c = search needs
 
-zeros-requires-2 : tie.Need-zeros-requires-2 Inv-loop μ-loop
-zeros-requires-2 c κs = search needs
+zeros-requires : tie.Need-zeros-requires
+zeros-requires c κs = search needs
 
-returns-3 : tie.Need-returns-3 Inv-loop μ-loop
-returns-3 c = let a = c .before .before .before .before .before .before .args in
-    piece-two (IsZero (a .f .now)) (omega arith) (omega arith) (omega arith) (c .before .before .zeros .ensures) (c .before .if3 .left) (c .zeros2 .ensures)
+returns : tie.Need-returns
+returns c = let a = c .before .before .before .args in test-all (IsZero (a .f .now)) (a .from) (omega arith) (c .zeros .ensures)
 
-loop-holds : tie.Need-loop-holds Inv-loop μ-loop
-loop-holds c = (omega arith, omega arith, omega arith, λ k x y. absurd (omega arith))
+sub-if2 : tie.Need-sub-if2
+sub-if2 c = search needs
 
-add-loop : tie.Need-add-loop Inv-loop μ-loop
-add-loop c = search needs
+zeros-by-requires : tie.Need-zeros-by-requires
+zeros-by-requires c κs = search needs
 
-zeros-requires-3 : tie.Need-zeros-requires-3 Inv-loop μ-loop
-zeros-requires-3 c κs = search needs
+returns-2 : tie.Need-returns-2
+returns-2 c = c .zeros-by .ensures
 
-returns-4 : tie.Need-returns-4 Inv-loop μ-loop
-returns-4 c = let a = c .before .before .before .before .before .before .before .args in
-    piece-bad (IsZero (a .f .now)) (omega arith) (omega arith) (c .before .zeros3 .ensures) (c .if4 .taken)
+zeros-by-requires-2 : tie.Need-zeros-by-requires-2
+zeros-by-requires-2 c κs = search needs
 
-add-i : tie.Need-add-i Inv-loop μ-loop
-add-i c = search needs
-
-loop-less : tie.Need-loop-less Inv-loop μ-loop
-loop-less c = search needs
-
-loop-again : tie.Need-loop-again Inv-loop μ-loop
-loop-again c = let l = c .before .before .before in
-    let a = l .before .before .before .before .args in
-    (omega arith, omega arith, omega arith, piece-next (IsZero (a .f .now)) (l .loop .inv .3) (c .before .zeros3 .ensures) (c .if4 .left))
-
-sub-zeros-2 : tie.Need-sub-zeros-2 Inv-loop μ-loop
-sub-zeros-2 c = search needs
-
-zeros-requires-4 : tie.Need-zeros-requires-4 Inv-loop μ-loop
-zeros-requires-4 c κs = search needs
-
-returns-5 : tie.Need-returns-5 Inv-loop μ-loop
-returns-5 c = let l = c .before .before in
-    let a = l .before .before .before .before .args in
-    piece-last (IsZero (a .f .now)) (omega arith) (omega arith) (omega arith) (l .loop .inv .3) (c .zeros4 .ensures)
+returns-3 : tie.Need-returns-3
+returns-3 c = c .zeros-by2 .ensures
 
 pub all-zero-spec : {M : Type 1} → statement M
-all-zero-spec =
-    tie.close
-    (tie.spec
-    Inv-loop
-    μ-loop
-    sub-if1
-    all-zero-short-requires
-    returns
-    sub-if2
-    zeros-requires
-    returns-2
-    sub-zeros
-    zeros-requires-2
-    returns-3
-    loop-holds
-    add-loop
-    zeros-requires-3
-    returns-4
-    add-i
-    loop-less
-    loop-again
-    sub-zeros-2
-    zeros-requires-4
-    returns-5)
+all-zero-spec = tie.close (tie.spec sub-if1 sub-zeros zeros-requires returns sub-if2 zeros-by-requires returns-2 zeros-by-requires-2 returns-3)

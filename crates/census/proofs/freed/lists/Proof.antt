@@ -1,4 +1,4 @@
--- The loop's invariant: what is told of the lists from here on, and the counts so far, tell of all. Assumes nothing.
+-- Heads that are all zero tell of no slot (FreedLaws). The loop's invariant: what is told of the lists from here on, and the counts so far, tell of all. Assumes nothing.
 use Prim.Native.Nat.{ℕ, _-_, _≤_}
 use mathlib.Core.Path.{_≡_, refl, sym}
 use mathlib.Core.List.{List}
@@ -8,8 +8,8 @@ use lib.ListN.{length, take, length-set}
 use lib.Seq.{take-all}
 use Rattle.census.specs.Told.{Tally}
 use Rattle.census.specs.Freed.{FreedItems, CountedItems, CountedFrom}
-use Rattle.census.proofs.ToldLaws.{Leads, told-from, tally-to}
-use Rattle.census.proofs.FreedLaws.{lists-bad, lists-more, lists-end}
+use Rattle.census.proofs.ToldLaws.{Leads, told-from, told-to, tally-to}
+use Rattle.census.proofs.FreedLaws.{lists-bad, lists-more, lists-end, lists-none}
 use borrow.Author.Needs.{needs}
 use Rattle.census.proofs.freed.lists.Statement.{statement}
 use Rattle.census.proofs.freed.lists.Tie as tie
@@ -22,16 +22,27 @@ Inv-loop f map₀ d u b free₀ sums₀ kind₀ map free sums kind =
 abbrev μ-loop : tie.MeasureT-loop
 μ-loop f map₀ d u b free₀ sums₀ kind₀ map free sums kind = 9 - kind
 
+all-zero-requires : tie.Need-all-zero-requires Inv-loop μ-loop
+all-zero-requires c κs = search needs
+
 kept-requires : tie.Need-kept-requires Inv-loop μ-loop
-kept-requires c κs = c .before .before .pre .2 .good
+kept-requires c κs = c .before .before .before .before .pre .2 .good
+
+returns : tie.Need-returns Inv-loop μ-loop
+returns c =
+    let a = c .before .before in
+    told-to (c .kept .ensures) (lists-none (a .all-zero .ensures .holds (c .before .if1 .taken)) (a .before .before .before .pre .2))
+
+kept-requires-2 : tie.Need-kept-requires-2 Inv-loop μ-loop
+kept-requires-2 c κs = c .before .before .before .before .pre .2 .good
 
 loop-holds : tie.Need-loop-holds Inv-loop μ-loop
-loop-holds c = (omega arith, omega arith, refl, refl, tally-to (c .kept .ensures) (c .before .before .before .pre .2), λ n m r T. T)
+loop-holds c = (omega arith, omega arith, refl, refl, tally-to (c .kept2 .ensures) (c .before .before .before .before .before .pre .2), λ n m r T. T)
 
 list-requires : tie.Need-list-requires Inv-loop μ-loop
 list-requires c κs =
     let l = c .before .before in
-    let z = l .before .before .before .before in
+    let z = l .before .before .before .before .before .before in
     let L = z .pre .1 in
     let v = l .loop .inv in
     (z .pre .0, record { table = L .table; order = L .order; size = L .size; room = omega arith }, v .4, v .0, omega arith)
@@ -39,17 +50,17 @@ list-requires c κs =
 same-length : tie.Need-same-length Inv-loop μ-loop
 same-length c = search needs
 
-returns : tie.Need-returns Inv-loop μ-loop
-returns c =
+returns-2 : tie.Need-returns-2 Inv-loop μ-loop
+returns-2 c =
     let k = c .before .before .before .before in
     let l = k .before .before .before in
-    let n = not-true _ (c .if1 .taken) in
-    told-from (l .before .kept .ensures) (l .loop .inv .5 _ _ _ (lists-bad (k .list .ensures) (k .before .before .loop-test .taken) n n))
+    let n = not-true _ (c .if2 .taken) in
+    told-from (l .before .kept2 .ensures) (l .loop .inv .5 _ _ _ (lists-bad (k .list .ensures) (k .before .before .loop-test .taken) n n))
 
 sub-free : tie.Need-sub-free Inv-loop μ-loop
 sub-free c =
     let k = c .before .before .before .before .before .before in
-    omega (arith, k .list .ensures .holds (not-false _ (c .before .before .if1 .left)) .grown .slots)
+    omega (arith, k .list .ensures .holds (not-false _ (c .before .before .if2 .left)) .grown .slots)
 
 mul-free : tie.Need-mul-free Inv-loop μ-loop
 mul-free c = search needs
@@ -68,7 +79,7 @@ loop-again c =
     let k = c .before .before .before .before .before .before in
     let l = k .before .before .before in
     let v = l .loop .inv in
-    let g = not-false _ (c .before .before .if1 .left) in
+    let g = not-false _ (c .before .before .if2 .left) in
     let h = k .before .before .loop-test .taken in (
       omega (arith, v .0),
       omega (arith, h),
@@ -81,11 +92,11 @@ loop-again c =
 same-length-2 : tie.Need-same-length-2 Inv-loop μ-loop
 same-length-2 c = search needs
 
-returns-2 : tie.Need-returns-2 Inv-loop μ-loop
-returns-2 c =
+returns-3 : tie.Need-returns-3 Inv-loop μ-loop
+returns-3 c =
     let l = c .before in
     let v = l .loop .inv in
-    told-from (l .before .kept .ensures) (v .5 _ _ _ (lists-end (omega (arith, v .1, c .loop-test .left)) (sym (take-all (l .loop .kind) (l .loop .free) (omega (arith, v .2, c .loop-test .left)))) (v .4)))
+    told-from (l .before .kept2 .ensures) (v .5 _ _ _ (lists-end (omega (arith, v .1, c .loop-test .left)) (sym (take-all (l .loop .kind) (l .loop .free) (omega (arith, v .2, c .loop-test .left)))) (v .4)))
 
 pub lists-spec : {M : Type 1} → statement M
 lists-spec =
@@ -93,11 +104,14 @@ lists-spec =
     (tie.spec
     Inv-loop
     μ-loop
+    all-zero-requires
     kept-requires
+    returns
+    kept-requires-2
     loop-holds
     list-requires
     same-length
-    returns
+    returns-2
     sub-free
     mul-free
     array-write-free
@@ -105,4 +119,4 @@ lists-spec =
     loop-less
     loop-again
     same-length-2
-    returns-2)
+    returns-3)

@@ -9,16 +9,13 @@ use Rattle.store.proofs.erase.erase.Tie as tie
 check-requires : tie.Need-check-requires
 check-requires c κs = search needs
 
-check-number-requires : tie.Need-check-number-requires
-check-number-requires c κs = search needs
-
 same-length : tie.Need-same-length
 same-length c = search needs
 
 returns : tie.Need-returns
 returns c =
     let n = c .before in
-    erase-one _ _ (n .check-number .ensures) (n .before .check .ensures) (omega arith)
+    erase-one _ _ (n .check .ensures) (omega arith)
 
 same-length-2 : tie.Need-same-length-2
 same-length-2 c = search needs
@@ -26,7 +23,7 @@ same-length-2 c = search needs
 returns-2 : tie.Need-returns-2
 returns-2 c =
     let n = c .before .before in
-    erase-two _ _ (n .check-number .ensures) (n .before .check .ensures) (λ z. omega arith) (λ z. omega arith)
+    erase-two _ _ (n .check .ensures) (λ z. omega arith) (λ z. omega arith)
 
 fault-requires : tie.Need-fault-requires
 fault-requires c κs = search needs
@@ -38,7 +35,7 @@ returns-3 : tie.Need-returns-3
 returns-3 c =
     let key = c .before in
     let n = key .before .before .before in
-    erase-three _ _ (n .check-number .ensures) (n .before .check .ensures) (omega arith) (key .fault .ensures) (omega arith)
+    erase-three _ _ (n .check .ensures) (omega arith) (key .fault .ensures) (omega arith)
 
 same-length-4 : tie.Need-same-length-4
 same-length-4 c = search needs
@@ -47,18 +44,18 @@ returns-4 : tie.Need-returns-4
 returns-4 c =
     let key = c .before .before in
     let n = key .before .before .before in
-    erase-four _ _ (n .check-number .ensures) (n .before .check .ensures) (omega arith) (key .fault .ensures) (λ z. omega arith) (λ z. omega arith)
+    erase-four _ _ (n .check .ensures) (omega arith) (key .fault .ensures) (λ z. omega arith) (λ z. omega arith)
 
 room-left-requires : tie.Need-room-left-requires
 room-left-requires c κs =
     let n = c .before .before .before .before .before .before in
-    erase-within _ [] (n .check-number .ensures) (n .before .check .ensures) (omega arith)
+    erase-within _ [] (n .check .ensures) (omega arith)
 
 erase-requires : tie.Need-erase-requires
 erase-requires c κs =
     let key = c .before .before .before .before in
     let n = key .before .before .before in
-    erase-roomed _ _ (n .check-number .ensures) (n .before .check .ensures) (omega arith) (key .fault .ensures) (omega arith) (c .room-left .ensures) (λ a. omega (arith, n .before .before .before .shared-slice-known .given a))
+    erase-roomed _ _ (n .check .ensures) (omega arith) (key .fault .ensures) (omega arith) (c .room-left .ensures) (λ a. omega (arith, n .before .before .shared-slice-known .given a))
 
 same-length-5 : tie.Need-same-length-5
 same-length-5 c = search needs
@@ -67,14 +64,13 @@ returns-5 : tie.Need-returns-5
 returns-5 c =
     let key = c .before .before .before .before .before .before .before in
     let n = key .before .before .before in
-    erase-made _ _ (n .check-number .ensures) (n .before .check .ensures) (omega arith) (key .fault .ensures) (omega arith) (c .before .before .erase .ensures)
+    erase-made _ _ (n .check .ensures) (omega arith) (key .fault .ensures) (omega arith) (c .before .before .erase .ensures)
 
 pub erase-spec : {M : Type 1} → statement M
 erase-spec =
     tie.close
     (tie.spec
     check-requires
-    check-number-requires
     same-length
     returns
     same-length-2

@@ -9,16 +9,13 @@ use Rattle.store.proofs.put.put.Tie as tie
 check-requires : tie.Need-check-requires
 check-requires c κs = search needs
 
-check-number-requires : tie.Need-check-number-requires
-check-number-requires c κs = search needs
-
 same-length : tie.Need-same-length
 same-length c = search needs
 
 returns : tie.Need-returns
 returns c =
     let n = c .before in
-    put-one _ _ _ (n .check-number .ensures) (n .before .check .ensures) (omega arith)
+    put-one _ _ _ (n .check .ensures) (omega arith)
 
 same-length-2 : tie.Need-same-length-2
 same-length-2 c = search needs
@@ -26,7 +23,7 @@ same-length-2 c = search needs
 returns-2 : tie.Need-returns-2
 returns-2 c =
     let n = c .before .before in
-    put-two _ _ _ (n .check-number .ensures) (n .before .check .ensures) (λ z. omega arith) (λ z. omega arith)
+    put-two _ _ _ (n .check .ensures) (λ z. omega arith) (λ z. omega arith)
 
 fault-requires : tie.Need-fault-requires
 fault-requires c κs = search needs
@@ -38,7 +35,7 @@ returns-3 : tie.Need-returns-3
 returns-3 c =
     let key = c .before in
     let n = key .before .before .before in
-    put-three _ _ _ (n .check-number .ensures) (n .before .check .ensures) (omega arith) (key .fault .ensures) (omega arith)
+    put-three _ _ _ (n .check .ensures) (omega arith) (key .fault .ensures) (omega arith)
 
 same-length-4 : tie.Need-same-length-4
 same-length-4 c = search needs
@@ -47,7 +44,7 @@ returns-4 : tie.Need-returns-4
 returns-4 c =
     let key = c .before .before in
     let n = key .before .before .before in
-    put-four _ _ _ (n .check-number .ensures) (n .before .check .ensures) (omega arith) (key .fault .ensures) (λ z. omega arith) (λ z. omega arith)
+    put-four _ _ _ (n .check .ensures) (omega arith) (key .fault .ensures) (λ z. omega arith) (λ z. omega arith)
 
 same-length-5 : tie.Need-same-length-5
 same-length-5 c = search needs
@@ -56,18 +53,18 @@ returns-5 : tie.Need-returns-5
 returns-5 c =
     let key = c .before .before .before in
     let n = key .before .before .before in
-    put-five _ _ _ (n .check-number .ensures) (n .before .check .ensures) (omega arith) (key .fault .ensures) (omega arith) (omega arith)
+    put-five _ _ _ (n .check .ensures) (omega arith) (key .fault .ensures) (omega arith) (omega arith)
 
 room-left-requires : tie.Need-room-left-requires
 room-left-requires c κs =
     let n = c .before .before .before .before .before .before .before in
-    put-within _ [] [] (n .check-number .ensures) (n .before .check .ensures) (omega arith)
+    put-within _ [] [] (n .check .ensures) (omega arith)
 
 put-requires : tie.Need-put-requires
 put-requires c κs =
     let key = c .before .before .before .before .before in
     let n = key .before .before .before in
-    put-roomed _ _ _ (n .check-number .ensures) (n .before .check .ensures) (omega arith) (key .fault .ensures) (omega arith) (omega arith) (c .room-left .ensures) (λ a. omega (arith, n .before .before .before .before .shared-slice-known .given a)) (λ a. omega (arith, n .before .before .before .shared-slice-known2 .given a))
+    put-roomed _ _ _ (n .check .ensures) (omega arith) (key .fault .ensures) (omega arith) (omega arith) (c .room-left .ensures) (λ a. omega (arith, n .before .before .before .shared-slice-known .given a)) (λ a. omega (arith, n .before .before .shared-slice-known2 .given a))
 
 same-length-6 : tie.Need-same-length-6
 same-length-6 c = search needs
@@ -76,14 +73,13 @@ returns-6 : tie.Need-returns-6
 returns-6 c =
     let key = c .before .before .before .before .before .before .before .before in
     let n = key .before .before .before in
-    put-made _ _ _ (n .check-number .ensures) (n .before .check .ensures) (omega arith) (key .fault .ensures) (omega arith) (omega arith) (c .before .before .put .ensures)
+    put-made _ _ _ (n .check .ensures) (omega arith) (key .fault .ensures) (omega arith) (omega arith) (c .before .before .put .ensures)
 
 pub put-spec : {M : Type 1} → statement M
 put-spec =
     tie.close
     (tie.spec
     check-requires
-    check-number-requires
     same-length
     returns
     same-length-2
