@@ -2,34 +2,32 @@
 // length, of which the last ends with the range and may go back over the one before. A piece has a fixed length, and all its bytes are looked
 // at, so that they go together.
 use layout::number;
-ghost use Prim.Native.Nat.{ℕ, _+_, _≤_, _<_};
+ghost use Prim.Native.Nat.{_+_, _≤_, _<_};
 ghost use lib.ListN.{length};
 ghost use Rattle.pieces.specs.Decides.{Decides};
 ghost use Rattle.pieces.specs.Range.{Blank, Clean, Paired, Alike};
 
-// The bytes of a piece, and of one of a long range of zeros.
-const PIECE: usize = 8;
+// The bytes of a piece, in a long range and in shorter ones.
+const PIECE: usize = 16;
 
-const LONG_PIECE: usize = 64;
+const HALF: usize = 8;
 
-// The smaller of two numbers: what is below both is below it.
-pub fn lesser(a: usize, b: usize) -> usize
-    ensures { λ r. ⌜ (r ≤ a) × (r ≤ b) × ((i : ℕ) → i < a → i < b → i < r) ⌝ }
-{
-    if a < b { a } else { b }
-}
+const QUARTER: usize = 4;
+
+// Those of a piece in a range that is longer than any body.
+const LONG: usize = 64;
 
 // ---- two ranges are the same
 
-// The n bytes of a from i on are those of b from j on, all of them compared.
-fn alike(a: &[u8], i: usize, b: &[u8], j: usize, n: usize) -> bool
-    requires { ⌜ (i + n ≤ length (now a)) × (j + n ≤ length (now b)) ⌝ }
-    ensures { λ r. ⌜ Decides (Paired (now (a .entry)) i (now (b .entry)) j 0 n) r ⌝ }
+// The n bytes that lie a distance behind i and behind j are the same.
+fn alike(a: &[u8], i: usize, b: &[u8], j: usize, at: usize, n: usize) -> bool
+    requires { ⌜ (i + (at + n) ≤ length (now a)) × (j + (at + n) ≤ length (now b)) ⌝ }
+    ensures { λ r. ⌜ Decides (Paired (now (a .entry)) i (now (b .entry)) j at (at + n)) r ⌝ }
 {
     let mut good = true;
     let mut k = 0;
     while k < n {
-        if a[i + k] == b[j + k] {
+        if a[i + (at + k)] == b[j + (at + k)] {
             k += 1;
             continue;
         }
@@ -39,25 +37,41 @@ fn alike(a: &[u8], i: usize, b: &[u8], j: usize, n: usize) -> bool
     good
 }
 
+fn same_short(a: &[u8], i: usize, b: &[u8], j: usize, n: usize) -> bool
+    requires { ⌜ (n < 8) × (i + n ≤ length (now a)) × (j + n ≤ length (now b)) ⌝ }
+    ensures { λ r. ⌜ Decides (Paired (now (a .entry)) i (now (b .entry)) j 0 n) r ⌝ }
+{
+    if n < QUARTER {
+        return alike(a, i, b, j, 0, n);
+    }
+    if !alike(a, i, b, j, 0, QUARTER) {
+        return false;
+    }
+    alike(a, i, b, j, n - QUARTER, QUARTER)
+}
+
 // The n bytes of a from i on are those of b from j on.
 pub fn same(a: &[u8], i: usize, b: &[u8], j: usize, n: usize) -> bool
     requires { ⌜ (i + n ≤ length (now a)) × (j + n ≤ length (now b)) ⌝ }
     ensures { λ r. ⌜ Decides (Alike (now (a .entry)) i (now (b .entry)) j n) r ⌝ }
 {
-    if n < PIECE {
-        return alike(a, i, b, j, n);
+    if n < HALF {
+        return same_short(a, i, b, j, n);
     }
-    let last = n - PIECE;
-    let mut at = 0;
-    loop {
-        if !alike(a, i + at, b, j + at, PIECE) {
+    if n < PIECE {
+        if !alike(a, i, b, j, 0, HALF) {
             return false;
         }
-        if at == last {
-            return true;
-        }
-        at = lesser(at + PIECE, last);
+        return alike(a, i, b, j, n - HALF, HALF);
     }
+    let mut at = 0;
+    while at + PIECE < n {
+        if !alike(a, i, b, j, at, PIECE) {
+            return false;
+        }
+        at += PIECE;
+    }
+    alike(a, i, b, j, n - PIECE, PIECE)
 }
 
 // ---- no byte of a range is 0
@@ -80,25 +94,41 @@ fn full(f: &[u8], at: usize, n: usize) -> bool
     good
 }
 
+fn no_zero_short(f: &[u8], from: usize, to: usize) -> bool
+    requires { ⌜ (from ≤ to) × (to < from + 8) × (to ≤ length (now f)) ⌝ }
+    ensures { λ r. ⌜ Decides (Clean (now (f .entry)) from to) r ⌝ }
+{
+    if to - from < QUARTER {
+        return full(f, from, to - from);
+    }
+    if !full(f, from, QUARTER) {
+        return false;
+    }
+    full(f, to - QUARTER, QUARTER)
+}
+
 // No byte of from..to is 0.
 pub fn no_zero(f: &[u8], from: usize, to: usize) -> bool
     requires { ⌜ (from ≤ to) × (to ≤ length (now f)) ⌝ }
     ensures { λ r. ⌜ Decides (Clean (now (f .entry)) from to) r ⌝ }
 {
-    if to - from < PIECE {
-        return full(f, from, to - from);
+    if to - from < HALF {
+        return no_zero_short(f, from, to);
     }
-    let last = to - PIECE;
-    let mut at = from;
-    loop {
-        if !full(f, at, PIECE) {
+    if to - from < PIECE {
+        if !full(f, from, HALF) {
             return false;
         }
-        if at == last {
-            return true;
-        }
-        at = lesser(at + PIECE, last);
+        return full(f, to - HALF, HALF);
     }
+    let mut i = from;
+    while i + PIECE < to {
+        if !full(f, i, PIECE) {
+            return false;
+        }
+        i += PIECE;
+    }
+    full(f, to - PIECE, PIECE)
 }
 
 // ---- every byte of a range is 0
@@ -117,22 +147,32 @@ fn zeros(f: &[u8], at: usize, n: usize) -> bool
     joined == 0
 }
 
+fn all_zero_short(f: &[u8], from: usize, to: usize) -> bool
+    requires { ⌜ (from ≤ to) × (to < from + 8) × (to ≤ length (now f)) ⌝ }
+    ensures { λ r. ⌜ Decides (Blank (now (f .entry)) from to) r ⌝ }
+{
+    if to - from < QUARTER {
+        return zeros(f, from, to - from);
+    }
+    if !zeros(f, from, QUARTER) {
+        return false;
+    }
+    zeros(f, to - QUARTER, QUARTER)
+}
+
 // Every byte of from..to is 0, in pieces of a length that the range has.
 fn zeros_by(f: &[u8], from: usize, to: usize, piece: usize) -> bool
     requires { ⌜ (1 ≤ piece) × (from + piece ≤ to) × (to ≤ length (now f)) ⌝ }
     ensures { λ r. ⌜ Decides (Blank (now (f .entry)) from to) r ⌝ }
 {
-    let last = to - piece;
-    let mut at = from;
-    loop {
-        if !zeros(f, at, piece) {
+    let mut i = from;
+    while i + piece < to {
+        if !zeros(f, i, piece) {
             return false;
         }
-        if at == last {
-            return true;
-        }
-        at = lesser(at + piece, last);
+        i += piece;
     }
+    zeros(f, to - piece, piece)
 }
 
 // Every byte of from..to is 0.
@@ -140,13 +180,16 @@ pub fn all_zero(f: &[u8], from: usize, to: usize) -> bool
     requires { ⌜ (from ≤ to) × (to ≤ length (now f)) ⌝ }
     ensures { λ r. ⌜ Decides (Blank (now (f .entry)) from to) r ⌝ }
 {
-    if to - from < PIECE {
-        return zeros(f, from, to - from);
+    if to - from < HALF {
+        return all_zero_short(f, from, to);
     }
-    if to - from < LONG_PIECE {
+    if to - from < PIECE {
+        return zeros_by(f, from, to, HALF);
+    }
+    if to - from < LONG {
         return zeros_by(f, from, to, PIECE);
     }
-    zeros_by(f, from, to, LONG_PIECE)
+    zeros_by(f, from, to, LONG)
 }
 
 // The eight bytes at a place are 0: two numbers, joined.

@@ -1,6 +1,6 @@
 // A Leaf's body and its extent, against the path that leads to it.
 use fields::body::Leaf;
-ghost use Prim.Native.Nat.{_+_, _≤_, _<_};
+ghost use Prim.Native.Nat.{ℕ, _+_, _≤_, _<_};
 ghost use mathlib.Core.List.{[]};
 ghost use lib.ListN.{length, take};
 ghost use Rattle.pieces.specs.Decides.{Decides};
@@ -50,6 +50,12 @@ fn ends(path: &[u8], k: usize, depth: usize) -> bool
     path[k] == 0
 }
 
+fn lesser(a: usize, b: usize) -> usize
+    ensures { λ r. ⌜ (r ≤ a) × (r ≤ b) × ((i : ℕ) → i < a → i < b → i < r) ⌝ }
+{
+    if a < b { a } else { b }
+}
+
 // The k bytes at e are a legal key of that length, and its walked string, a byte 0 at its end, begins with the path.
 fn key_good(f: &[u8], e: usize, k: usize, path: &[u8], depth: usize) -> bool
     requires { ⌜ (e + k ≤ length (now f)) × (depth ≤ length (now path)) ⌝ }
@@ -58,7 +64,7 @@ fn key_good(f: &[u8], e: usize, k: usize, path: &[u8], depth: usize) -> bool
     if !ends(path, k, depth) {
         return false;
     }
-    if !pieces::same(f, e, path, 0, pieces::lesser(depth, k)) {
+    if !pieces::same(f, e, path, 0, lesser(depth, k)) {
         return false;
     }
     pieces::no_zero(f, e, e + k)

@@ -1,5 +1,5 @@
 -- `alike` decides that the bytes are the same; the loop's invariant says so of those that it has passed. Assumes nothing.
-use Prim.Native.Nat.{_-_, _≤_}
+use Prim.Native.Nat.{_+_, _-_, _≤_}
 use native.Mathlib.Omega.{arith}
 use borrow.Author.Needs.{needs}
 use Rattle.pieces.specs.Decides.{Decides}
@@ -9,22 +9,28 @@ use Rattle.pieces.proofs.alike.Statement.{statement}
 use Rattle.pieces.proofs.alike.Tie as tie
 
 abbrev Inv-loop : tie.InvT-loop
-Inv-loop a i b j n good₀ k₀ good k = (k ≤ n) × Decides (Paired a i b j 0 k) good
+Inv-loop a i b j at n good₀ k₀ good k = (k ≤ n) × Decides (Paired a i b j at (at + k)) good
 
 abbrev μ-loop : tie.MeasureT-loop
-μ-loop a i b j n good₀ k₀ good k = n - k
+μ-loop a i b j at n good₀ k₀ good k = n - k
 
 loop-holds : tie.Need-loop-holds Inv-loop μ-loop
-loop-holds c = let a = c .args in (omega arith, test-none (SameAt (a .a .now) (a .i) (a .b .now) (a .j)) 0 (omega arith))
+loop-holds c = let a = c .args in (omega arith, test-none (SameAt (a .a .now) (a .i) (a .b .now) (a .j)) (a .at))
 
 add-if1 : tie.Need-add-if1 Inv-loop μ-loop
 add-if1 c = search needs
 
+add-if1-2 : tie.Need-add-if1-2 Inv-loop μ-loop
+add-if1-2 c = search needs
+
 shared-slice-read-if1 : tie.Need-shared-slice-read-if1 Inv-loop μ-loop
 shared-slice-read-if1 c = search needs
 
-add-if1-2 : tie.Need-add-if1-2 Inv-loop μ-loop
-add-if1-2 c = search needs
+add-if1-3 : tie.Need-add-if1-3 Inv-loop μ-loop
+add-if1-3 c = search needs
+
+add-if1-4 : tie.Need-add-if1-4 Inv-loop μ-loop
+add-if1-4 c = search needs
 
 shared-slice-read-if1-2 : tie.Need-shared-slice-read-if1-2 Inv-loop μ-loop
 shared-slice-read-if1-2 c = search needs
@@ -38,7 +44,7 @@ loop-less c = search needs
 loop-again : tie.Need-loop-again Inv-loop μ-loop
 loop-again c = let l = c .before .before .before .before in
     let a = l .before .args in
-    (omega arith, test-good (SameAt (a .a .now) (a .i) (a .b .now) (a .j)) 0 (omega arith) (l .loop .inv .1) (c .if1 .taken))
+    (omega arith, test-good (SameAt (a .a .now) (a .i) (a .b .now) (a .j)) (a .at) (l .loop .k) (l .loop .inv .1) (c .if1 .taken))
 
 add-k-2 : tie.Need-add-k-2 Inv-loop μ-loop
 add-k-2 c = search needs
@@ -49,12 +55,12 @@ loop-less-2 c = search needs
 loop-again-2 : tie.Need-loop-again-2 Inv-loop μ-loop
 loop-again-2 c = let l = c .before .before .before .before in
     let a = l .before .args in
-    (omega arith, test-bad (SameAt (a .a .now) (a .i) (a .b .now) (a .j)) 0 (l .loop .k) (omega arith) (omega arith) (c .if1 .left))
+    (omega arith, test-bad (SameAt (a .a .now) (a .i) (a .b .now) (a .j)) (a .at) (l .loop .k) (c .if1 .left))
 
 returns : tie.Need-returns Inv-loop μ-loop
 returns c = let l = c .before in
     let a = l .before .args in
-    test-all (SameAt (a .a .now) (a .i) (a .b .now) (a .j)) 0 (omega arith) (l .loop .inv .1)
+    test-all (SameAt (a .a .now) (a .i) (a .b .now) (a .j)) (a .at) (omega arith) (l .loop .inv .1)
 
 pub alike-spec : {M : Type 1} → statement M
 alike-spec =
@@ -64,8 +70,10 @@ alike-spec =
     μ-loop
     loop-holds
     add-if1
-    shared-slice-read-if1
     add-if1-2
+    shared-slice-read-if1
+    add-if1-3
+    add-if1-4
     shared-slice-read-if1-2
     add-k
     loop-less

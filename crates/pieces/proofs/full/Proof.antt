@@ -15,7 +15,7 @@ abbrev μ-loop : tie.MeasureT-loop
 μ-loop f at n good₀ k₀ good k = n - k
 
 loop-holds : tie.Need-loop-holds Inv-loop μ-loop
-loop-holds c = (omega arith, test-none (NotZero (c .args .f .now)) (c .args .at) (omega arith))
+loop-holds c = (omega arith, test-none (NotZero (c .args .f .now)) (c .args .at))
 
 add-if1 : tie.Need-add-if1 Inv-loop μ-loop
 add-if1 c = search needs
@@ -32,7 +32,7 @@ loop-less c = search needs
 loop-again : tie.Need-loop-again Inv-loop μ-loop
 loop-again c = let l = c .before .before .before in
     let a = l .before .args in
-    (omega arith, test-good (NotZero (a .f .now)) (a .at) (omega arith) (l .loop .inv .1) (c .if1 .taken))
+    (omega arith, test-good (NotZero (a .f .now)) (a .at) (l .loop .k) (l .loop .inv .1) (c .if1 .taken))
 
 add-k-2 : tie.Need-add-k-2 Inv-loop μ-loop
 add-k-2 c = search needs
@@ -43,7 +43,7 @@ loop-less-2 c = search needs
 loop-again-2 : tie.Need-loop-again-2 Inv-loop μ-loop
 loop-again-2 c = let l = c .before .before .before in
     let a = l .before .args in
-    (omega arith, test-bad (NotZero (a .f .now)) (a .at) (a .at + l .loop .k) (omega arith) (omega arith) (λ n. n (c .if1 .left)))
+    (omega arith, test-bad (NotZero (a .f .now)) (a .at) (l .loop .k) (λ n. n (c .if1 .left)))
 
 returns : tie.Need-returns Inv-loop μ-loop
 returns c = let l = c .before in

@@ -151,93 +151,49 @@ cast-path c =
 
 array-write-path : tie.Need-array-write-path Inv-loop μ-loop
 array-write-path c =
-    let v = c .before .before .before .before .before .before .before .before .before .before .before .before .before .loop .inv in
-    let p = c .before .before .before .before .before .before .before .before .before .before .before .before .before .before .before .before .before .pre in
-    let W = v .6 (c .before .before .before .before .before .before .before .before .before .before .before .before .if1 .left) in
-    let E = c .before .before .before .before .before .before .before .before .before .leaves in
-    let L = E .ensures .1 (W .kids) (W .node) .holds (not-false _ (c .before .before .before .if5 .left)) in
-    let X = walk-leaves W (E .ensures .0) L in
-    omega (arith, v .1, X .short, E .kept)
+    let W = c .before .before .before .before .before .before .before .before .before .before .before .before .before .loop .inv .6 (c .before .before .before .before .before .before .before .before .before .before .before .before .if1 .left) in
+    omega (arith, c .before .before .before .before .before .before .before .before .before .before .before .before .before .loop .inv .1, W .short, c .before .before .before .before .before .before .before .before .before .leaves .kept)
 
 cast-slots : tie.Need-cast-slots Inv-loop μ-loop
 cast-slots c =
-    let v = c .before .before .before .before .before .before .before .before .before .before .before .before .before .loop .inv in
-    let p = c .before .before .before .before .before .before .before .before .before .before .before .before .before .before .before .before .before .pre in
-    let W = v .6 (c .before .before .before .before .before .before .before .before .before .before .before .before .if1 .left) in
-    let E = c .before .before .before .before .before .before .before .before .before .leaves in
-    let L = E .ensures .1 (W .kids) (W .node) .holds (not-false _ (c .before .before .before .if5 .left)) in
-    let X = walk-leaves W (E .ensures .0) L in
-    omega (arith, X .last, p .1 .table, p .1 .order, p .1 .size)
+    let W = c .before .before .before .before .before .before .before .before .before .before .before .before .before .loop .inv .6 (c .before .before .before .before .before .before .before .before .before .before .before .before .if1 .left) in
+    let L = c .before .before .before .before .before .before .before .before .before .before .before .before .before .before .before .before .before .pre .1 in
+    omega (arith, W .last, L .table, L .order, L .size)
 
 mul-slots : tie.Need-mul-slots Inv-loop μ-loop
 mul-slots c =
-    let v = c .before .before .before .before .before .before .before .before .before .before .before .before .before .loop .inv in
-    let p = c .before .before .before .before .before .before .before .before .before .before .before .before .before .before .before .before .before .pre in
-    let W = v .6 (c .before .before .before .before .before .before .before .before .before .before .before .before .if1 .left) in
-    let E = c .before .before .before .before .before .before .before .before .before .leaves in
-    let L = E .ensures .1 (W .kids) (W .node) .holds (not-false _ (c .before .before .before .if5 .left)) in
-    let X = walk-leaves W (E .ensures .0) L in
-    omega (arith, walk-room X)
+    let W = c .before .before .before .before .before .before .before .before .before .before .before .before .before .loop .inv .6 (c .before .before .before .before .before .before .before .before .before .before .before .before .if1 .left) in
+    omega (arith, walk-room W)
 
 array-write-slots : tie.Need-array-write-slots Inv-loop μ-loop
 array-write-slots c =
-    let v = c .before .before .before .before .before .before .before .before .before .before .before .before .before .loop .inv in
-    let p = c .before .before .before .before .before .before .before .before .before .before .before .before .before .before .before .before .before .pre in
-    let W = v .6 (c .before .before .before .before .before .before .before .before .before .before .before .before .if1 .left) in
-    let E = c .before .before .before .before .before .before .before .before .before .leaves in
-    let L = E .ensures .1 (W .kids) (W .node) .holds (not-false _ (c .before .before .before .if5 .left)) in
-    let X = walk-leaves W (E .ensures .0) L in
-    omega (arith, walk-room X, v .2)
+    let W = c .before .before .before .before .before .before .before .before .before .before .before .before .before .loop .inv .6 (c .before .before .before .before .before .before .before .before .before .before .before .before .if1 .left) in
+    omega (arith, walk-room W, c .before .before .before .before .before .before .before .before .before .before .before .before .before .loop .inv .2)
 
 cast-depths : tie.Need-cast-depths Inv-loop μ-loop
 cast-depths c =
-    let v = c .before .before .before .before .before .before .before .before .before .before .before .before .before .loop .inv in
-    let p = c .before .before .before .before .before .before .before .before .before .before .before .before .before .before .before .before .before .pre in
-    let W = v .6 (c .before .before .before .before .before .before .before .before .before .before .before .before .if1 .left) in
-    let E = c .before .before .before .before .before .before .before .before .before .leaves in
-    let L = E .ensures .1 (W .kids) (W .node) .holds (not-false _ (c .before .before .before .if5 .left)) in
-    let X = walk-leaves W (E .ensures .0) L in
-    omega (arith, X .short)
+    let W = c .before .before .before .before .before .before .before .before .before .before .before .before .before .loop .inv .6 (c .before .before .before .before .before .before .before .before .before .before .before .before .if1 .left) in
+    omega (arith, W .short)
 
 array-write-depths : tie.Need-array-write-depths Inv-loop μ-loop
 array-write-depths c =
-    let v = c .before .before .before .before .before .before .before .before .before .before .before .before .before .loop .inv in
-    let p = c .before .before .before .before .before .before .before .before .before .before .before .before .before .before .before .before .before .pre in
-    let W = v .6 (c .before .before .before .before .before .before .before .before .before .before .before .before .if1 .left) in
-    let E = c .before .before .before .before .before .before .before .before .before .leaves in
-    let L = E .ensures .1 (W .kids) (W .node) .holds (not-false _ (c .before .before .before .if5 .left)) in
-    let X = walk-leaves W (E .ensures .0) L in
-    omega (arith, walk-room X, v .3)
+    let W = c .before .before .before .before .before .before .before .before .before .before .before .before .before .loop .inv .6 (c .before .before .before .before .before .before .before .before .before .before .before .before .if1 .left) in
+    omega (arith, walk-room W, c .before .before .before .before .before .before .before .before .before .before .before .before .before .loop .inv .3)
 
 cast-turns : tie.Need-cast-turns Inv-loop μ-loop
 cast-turns c =
-    let v = c .before .before .before .before .before .before .before .before .before .before .before .before .before .loop .inv in
-    let p = c .before .before .before .before .before .before .before .before .before .before .before .before .before .before .before .before .before .pre in
-    let W = v .6 (c .before .before .before .before .before .before .before .before .before .before .before .before .if1 .left) in
-    let E = c .before .before .before .before .before .before .before .before .before .leaves in
-    let L = E .ensures .1 (W .kids) (W .node) .holds (not-false _ (c .before .before .before .if5 .left)) in
-    let X = walk-leaves W (E .ensures .0) L in
-    omega (arith, X .count, X .few, c .before .before .if6 .taken)
+    let W = c .before .before .before .before .before .before .before .before .before .before .before .before .before .loop .inv .6 (c .before .before .before .before .before .before .before .before .before .before .before .before .if1 .left) in
+    omega (arith, W .count, W .few, c .before .before .if6 .taken)
 
 array-write-turns : tie.Need-array-write-turns Inv-loop μ-loop
 array-write-turns c =
-    let v = c .before .before .before .before .before .before .before .before .before .before .before .before .before .loop .inv in
-    let p = c .before .before .before .before .before .before .before .before .before .before .before .before .before .before .before .before .before .pre in
-    let W = v .6 (c .before .before .before .before .before .before .before .before .before .before .before .before .if1 .left) in
-    let E = c .before .before .before .before .before .before .before .before .before .leaves in
-    let L = E .ensures .1 (W .kids) (W .node) .holds (not-false _ (c .before .before .before .if5 .left)) in
-    let X = walk-leaves W (E .ensures .0) L in
-    omega (arith, walk-room X, v .4)
+    let W = c .before .before .before .before .before .before .before .before .before .before .before .before .before .loop .inv .6 (c .before .before .before .before .before .before .before .before .before .before .before .before .if1 .left) in
+    omega (arith, walk-room W, c .before .before .before .before .before .before .before .before .before .before .before .before .before .loop .inv .4)
 
 add-waiting : tie.Need-add-waiting Inv-loop μ-loop
 add-waiting c =
-    let v = c .before .before .before .before .before .before .before .before .before .before .before .before .before .loop .inv in
-    let p = c .before .before .before .before .before .before .before .before .before .before .before .before .before .before .before .before .before .pre in
-    let W = v .6 (c .before .before .before .before .before .before .before .before .before .before .before .before .if1 .left) in
-    let E = c .before .before .before .before .before .before .before .before .before .leaves in
-    let L = E .ensures .1 (W .kids) (W .node) .holds (not-false _ (c .before .before .before .if5 .left)) in
-    let X = walk-leaves W (E .ensures .0) L in
-    omega (arith, walk-room X)
+    let W = c .before .before .before .before .before .before .before .before .before .before .before .before .before .loop .inv .6 (c .before .before .before .before .before .before .before .before .before .before .before .before .if1 .left) in
+    omega (arith, walk-room W)
 
 read-requires-2 : tie.Need-read-requires-2 Inv-loop μ-loop
 read-requires-2 c κs =
@@ -254,13 +210,8 @@ read-requires-2 c κs =
 
 add-depth : tie.Need-add-depth Inv-loop μ-loop
 add-depth c =
-    let v = c .before .before .before .before .before .before .before .before .before .before .before .before .before .before .loop .inv in
-    let p = c .before .before .before .before .before .before .before .before .before .before .before .before .before .before .before .before .before .before .pre in
-    let W = v .6 (c .before .before .before .before .before .before .before .before .before .before .before .before .before .if1 .left) in
-    let E = c .before .before .before .before .before .before .before .before .before .before .leaves in
-    let L = E .ensures .1 (W .kids) (W .node) .holds (not-false _ (c .before .before .before .before .if5 .left)) in
-    let X = walk-leaves W (E .ensures .0) L in
-    omega (arith, X .short)
+    let W = c .before .before .before .before .before .before .before .before .before .before .before .before .before .before .loop .inv .6 (c .before .before .before .before .before .before .before .before .before .before .before .before .before .if1 .left) in
+    omega (arith, W .short)
 
 loop-less-3 : tie.Need-loop-less-3 Inv-loop μ-loop
 loop-less-3 c =
@@ -307,98 +258,54 @@ sub-waiting c =
 
 mul-slot : tie.Need-mul-slot Inv-loop μ-loop
 mul-slot c =
-    let v = c .before .before .before .before .before .before .before .before .before .before .before .before .loop .inv in
-    let p = c .before .before .before .before .before .before .before .before .before .before .before .before .before .before .before .before .pre in
-    let W = v .6 (c .before .before .before .before .before .before .before .before .before .before .before .if1 .left) in
-    let E = c .before .before .before .before .before .before .before .before .leaves in
-    let L = E .ensures .1 (W .kids) (W .node) .holds (not-false _ (c .before .before .if5 .left)) in
-    let X = walk-leaves W (E .ensures .0) L in
-    omega (arith, walk-room X)
+    let W = c .before .before .before .before .before .before .before .before .before .before .before .before .loop .inv .6 (c .before .before .before .before .before .before .before .before .before .before .before .if1 .left) in
+    omega (arith, walk-room W)
 
 array-read-slot : tie.Need-array-read-slot Inv-loop μ-loop
 array-read-slot c =
-    let v = c .before .before .before .before .before .before .before .before .before .before .before .before .loop .inv in
-    let p = c .before .before .before .before .before .before .before .before .before .before .before .before .before .before .before .before .pre in
-    let W = v .6 (c .before .before .before .before .before .before .before .before .before .before .before .if1 .left) in
-    let E = c .before .before .before .before .before .before .before .before .leaves in
-    let L = E .ensures .1 (W .kids) (W .node) .holds (not-false _ (c .before .before .if5 .left)) in
-    let X = walk-leaves W (E .ensures .0) L in
-    omega (arith, walk-room X, c .if7 .left)
+    let W = c .before .before .before .before .before .before .before .before .before .before .before .before .loop .inv .6 (c .before .before .before .before .before .before .before .before .before .before .before .if1 .left) in
+    omega (arith, walk-room W, c .if7 .left)
 
 cast-slot : tie.Need-cast-slot Inv-loop μ-loop
 cast-slot c =
-    let v = c .before .before .before .before .before .before .before .before .before .before .before .before .loop .inv in
-    let p = c .before .before .before .before .before .before .before .before .before .before .before .before .before .before .before .before .pre in
-    let W = v .6 (c .before .before .before .before .before .before .before .before .before .before .before .if1 .left) in
-    let E = c .before .before .before .before .before .before .before .before .leaves in
-    let L = E .ensures .1 (W .kids) (W .node) .holds (not-false _ (c .before .before .if5 .left)) in
-    let X = walk-leaves W (E .ensures .0) L in
-    let A = walk-above X {top = c .before .before .before .before .before .before .before .before .before .before .before .before .loop .waiting - 1} (omega (arith, c .if7 .left)) in
-    omega (arith, A .last, p .1 .table, p .1 .order, p .1 .size)
+    let W = c .before .before .before .before .before .before .before .before .before .before .before .before .loop .inv .6 (c .before .before .before .before .before .before .before .before .before .before .before .if1 .left) in
+    let A = walk-above W {top = c .before .before .before .before .before .before .before .before .before .before .before .before .loop .waiting - 1} (omega (arith, c .if7 .left)) in
+    let L = c .before .before .before .before .before .before .before .before .before .before .before .before .before .before .before .before .pre .1 in
+    omega (arith, A .last, L .table, L .order, L .size)
 
 array-read-depth : tie.Need-array-read-depth Inv-loop μ-loop
 array-read-depth c =
-    let v = c .before .before .before .before .before .before .before .before .before .before .before .before .loop .inv in
-    let p = c .before .before .before .before .before .before .before .before .before .before .before .before .before .before .before .before .pre in
-    let W = v .6 (c .before .before .before .before .before .before .before .before .before .before .before .if1 .left) in
-    let E = c .before .before .before .before .before .before .before .before .leaves in
-    let L = E .ensures .1 (W .kids) (W .node) .holds (not-false _ (c .before .before .if5 .left)) in
-    let X = walk-leaves W (E .ensures .0) L in
-    omega (arith, walk-room X, c .if7 .left)
+    let W = c .before .before .before .before .before .before .before .before .before .before .before .before .loop .inv .6 (c .before .before .before .before .before .before .before .before .before .before .before .if1 .left) in
+    omega (arith, walk-room W, c .if7 .left)
 
 cast-depth : tie.Need-cast-depth Inv-loop μ-loop
 cast-depth c =
-    let v = c .before .before .before .before .before .before .before .before .before .before .before .before .loop .inv in
-    let p = c .before .before .before .before .before .before .before .before .before .before .before .before .before .before .before .before .pre in
-    let W = v .6 (c .before .before .before .before .before .before .before .before .before .before .before .if1 .left) in
-    let E = c .before .before .before .before .before .before .before .before .leaves in
-    let L = E .ensures .1 (W .kids) (W .node) .holds (not-false _ (c .before .before .if5 .left)) in
-    let X = walk-leaves W (E .ensures .0) L in
-    let A = walk-above X {top = c .before .before .before .before .before .before .before .before .before .before .before .before .loop .waiting - 1} (omega (arith, c .if7 .left)) in
-    omega (arith, A .less, X .short)
+    let W = c .before .before .before .before .before .before .before .before .before .before .before .before .loop .inv .6 (c .before .before .before .before .before .before .before .before .before .before .before .if1 .left) in
+    let A = walk-above W {top = c .before .before .before .before .before .before .before .before .before .before .before .before .loop .waiting - 1} (omega (arith, c .if7 .left)) in
+    omega (arith, A .less, W .short)
 
 array-read-i : tie.Need-array-read-i Inv-loop μ-loop
 array-read-i c =
-    let v = c .before .before .before .before .before .before .before .before .before .before .before .before .loop .inv in
-    let p = c .before .before .before .before .before .before .before .before .before .before .before .before .before .before .before .before .pre in
-    let W = v .6 (c .before .before .before .before .before .before .before .before .before .before .before .if1 .left) in
-    let E = c .before .before .before .before .before .before .before .before .leaves in
-    let L = E .ensures .1 (W .kids) (W .node) .holds (not-false _ (c .before .before .if5 .left)) in
-    let X = walk-leaves W (E .ensures .0) L in
-    omega (arith, walk-room X, c .if7 .left)
+    let W = c .before .before .before .before .before .before .before .before .before .before .before .before .loop .inv .6 (c .before .before .before .before .before .before .before .before .before .before .before .if1 .left) in
+    omega (arith, walk-room W, c .if7 .left)
 
 cast-i : tie.Need-cast-i Inv-loop μ-loop
 cast-i c =
-    let v = c .before .before .before .before .before .before .before .before .before .before .before .before .loop .inv in
-    let p = c .before .before .before .before .before .before .before .before .before .before .before .before .before .before .before .before .pre in
-    let W = v .6 (c .before .before .before .before .before .before .before .before .before .before .before .if1 .left) in
-    let E = c .before .before .before .before .before .before .before .before .leaves in
-    let L = E .ensures .1 (W .kids) (W .node) .holds (not-false _ (c .before .before .if5 .left)) in
-    let X = walk-leaves W (E .ensures .0) L in
-    let A = walk-above X {top = c .before .before .before .before .before .before .before .before .before .before .before .before .loop .waiting - 1} (omega (arith, c .if7 .left)) in
+    let W = c .before .before .before .before .before .before .before .before .before .before .before .before .loop .inv .6 (c .before .before .before .before .before .before .before .before .before .before .before .if1 .left) in
+    let A = walk-above W {top = c .before .before .before .before .before .before .before .before .before .before .before .before .loop .waiting - 1} (omega (arith, c .if7 .left)) in
     omega (arith, A .turn)
 
 add-i : tie.Need-add-i Inv-loop μ-loop
 add-i c =
-    let v = c .before .before .before .before .before .before .before .before .before .before .before .before .loop .inv in
-    let p = c .before .before .before .before .before .before .before .before .before .before .before .before .before .before .before .before .pre in
-    let W = v .6 (c .before .before .before .before .before .before .before .before .before .before .before .if1 .left) in
-    let E = c .before .before .before .before .before .before .before .before .leaves in
-    let L = E .ensures .1 (W .kids) (W .node) .holds (not-false _ (c .before .before .if5 .left)) in
-    let X = walk-leaves W (E .ensures .0) L in
-    let A = walk-above X {top = c .before .before .before .before .before .before .before .before .before .before .before .before .loop .waiting - 1} (omega (arith, c .if7 .left)) in
+    let W = c .before .before .before .before .before .before .before .before .before .before .before .before .loop .inv .6 (c .before .before .before .before .before .before .before .before .before .before .before .if1 .left) in
+    let A = walk-above W {top = c .before .before .before .before .before .before .before .before .before .before .before .before .loop .waiting - 1} (omega (arith, c .if7 .left)) in
     omega (arith, A .turn)
 
 array-read-from : tie.Need-array-read-from Inv-loop μ-loop
 array-read-from c =
-    let v = c .before .before .before .before .before .before .before .before .before .before .before .before .loop .inv in
-    let p = c .before .before .before .before .before .before .before .before .before .before .before .before .before .before .before .before .pre in
-    let W = v .6 (c .before .before .before .before .before .before .before .before .before .before .before .if1 .left) in
-    let E = c .before .before .before .before .before .before .before .before .leaves in
-    let L = E .ensures .1 (W .kids) (W .node) .holds (not-false _ (c .before .before .if5 .left)) in
-    let X = walk-leaves W (E .ensures .0) L in
-    let A = walk-above X {top = c .before .before .before .before .before .before .before .before .before .before .before .before .loop .waiting - 1} (omega (arith, c .if7 .left)) in
-    omega (arith, A .less, X .short, v .1, E .kept)
+    let W = c .before .before .before .before .before .before .before .before .before .before .before .before .loop .inv .6 (c .before .before .before .before .before .before .before .before .before .before .before .if1 .left) in
+    let A = walk-above W {top = c .before .before .before .before .before .before .before .before .before .before .before .before .loop .waiting - 1} (omega (arith, c .if7 .left)) in
+    omega (arith, A .less, W .short, c .before .before .before .before .before .before .before .before .before .before .before .before .loop .inv .1, c .before .before .before .before .before .before .before .before .leaves .kept)
 
 cast-from : tie.Need-cast-from Inv-loop μ-loop
 cast-from c =
@@ -424,26 +331,16 @@ add-from c =
 
 read-requires-3 : tie.Need-read-requires-3 Inv-loop μ-loop
 read-requires-3 c κs =
-    let v = c .before .before .before .before .before .before .before .before .before .before .before .before .loop .inv in
-    let p = c .before .before .before .before .before .before .before .before .before .before .before .before .before .before .before .before .pre in
-    let W = v .6 (c .before .before .before .before .before .before .before .before .before .before .before .if1 .left) in
-    let E = c .before .before .before .before .before .before .before .before .leaves in
-    let L = E .ensures .1 (W .kids) (W .node) .holds (not-false _ (c .before .before .if5 .left)) in
-    let X = walk-leaves W (E .ensures .0) L in
-    let A = walk-above X {top = c .before .before .before .before .before .before .before .before .before .before .before .before .loop .waiting - 1} (omega (arith, c .if7 .left)) in
-    let G = p .0 in
+    let W = c .before .before .before .before .before .before .before .before .before .before .before .before .loop .inv .6 (c .before .before .before .before .before .before .before .before .before .before .before .if1 .left) in
+    let A = walk-above W {top = c .before .before .before .before .before .before .before .before .before .before .before .before .loop .waiting - 1} (omega (arith, c .if7 .left)) in
+    let G = c .before .before .before .before .before .before .before .before .before .before .before .before .before .before .before .before .pre .0 in
     (A .first, omega (arith, A .last, G .table, G .order, G .inside))
 
 count-requires-2 : tie.Need-count-requires-2 Inv-loop μ-loop
 count-requires-2 c κs =
-    let v = c .before .before .before .before .before .before .before .before .before .before .before .before .before .loop .inv in
-    let p = c .before .before .before .before .before .before .before .before .before .before .before .before .before .before .before .before .before .pre in
-    let W = v .6 (c .before .before .before .before .before .before .before .before .before .before .before .before .if1 .left) in
-    let E = c .before .before .before .before .before .before .before .before .before .leaves in
-    let L = E .ensures .1 (W .kids) (W .node) .holds (not-false _ (c .before .before .before .if5 .left)) in
-    let X = walk-leaves W (E .ensures .0) L in
-    let A = walk-above X {top = c .before .before .before .before .before .before .before .before .before .before .before .before .before .loop .waiting - 1} (omega (arith, c .before .if7 .left)) in
-    omega (arith, A .room, c .read3 .ensures .1, p .0 .inside)
+    let W = c .before .before .before .before .before .before .before .before .before .before .before .before .before .loop .inv .6 (c .before .before .before .before .before .before .before .before .before .before .before .before .if1 .left) in
+    let A = walk-above W {top = c .before .before .before .before .before .before .before .before .before .before .before .before .before .loop .waiting - 1} (omega (arith, c .before .if7 .left)) in
+    omega (arith, A .room, c .read3 .ensures .1, c .before .before .before .before .before .before .before .before .before .before .before .before .before .before .before .before .before .pre .0 .inside)
 
 loop-less-4 : tie.Need-loop-less-4 Inv-loop μ-loop
 loop-less-4 c =
