@@ -7,7 +7,7 @@ use native.Mathlib.Omega.{arith}
 use native.Mathlib.Numerals.{add-one}
 use native.Mathlib.Decide.{ℕ-discrete}
 use lib.ListN.{length, getD, set, take, drop, length-append, length-take, length-drop}
-use lib.Seq.{take-suc, take-take, take-append-le, take-set-le, take-suc-set, drop-cons, ext-getD, getD-take, getD-drop}
+use lib.Seq.{take-suc, take-take, take-append-le, take-suc-set, drop-cons, ext-getD, getD-take, getD-drop}
 use lib.Dec.{eqb}
 use Rattle.layout.specs.Number.{le, byteAt, Bytes}
 use Rattle.layout.specs.Place.{prefixChild, prefixLength, node48Index}
@@ -141,9 +141,6 @@ kept-same = record { same = refl }
 -- a longer part is kept
 kept-less : (depth n : ℕ) (p q : List ℕ) → take (depth + n) q ≡ take (depth + n) p → take depth q ≡ take depth p
 kept-less depth n p q e = sym (take-take depth (depth + n) q (omega arith)) ∙ ap (λ (l : List ℕ). take depth l) e ∙ take-take depth (depth + n) p (omega arith)
-
-pub kept-set : {depth : ℕ} {p r : List ℕ} (b : ℕ) → Kept depth p r → Kept depth p (set r depth b)
-kept-set {depth} {p} {r} b K = record { same = take-set-le depth r depth b (omega arith) ∙ K .same }
 
 pub kept-far : {f : List ℕ} {at depth n : ℕ} {p r q : List ℕ} → depth ≤ length p → Kept (depth + n) r q → Extended f at depth n p r → Kept depth p q
 kept-far {f} {at} {depth} {n} {p} {r} {q} h K X =

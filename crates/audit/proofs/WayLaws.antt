@@ -24,13 +24,11 @@ use Rattle.node.proofs.KidsLaws.{reached-start, reached-next}
 use Rattle.shape_inner.specs.Inner.{InnerHere}
 use Rattle.census.specs.declared.Sums.{Sums}
 use Rattle.census.specs.Told.{isBody, Tally, Told}
-use Rattle.census.proofs.TakeLaws.{not-both}
 use Rattle.census.proofs.ToldLaws.{Leads, grown-none, told-no, told-yes}
 use Rattle.audit.specs.declared.walk.Inner as walk
-use Rattle.audit.specs.declared.walk.Run.{Run}
-use Rattle.audit.specs.Walk.{Kept, TreeItems, RunItems, Fails, Opens, NodeOpened, PrefixLeads, RunHere, LeavesCounted, LeavesTold}
+use Rattle.audit.specs.Walk.{Kept, TreeItems, RunItems, Fails, NodeOpened, PrefixLeads}
 use Rattle.audit.proofs.TreeLaws.{tree-first}
-use Rattle.audit.proofs.OpenLaws.{Row, opens-told, opens-fails, opens-on, opens-as, row-opens, row-fails, row-move, row-back, tree-opens}
+use Rattle.audit.proofs.OpenLaws.{Row, opens-told, opens-on, opens-as, row-opens, row-fails, row-move, row-back, tree-opens}
 use Rattle.audit.proofs.WalkLaws.{entry-made, path-byte, run-split, run-join, kids-next}
 
 -- ---- what is left
@@ -244,37 +242,6 @@ rest-end {f} {path} {o} {kind} {i} kids e zs R = go (R .kids) (R .pairsAre ∙ a
     go nil p a = sym a
     go (kid b j l rest) p a = clash (cc)
 
--- ---- the Leaves in a row
-
-pub run-any : {f : List ℕ} {o kind n start low : ℕ} → RunHere f o kind n start low → (ks : List (ℕ × ℕ)) → InnerAt f o kind ks → (n ≡ length ks) × Reached ks start low
-run-any {f} {o} {kind} H ks N =
-    let e = inner-unique f o kind ks (H .kids) N (H .node) in
-    (H .count ∙ ap (λ (l : List (ℕ × ℕ)). length l) (sym e), rw e (H .reached))
-
-module _ {f path : List ℕ} {o kind d u b i : ℕ} {m : List ℕ} {t : Sums} {m₁ : List ℕ} {t₁ : Sums} (start : ℕ) (ks : List (ℕ × ℕ)) (O : Opens (Rest f path o kind ks i) (Rest f path o kind ks start) f d u b m t m₁ t₁) where
-  -- the child is refused
-  pub leaves-bad : {c s : ℕ} {q m' : List ℕ} {r : Run} → i < length ks → c ≡ byteIn ks i → s ≡ childIn ks i → q ≡ path ++ c ∷ [] → r .sums .good ≡ false → Fails (TreeItems f q s) d u b m₁ t₁
-      → LeavesTold f path o kind ks start d u b m t m' r
-  leaves-bad {r = r} l ec es eq k h =
-      record {
-        holds = λ g. not-both (r .sums) g k;
-        fails = λ n. opens-fails O (λ is B zs R Y. row-fails h is B zs (rest-first ks l ec es eq refl zs R) Y);
-      }
-
-  -- it is no Leaf, or there is none
-  pub leaves-end : {r : Run} → i ≤ length ks → r .next ≡ i → Reached ks i (r .from) → r .from ≤ 256 → r .sums ≡ t₁ → Tally u 0 t₁ → t .slots ≤ t₁ .slots
-      → (i < length ks → (1 ≤ childIn ks i) × (childIn ks i ≤ u) × (highOf f (childIn ks i) ≡ 1 → ⊥)) → LeavesTold f path o kind ks start d u b m t m₁ r
-  leaves-end {r} l en R small es y more other =
-      record {
-        holds = λ g. record { inside = rw en l; reached = rw en R; small = small; tally = rw es y; more = rw es more; other = rw en other; opens = rw (en, es) O };
-        fails = λ n. not-both t₁ (y .good) (rw es at n);
-      }
-
-  -- it is a Leaf
-  pub leaves-more : {c s next : ℕ} {q m' : List ℕ} {t' : Sums} → i < length ks → c ≡ byteIn ks i → s ≡ childIn ks i → q ≡ path ++ c ∷ [] → next ≡ i + 1 → Told (TreeItems f q s) (TreeItems f q s) f d u b m₁ t₁ m' t' → t' .good ≡ true
-      → Opens (Rest f path o kind ks next) (Rest f path o kind ks start) f d u b m t m' t'
-  leaves-more l ec es eq en T g = opens-on O (opens-on (opens-as (rest-join ks l ec es eq en) (rest-first ks l ec es eq en)) (tree-opens T g))
-
 -- ---- turns of the loop
 
 -- the walk starts
@@ -371,37 +338,6 @@ module _ {G : List Item → Type 0} {f : List ℕ} {d u b : ℕ} {m₀ : List �
           let c = W .count in
           L m t (told-yes (W .tally .good) (record { items = []; are = record { first = []; rest = []; head = rest-none {i = i} (W .kids) (omega arith); tail = refl; are = refl }; grown = grown-none; sited = tt; tally = W .tally }))
 
-  -- Leaves in a row are counted
-  pub walk-leaves : {now m' : List ℕ} {r : Run} → Kept depth path now → LeavesCounted f (take depth path) place kind (W .kids) i d u b m t m' r
-      → Walking G f d u b m₀ t₀ m' now slots depths turns waiting (r .sums) slot place kind depth n (r .next) (r .from)
-  walk-leaves {now} {m'} {r} K L =
-      let e = W .count in
-      record {
-        kids = W .kids;
-        ways = W .ways;
-        node = W .node;
-        entry = W .entry;
-        first = W .first;
-        last = W .last;
-        room = W .room;
-        short = W .short;
-        tally = L .tally;
-        count = e;
-        few = W .few;
-        inside = let h = L .inside in omega arith;
-        reached = L .reached;
-        low = L .small;
-        height = W .height;
-        noted = noted-path f u b path slots depths turns now depth (W .ways) (K .same) (W .noted);
-        leads = λ m'' q T. W .leads m'' q (opens-told (row-opens (L .opens)) (rw (K .same) at T));
-      }
-
-  pub walk-leaves-refused : {m' : List ℕ} {r : Sums} → r .good ≡ false → Fails (RunItems f (take depth path) place kind (drop i (W .kids))) d u b m t → Told G G f d u b m₀ t₀ m' r
-  walk-leaves-refused {m'} {r} q h = W .leads m' r (told-no q (row-fails h))
-
-  pub walk-run : RunHere f place kind n i from
-  walk-run = let e = W .count in let h = W .few in record { kids = W .kids; node = W .node; count = e; few = omega arith; inside = W .inside; reached = W .reached; small = W .low }
-
   module _ {c k : ℕ} (below : i < n) (ec : c ≡ byteIn (W .kids) i) (ek : k ≡ childIn (W .kids) i) (long : length path ≡ 113) where
     child-below : i < length (W .kids)
     child-below = let e = W .count in omega arith
@@ -416,6 +352,32 @@ module _ {G : List Item → Type 0} {f : List ℕ} {d u b : ℕ} {m₀ : List �
         W .leads m' r
         (told-no q
         (row-fails (λ is B zs R Y. row-fails h is B zs (rest-first (W .kids) child-below ec ek child-path refl zs R) Y)))
+
+    -- it was a Leaf
+    pub walk-leaf : {m' : List ℕ} {t' : Sums} {next to : ℕ} → Told (TreeItems f (take (depth + 1) (set path depth c)) k) (TreeItems f (take (depth + 1) (set path depth c)) k) f d u b m t m' t' → t' .good ≡ true → next ≡ i + 1 → to ≡ c + 1 → c < 256
+        → Walking G f d u b m₀ t₀ m' (set path depth c) slots depths turns waiting t' slot place kind depth n next to
+    walk-leaf {m'} {t'} {next} {to} T g en et hc =
+        let e = W .count in
+        let same : take depth (set path depth c) ≡ take depth path = take-set-le depth path depth c (omega arith) in
+        record {
+          kids = W .kids;
+          ways = W .ways;
+          node = W .node;
+          entry = W .entry;
+          first = W .first;
+          last = W .last;
+          room = W .room;
+          short = W .short;
+          tally = T .holds g .tally;
+          count = e;
+          few = W .few;
+          inside = omega arith;
+          reached = rw (en, et, ec) (reached-next (W .kids) i (inner-asc f place kind (W .kids) (W .node)) child-below);
+          low = omega arith;
+          height = W .height;
+          noted = noted-path f u b path slots depths turns (set path depth c) depth (W .ways) same (W .noted);
+          leads = λ m'' r K. W .leads m'' r (opens-told (row-opens (opens-on (opens-as (rest-join (W .kids) child-below ec ek child-path en) (rest-first (W .kids) child-below ec ek child-path en)) (tree-opens T g))) (rw same at K));
+        }
 
     -- the walk goes down, and the node waits
     pub walk-down : {high at next deep : ℕ} → c < 256 → length slots ≡ 113 → length depths ≡ 113 → length turns ≡ 113 → high ≡ highOf f k → at ≡ placeOf f k → at < 1048576 → 1 ≤ k → k ≤ u → (high ≡ 1 → ⊥) → next ≡ waiting + 1 → deep ≡ depth + 1

@@ -8,15 +8,12 @@ use Rattle.layout.specs.Kind.{Crossing, Node4, Node256, bodySize}
 use Rattle.layout.specs.Entry.{placeOf, highOf}
 use Rattle.model.specs.Edition.{edition1}
 use Rattle.model.specs.Item.{Item, body}
-use Rattle.model.specs.Body.{InnerAt, childIn}
 use Rattle.model.specs.Frame.{Lay, LayKids, slotOf, items, itemsAll, pairs, Entry, Places, Tree, Trees}
 use Rattle.claims.specs.Units.{Each}
-use Rattle.node.specs.Kids.{Reached}
 use Rattle.shape_inner.specs.Inner.{InnerHere}
 use Rattle.census.specs.Told.{Tidy, Sited, Tally, Book, Grown, Told}
 use Rattle.census.specs.declared.Sums.{Sums}
 use Rattle.audit.specs.declared.walk.Inner.{Inner}
-use Rattle.audit.specs.declared.walk.Run.{Run}
 
 -- the kind of a slot of the tree, the root's EmptyRoot aside
 pub record Live (kind : ℕ) : Type 0 where
@@ -104,29 +101,3 @@ pub record PrefixLeads (f path : List ℕ) (depth s d u b : ℕ) (m : List ℕ) 
 pub record PrefixTold (f path : List ℕ) (depth s d u b : ℕ) (m : List ℕ) (t : Sums) (now m' : List ℕ) (i : Inner) : Type 0 where
   pub holds : i .sums .good ≡ true → PrefixLeads f path depth s d u b m t now m' i
   pub fails : i .sums .good ≡ false → Fails (TreeItems f path s) d u b m t
-
--- ---- the Leaves in a row among a node's children
-
--- a node of n children, at the child from which on they are walked
-pub record RunHere (f : List ℕ) (o kind n start low : ℕ) : Type 0 where
-  pub kids : List (ℕ × ℕ)
-  pub node : InnerAt f o kind kids
-  pub count : n ≡ length kids
-  pub few : n ≤ 256
-  pub inside : start ≤ n
-  pub reached : Reached kids start low
-  pub small : low ≤ 256
-
--- those before `next` were counted, and the child there is no Leaf
-pub record LeavesCounted (f path : List ℕ) (o kind : ℕ) (ks : List (ℕ × ℕ)) (start d u b : ℕ) (m : List ℕ) (t : Sums) (m' : List ℕ) (r : Run) : Type 0 where
-  pub inside : r .next ≤ length ks
-  pub reached : Reached ks (r .next) (r .from)
-  pub small : r .from ≤ 256
-  pub tally : Tally u 0 (r .sums)
-  pub more : t .slots ≤ r .sums .slots
-  pub other : r .next < length ks → (1 ≤ childIn ks (r .next)) × (childIn ks (r .next) ≤ u) × (highOf f (childIn ks (r .next)) ≡ 1 → ⊥)
-  pub opens : Opens (RunItems f path o kind (drop (r .next) ks)) (RunItems f path o kind (drop start ks)) f d u b m t m' (r .sums)
-
-pub record LeavesTold (f path : List ℕ) (o kind : ℕ) (ks : List (ℕ × ℕ)) (start d u b : ℕ) (m : List ℕ) (t : Sums) (m' : List ℕ) (r : Run) : Type 0 where
-  pub holds : r .sums .good ≡ true → LeavesCounted f path o kind ks start d u b m t m' r
-  pub fails : r .sums .good ≡ false → Fails (RunItems f path o kind (drop start ks)) d u b m t

@@ -12,15 +12,14 @@ use shape::leaf::leaf_good;
 use shape::prefix::prefix_good;
 use shape_inner::inner_good;
 ghost use mathlib.Core.Path.{_≡_};
-ghost use mathlib.Core.List.{List, []};
+ghost use mathlib.Core.List.{[]};
 ghost use mathlib.Core.Bool.{false};
-ghost use Prim.Native.Nat.{ℕ, _+_, _*_, _%_, _<_, _≤_};
+ghost use Prim.Native.Nat.{_+_, _*_, _%_, _<_, _≤_};
 ghost use lib.ListN.{length, take};
 ghost use Rattle.layout.specs.Entry.{placeOf, highOf};
-ghost use Rattle.model.specs.Body.{InnerAt};
 ghost use Rattle.pieces.specs.Decides.{Decides};
 ghost use Rattle.census.specs.Told.{Ground, Limits, Tally, Told};
-ghost use Rattle.audit.specs.Walk.{InnerSlot, Kept, Extended, At, TreeItems, NodeTold, PrefixTold, RunHere, LeavesTold};
+ghost use Rattle.audit.specs.Walk.{InnerSlot, Kept, Extended, At, TreeItems, NodeTold, PrefixTold};
 
 // The longest path to an inner node, and how many such paths there are, by length.
 const DEEPEST: usize = 112;
@@ -183,85 +182,9 @@ fn past_prefix(
     }
 }
 
-// How far the Leaves in a row reach: the child after them, and a byte that its own is not below. Not good: a refusal.
-pub struct Run {
-    pub sums: Sums,
-    pub next: usize,
-    pub from: usize,
-}
-
-// The children from the start on of the inner node of n children whose body lies at o, as long as they are Leaves.
-fn leaves(
-    f: &[u8],
-    map: &mut [u64],
-    path: &mut [u8],
-    depth: usize,
-    o: usize,
-    kind: usize,
-    n: usize,
-    start: usize,
-    low: usize,
-    d: usize,
-    u: usize,
-    b: usize,
-    t: Sums,
-) -> Run
-    requires { ⌜ Ground (now f) d u b × Limits d u b (length (now map)) × Tally u 0 t × (113 ≤ length (now path)) × (depth ≤ 112) × RunHere (now f) o kind n start low ⌝ }
-    ensures { λ r. ⌜ Kept depth (now (path .entry)) (now (path .exit))
-        × ((ks : List (ℕ × ℕ)) → InnerAt (now (f .entry)) o kind ks → LeavesTold (now (f .entry)) (take depth (now (path .entry))) o kind ks start d u b (now (map .entry)) t (now (map .exit)) r) ⌝ }
-{
-    let mut sums = t;
-    let mut i = start;
-    let mut from = low;
-    while i < n {
-        let c = child_at(f, o, kind, i, from);
-        let s = c.slot;
-        if s < 1 {
-            let none = refused();
-            return Run {
-                sums: none,
-                next: i,
-                from: from,
-            };
-        }
-        if u < s {
-            let none = refused();
-            return Run {
-                sums: none,
-                next: i,
-                from: from,
-            };
-        }
-        let e = Entry::read(f, s);
-        if e.high != Kind::LEAF {
-            return Run {
-                sums: sums,
-                next: i,
-                from: from,
-            };
-        }
-        path[depth] = c.byte as u8;
-        sums = leaf(f, map, path, depth + 1, e.place, d, u, b, sums);
-        if !sums.good {
-            return Run {
-                sums: sums,
-                next: i,
-                from: from,
-            };
-        }
-        from = c.byte + 1;
-        i += 1;
-    }
-    Run {
-        sums: sums,
-        next: i,
-        from: from,
-    }
-}
-
 // The tree at slot s, to which no path leads, of a kind other than a Leaf's. The walk arrives at a slot: a Prefix leads it to another, and a
-// node is counted. From then on it is at child i of a node: the Leaves in a row are counted, then the node waits and the walk arrives at the
-// child after them; after the last child the walk goes back to the node that waits.
+// node is counted. From then on it is at child i of a node: where that is a Leaf it is counted, else the node waits and the walk arrives at
+// it; after the last child the walk goes back to the node that waits.
 pub fn tree(f: &[u8], map: &mut [u64], s: usize, d: usize, u: usize, b: usize, t: Sums) -> Sums
     requires { ⌜ Ground (now f) d u b × Limits d u b (length (now map)) × Tally u 0 t × (1 ≤ s) × (s ≤ u) × (highOf (now f) s ≡ 1 → ⊥) ⌝ }
     ensures { λ r. ⌜ Told (TreeItems (now (f .entry)) [] s) (TreeItems (now (f .entry)) [] s) (now (f .entry)) d u b (now (map .entry)) t (now (map .exit)) r ⌝ }
@@ -306,35 +229,29 @@ pub fn tree(f: &[u8], map: &mut [u64], s: usize, d: usize, u: usize, b: usize, t
             arriving = 0;
             continue;
         }
-        let r = leaves(
-            f,
-            map,
-            &mut path,
-            depth,
-            place,
-            kind,
-            n,
-            i,
-            from,
-            d,
-            u,
-            b,
-            sums,
-        );
-        sums = r.sums;
-        if !sums.good {
-            return refused();
-        }
-        i = r.next;
-        from = r.from;
         if i < n {
             let c = child_at(f, place, kind, i, from);
             path[depth] = c.byte as u8;
+            if c.slot < 1 {
+                return refused();
+            }
+            if u < c.slot {
+                return refused();
+            }
+            let e = Entry::read(f, c.slot);
+            if e.high == Kind::LEAF {
+                sums = leaf(f, map, &path, depth + 1, e.place, d, u, b, sums);
+                if !sums.good {
+                    return refused();
+                }
+                from = c.byte + 1;
+                i += 1;
+                continue;
+            }
             slots[waiting] = slot as u32;
             depths[waiting] = depth as u8;
             turns[waiting] = i as u8;
             waiting += 1;
-            let e = Entry::read(f, c.slot);
             slot = c.slot;
             place = e.place;
             kind = e.high;

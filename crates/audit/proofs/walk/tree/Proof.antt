@@ -1,17 +1,16 @@
--- The loop's invariant is `Coming` where the walk arrives at a slot, else `Walking`, with one law for each turn (WayLaws). A turn counts a body,
--- arrives on the way down, or makes the path shorter on the way back. Assumes nothing.
-use Prim.Native.Nat.{ℕ, _+_, _-_, _*_, _≤_}
-use mathlib.Core.Path.{_≡_, refl, sym, ap, _∙_}
+-- The loop's invariant is `Coming` where the walk arrives at a slot, else `Walking`, with one law for each turn (WayLaws). Each turn but two counts a
+-- body; the way back makes the path shorter, and on the way down the walk arrives. Assumes nothing.
+use Prim.Native.Nat.{_+_, _-_, _*_, _≤_}
+use mathlib.Core.Path.{_≡_, refl, sym, _∙_}
 use mathlib.Core.List.{[]}
 use native.Mathlib.Omega.{arith}
-use lib.ListN.{length, length-set}
+use lib.ListN.{length, take, length-set}
 use borrow.Author.Needs.{needs}
 use borrow.Author.Tests.{not-true, not-false}
-use Rattle.layout.specs.Entry.{highOf}
 use Rattle.census.proofs.ToldLaws.{place-whole}
 use Rattle.audit.specs.Walk.{TreeItems}
-use Rattle.audit.proofs.WalkLaws.{path-length}
-use Rattle.audit.proofs.WayLaws.{Walking, Coming, node-room, walk-start, come-entry, come-refused, come-prefix, come-node, walk-room, walk-end, walk-leaves, walk-leaves-refused, walk-run, walk-down, walk-above, walk-back}
+use Rattle.audit.proofs.WalkLaws.{path-length, slot-fails, slot-at}
+use Rattle.audit.proofs.WayLaws.{Walking, Coming, node-room, tree-more, walk-start, come-entry, come-refused, come-prefix, come-node, walk-room, walk-end, walk-refused, walk-leaf, walk-down, walk-above, walk-back}
 use Rattle.audit.proofs.walk.tree.Statement.{statement}
 use Rattle.audit.proofs.walk.tree.Tie as tie
 
@@ -110,40 +109,12 @@ loop-again-2 c =
     let N = c .before .before .before .before .before .node .ensures .holds (not-false _ (c .before .if4 .left)) in
     (omega (arith, v .0, c .before .before .before .before .before .node .kept), v .1, v .2, v .3, v .4, λ q. absurd (omega (arith, q)), λ q. come-node C N (λ ks M. c .count .ensures .1 _ ks M), omega arith)
 
-slice-aggregate-leaves : tie.Need-slice-aggregate-leaves Inv-loop μ-loop
-slice-aggregate-leaves c = search needs
-
-leaves-requires : tie.Need-leaves-requires Inv-loop μ-loop
-leaves-requires c κs =
-    let v = c .before .before .before .loop .inv in
-    let p = c .before .before .before .before .before .before .before .pre in
-    let W = v .6 (c .before .before .if1 .left) in
-    let L = p .1 in
-    (p .0, record { table = L .table; order = L .order; size = L .size; room = omega (arith, L .room, v .0) }, W .tally, omega (arith, v .1), W .short, walk-run W)
-
-refused-requires-3 : tie.Need-refused-requires-3 Inv-loop μ-loop
-refused-requires-3 c κs = search needs
-
-same-length-3 : tie.Need-same-length-3 Inv-loop μ-loop
-same-length-3 c =
-    omega (arith, c .before .before .before .before .before .before .before .before .before .before .before .loop .inv .0, c .before .before .before .before .before .before .before .leaves .kept)
-
-returns-3 : tie.Need-returns-3 Inv-loop μ-loop
-returns-3 c =
-    let v = c .before .before .before .before .before .before .before .before .before .before .before .loop .inv in
-    let p = c .before .before .before .before .before .before .before .before .before .before .before .before .before .before .before .pre in
-    let W = v .6 (c .before .before .before .before .before .before .before .before .before .before .if1 .left) in
-    walk-leaves-refused W (c .refused3 .ensures) (c .before .before .before .before .before .before .before .leaves .ensures .1 (W .kids) (W .node) .fails (not-true _ (c .before .if5 .taken)))
-
 child-at-requires : tie.Need-child-at-requires Inv-loop μ-loop
 child-at-requires c κs =
-    let v = c .before .before .before .before .before .before .before .before .before .before .before .loop .inv in
-    let p = c .before .before .before .before .before .before .before .before .before .before .before .before .before .before .before .pre in
-    let W = v .6 (c .before .before .before .before .before .before .before .before .before .before .if1 .left) in
-    let E = c .before .before .before .before .before .before .before .leaves in
-    let L = E .ensures .1 (W .kids) (W .node) .holds (not-false _ (c .before .if5 .left)) in
-    let X = walk-leaves W (E .ensures .0) L in
-    record { kids = X .kids; node = X .node; inside = omega (arith, X .count, c .if6 .taken); reached = X .reached; low = X .low }
+    let v = c .before .before .loop .inv in
+    let p = c .before .before .before .before .before .before .pre in
+    let W = v .6 (c .before .if1 .left) in
+    record { kids = W .kids; node = W .node; inside = omega (arith, W .count, c .if5 .taken); reached = W .reached; low = W .low }
 
 cast-path : tie.Need-cast-path Inv-loop μ-loop
 cast-path c =
@@ -151,216 +122,312 @@ cast-path c =
 
 array-write-path : tie.Need-array-write-path Inv-loop μ-loop
 array-write-path c =
-    let W = c .before .before .before .before .before .before .before .before .before .before .before .before .before .loop .inv .6 (c .before .before .before .before .before .before .before .before .before .before .before .before .if1 .left) in
-    omega (arith, c .before .before .before .before .before .before .before .before .before .before .before .before .before .loop .inv .1, W .short, c .before .before .before .before .before .before .before .before .before .leaves .kept)
+    let v = c .before .before .before .before .loop .inv in
+    let p = c .before .before .before .before .before .before .before .before .pre in
+    let W = v .6 (c .before .before .before .if1 .left) in
+    omega (arith, v .1, W .short)
+
+refused-requires-3 : tie.Need-refused-requires-3 Inv-loop μ-loop
+refused-requires-3 c κs = search needs
+
+same-length-3 : tie.Need-same-length-3 Inv-loop μ-loop
+same-length-3 c = search needs
+
+returns-3 : tie.Need-returns-3 Inv-loop μ-loop
+returns-3 c =
+    let v = c .before .before .before .before .before .before .before .loop .inv in
+    let p = c .before .before .before .before .before .before .before .before .before .before .before .pre in
+    let W = v .6 (c .before .before .before .before .before .before .if1 .left) in
+    let e = c .before .before .before .before .child-at .ensures .1 (W .kids) (W .node) (W .reached) in
+    walk-refused W (c .before .before .before .before .before .if5 .taken) (e .0) (e .1) (v .1) (c .refused3 .ensures) (slot-fails (λ a z. omega (arith, c .before .if6 .taken)))
+
+refused-requires-4 : tie.Need-refused-requires-4 Inv-loop μ-loop
+refused-requires-4 c κs = search needs
+
+same-length-4 : tie.Need-same-length-4 Inv-loop μ-loop
+same-length-4 c = search needs
+
+returns-4 : tie.Need-returns-4 Inv-loop μ-loop
+returns-4 c =
+    let v = c .before .before .before .before .before .before .before .before .before .loop .inv in
+    let p = c .before .before .before .before .before .before .before .before .before .before .before .before .before .pre in
+    let W = v .6 (c .before .before .before .before .before .before .before .before .if1 .left) in
+    let e = c .before .before .before .before .before .before .child-at .ensures .1 (W .kids) (W .node) (W .reached) in
+    walk-refused W (c .before .before .before .before .before .before .before .if5 .taken) (e .0) (e .1) (v .1) (c .refused4 .ensures) (slot-fails (λ a z. omega (arith, c .before .if7 .taken)))
+
+read-requires-2 : tie.Need-read-requires-2 Inv-loop μ-loop
+read-requires-2 c κs =
+    let G = c .before .before .before .before .before .before .before .before .before .before .before .before .pre .0 in
+    (omega (arith, c .before .before .if6 .left), omega (arith, c .if7 .left, G .table, G .order, G .inside))
+
+slice-aggregate-leaf : tie.Need-slice-aggregate-leaf Inv-loop μ-loop
+slice-aggregate-leaf c = search needs
+
+add-leaf : tie.Need-add-leaf Inv-loop μ-loop
+add-leaf c =
+    let v = c .before .before .before .before .before .before .before .before .before .before .before .before .before .loop .inv in
+    let p = c .before .before .before .before .before .before .before .before .before .before .before .before .before .before .before .before .before .pre in
+    let W = v .6 (c .before .before .before .before .before .before .before .before .before .before .before .before .if1 .left) in
+    omega (arith, W .short)
+
+leaf-requires : tie.Need-leaf-requires Inv-loop μ-loop
+leaf-requires c κs =
+    let v = c .before .before .before .before .before .before .before .before .before .before .before .before .before .loop .inv in
+    let p = c .before .before .before .before .before .before .before .before .before .before .before .before .before .before .before .before .before .pre in
+    let W = v .6 (c .before .before .before .before .before .before .before .before .before .before .before .before .if1 .left) in
+    let L = p .1 in
+    let e = c .before .before .before .before .read2 .ensures in
+    (p .0, record { table = L .table; order = L .order; size = L .size; room = omega (arith, L .room, v .0) }, W .tally, omega (arith, W .short, v .1, length-set (c .before .before .before .before .before .before .before .before .before .before .before .before .before .loop .path) (c .before .before .before .before .before .before .before .before .before .before .before .before .before .loop .depth) (c .before .before .before .before .before .before .before .before .before .before .child-at .result .byte)), place-whole _ (c .before .before .before .before .before .before .before .before .before .before .child-at .result .slot) (e .1), e .3)
+
+refused-requires-5 : tie.Need-refused-requires-5 Inv-loop μ-loop
+refused-requires-5 c κs = search needs
+
+same-length-5 : tie.Need-same-length-5 Inv-loop μ-loop
+same-length-5 c =
+    omega (arith, c .before .before .before .before .before .before .before .before .before .before .before .before .before .before .before .before .before .before .before .loop .inv .0, c .before .before .before .before .before .leaf .kept)
+
+returns-5 : tie.Need-returns-5 Inv-loop μ-loop
+returns-5 c =
+    let v = c .before .before .before .before .before .before .before .before .before .before .before .before .before .before .before .before .before .before .before .loop .inv in
+    let p = c .before .before .before .before .before .before .before .before .before .before .before .before .before .before .before .before .before .before .before .before .before .before .before .pre in
+    let W = v .6 (c .before .before .before .before .before .before .before .before .before .before .before .before .before .before .before .before .before .before .if1 .left) in
+    let e = c .before .before .before .before .before .before .before .before .before .before .before .before .before .before .before .before .child-at .ensures .1 (W .kids) (W .node) (W .reached) in
+    let r = c .before .before .before .before .before .before .before .before .before .before .read2 .ensures in
+    walk-refused W (c .before .before .before .before .before .before .before .before .before .before .before .before .before .before .before .before .before .if5 .taken) (e .0) (e .1) (v .1) (c .refused5 .ensures) ((slot-at (r .0) (r .1) (omega (arith, c .before .before .before .before .before .before .before .before .before .before .before .before .before .if6 .left)) (omega (arith, c .before .before .before .before .before .before .before .before .before .before .before .if7 .left)) (c .before .before .before .before .before .before .before .before .if8 .taken) (c .before .before .before .before .before .leaf .ensures)) .fails (not-true _ (c .before .if9 .taken)))
+
+add-from : tie.Need-add-from Inv-loop μ-loop
+add-from c =
+    omega (arith, c .before .before .before .before .before .before .before .before .before .before .before .before .before .before .before .before .child-at .ensures .0)
+
+add-i : tie.Need-add-i Inv-loop μ-loop
+add-i c =
+    let v = c .before .before .before .before .before .before .before .before .before .before .before .before .before .before .before .before .before .before .before .loop .inv in
+    let p = c .before .before .before .before .before .before .before .before .before .before .before .before .before .before .before .before .before .before .before .before .before .before .before .pre in
+    let W = v .6 (c .before .before .before .before .before .before .before .before .before .before .before .before .before .before .before .before .before .before .if1 .left) in
+    omega (arith, W .count, W .few, c .before .before .before .before .before .before .before .before .before .before .before .before .before .before .before .before .before .if5 .taken)
+
+loop-less-3 : tie.Need-loop-less-3 Inv-loop μ-loop
+loop-less-3 c =
+    let r = c .before .before .before .before .before .before .before .before .before .before .read2 .ensures in
+    let y = tree-more (slot-at (r .0) (r .1) (omega (arith, c .before .before .before .before .before .before .before .before .before .before .before .before .before .if6 .left)) (omega (arith, c .before .before .before .before .before .before .before .before .before .before .before .if7 .left)) (c .before .before .before .before .before .before .before .before .if8 .taken) (c .before .before .before .before .before .leaf .ensures)) (not-false _ (c .before .if9 .left)) in
+    omega (arith, y .0, y .1)
+
+loop-again-3 : tie.Need-loop-again-3 Inv-loop μ-loop
+loop-again-3 c =
+    let v = c .before .before .before .before .before .before .before .before .before .before .before .before .before .before .before .before .before .before .before .loop .inv in
+    let p = c .before .before .before .before .before .before .before .before .before .before .before .before .before .before .before .before .before .before .before .before .before .before .before .pre in
+    let W = v .6 (c .before .before .before .before .before .before .before .before .before .before .before .before .before .before .before .before .before .before .if1 .left) in
+    let r = c .before .before .before .before .before .before .before .before .before .before .read2 .ensures in
+    let e = c .before .before .before .before .before .before .before .before .before .before .before .before .before .before .before .before .child-at .ensures .1 (W .kids) (W .node) (W .reached) in
+    (omega (arith, v .0, c .before .before .before .before .before .leaf .kept), simp length-set (v .1), v .2, v .3, v .4, λ q. absurd (c .before .before .before .before .before .before .before .before .before .before .before .before .before .before .before .before .before .before .if1 .left q), λ q. walk-leaf W (c .before .before .before .before .before .before .before .before .before .before .before .before .before .before .before .before .before .if5 .taken) (e .0) (e .1) (v .1) (slot-at (r .0) (r .1) (omega (arith, c .before .before .before .before .before .before .before .before .before .before .before .before .before .if6 .left)) (omega (arith, c .before .before .before .before .before .before .before .before .before .before .before .if7 .left)) (c .before .before .before .before .before .before .before .before .if8 .taken) (c .before .before .before .before .before .leaf .ensures)) (not-false _ (c .before .if9 .left)) refl refl (c .before .before .before .before .before .before .before .before .before .before .before .before .before .before .before .before .child-at .ensures .0), v .7)
 
 cast-slots : tie.Need-cast-slots Inv-loop μ-loop
 cast-slots c =
-    let W = c .before .before .before .before .before .before .before .before .before .before .before .before .before .loop .inv .6 (c .before .before .before .before .before .before .before .before .before .before .before .before .if1 .left) in
-    let L = c .before .before .before .before .before .before .before .before .before .before .before .before .before .before .before .before .before .pre .1 in
-    omega (arith, W .last, L .table, L .order, L .size)
+    let v = c .before .before .before .before .before .before .before .before .before .before .before .loop .inv in
+    let p = c .before .before .before .before .before .before .before .before .before .before .before .before .before .before .before .pre in
+    let W = v .6 (c .before .before .before .before .before .before .before .before .before .before .if1 .left) in
+    omega (arith, W .last, p .1 .table, p .1 .order, p .1 .size)
 
 mul-slots : tie.Need-mul-slots Inv-loop μ-loop
 mul-slots c =
-    let W = c .before .before .before .before .before .before .before .before .before .before .before .before .before .loop .inv .6 (c .before .before .before .before .before .before .before .before .before .before .before .before .if1 .left) in
+    let v = c .before .before .before .before .before .before .before .before .before .before .before .loop .inv in
+    let p = c .before .before .before .before .before .before .before .before .before .before .before .before .before .before .before .pre in
+    let W = v .6 (c .before .before .before .before .before .before .before .before .before .before .if1 .left) in
     omega (arith, walk-room W)
 
 array-write-slots : tie.Need-array-write-slots Inv-loop μ-loop
 array-write-slots c =
-    let W = c .before .before .before .before .before .before .before .before .before .before .before .before .before .loop .inv .6 (c .before .before .before .before .before .before .before .before .before .before .before .before .if1 .left) in
-    omega (arith, walk-room W, c .before .before .before .before .before .before .before .before .before .before .before .before .before .loop .inv .2)
+    let v = c .before .before .before .before .before .before .before .before .before .before .before .loop .inv in
+    let p = c .before .before .before .before .before .before .before .before .before .before .before .before .before .before .before .pre in
+    let W = v .6 (c .before .before .before .before .before .before .before .before .before .before .if1 .left) in
+    omega (arith, walk-room W, v .2)
 
 cast-depths : tie.Need-cast-depths Inv-loop μ-loop
 cast-depths c =
-    let W = c .before .before .before .before .before .before .before .before .before .before .before .before .before .loop .inv .6 (c .before .before .before .before .before .before .before .before .before .before .before .before .if1 .left) in
+    let v = c .before .before .before .before .before .before .before .before .before .before .before .loop .inv in
+    let p = c .before .before .before .before .before .before .before .before .before .before .before .before .before .before .before .pre in
+    let W = v .6 (c .before .before .before .before .before .before .before .before .before .before .if1 .left) in
     omega (arith, W .short)
 
 array-write-depths : tie.Need-array-write-depths Inv-loop μ-loop
 array-write-depths c =
-    let W = c .before .before .before .before .before .before .before .before .before .before .before .before .before .loop .inv .6 (c .before .before .before .before .before .before .before .before .before .before .before .before .if1 .left) in
-    omega (arith, walk-room W, c .before .before .before .before .before .before .before .before .before .before .before .before .before .loop .inv .3)
+    let v = c .before .before .before .before .before .before .before .before .before .before .before .loop .inv in
+    let p = c .before .before .before .before .before .before .before .before .before .before .before .before .before .before .before .pre in
+    let W = v .6 (c .before .before .before .before .before .before .before .before .before .before .if1 .left) in
+    omega (arith, walk-room W, v .3)
 
 cast-turns : tie.Need-cast-turns Inv-loop μ-loop
 cast-turns c =
-    let W = c .before .before .before .before .before .before .before .before .before .before .before .before .before .loop .inv .6 (c .before .before .before .before .before .before .before .before .before .before .before .before .if1 .left) in
-    omega (arith, W .count, W .few, c .before .before .if6 .taken)
+    let v = c .before .before .before .before .before .before .before .before .before .before .before .loop .inv in
+    let p = c .before .before .before .before .before .before .before .before .before .before .before .before .before .before .before .pre in
+    let W = v .6 (c .before .before .before .before .before .before .before .before .before .before .if1 .left) in
+    omega (arith, W .count, W .few, c .before .before .before .before .before .before .before .before .before .if5 .taken)
 
 array-write-turns : tie.Need-array-write-turns Inv-loop μ-loop
 array-write-turns c =
-    let W = c .before .before .before .before .before .before .before .before .before .before .before .before .before .loop .inv .6 (c .before .before .before .before .before .before .before .before .before .before .before .before .if1 .left) in
-    omega (arith, walk-room W, c .before .before .before .before .before .before .before .before .before .before .before .before .before .loop .inv .4)
+    let v = c .before .before .before .before .before .before .before .before .before .before .before .loop .inv in
+    let p = c .before .before .before .before .before .before .before .before .before .before .before .before .before .before .before .pre in
+    let W = v .6 (c .before .before .before .before .before .before .before .before .before .before .if1 .left) in
+    omega (arith, walk-room W, v .4)
 
 add-waiting : tie.Need-add-waiting Inv-loop μ-loop
 add-waiting c =
-    let W = c .before .before .before .before .before .before .before .before .before .before .before .before .before .loop .inv .6 (c .before .before .before .before .before .before .before .before .before .before .before .before .if1 .left) in
+    let v = c .before .before .before .before .before .before .before .before .before .before .before .loop .inv in
+    let p = c .before .before .before .before .before .before .before .before .before .before .before .before .before .before .before .pre in
+    let W = v .6 (c .before .before .before .before .before .before .before .before .before .before .if1 .left) in
     omega (arith, walk-room W)
-
-read-requires-2 : tie.Need-read-requires-2 Inv-loop μ-loop
-read-requires-2 c κs =
-    let v = c .before .before .before .before .before .before .before .before .before .before .before .before .before .loop .inv in
-    let p = c .before .before .before .before .before .before .before .before .before .before .before .before .before .before .before .before .before .pre in
-    let W = v .6 (c .before .before .before .before .before .before .before .before .before .before .before .before .if1 .left) in
-    let E = c .before .before .before .before .before .before .before .before .before .leaves in
-    let L = E .ensures .1 (W .kids) (W .node) .holds (not-false _ (c .before .before .before .if5 .left)) in
-    let X = walk-leaves W (E .ensures .0) L in
-    let e = c .before .child-at .ensures .1 (W .kids) (W .node) (L .reached) in
-    let o = L .other (omega (arith, W .count, c .before .before .if6 .taken)) in
-    let G = p .0 in
-    (omega (arith, e .1, o .0), omega (arith, e .1, o .1, G .table, G .order, G .inside))
 
 add-depth : tie.Need-add-depth Inv-loop μ-loop
 add-depth c =
-    let W = c .before .before .before .before .before .before .before .before .before .before .before .before .before .before .loop .inv .6 (c .before .before .before .before .before .before .before .before .before .before .before .before .before .if1 .left) in
+    let v = c .before .before .before .before .before .before .before .before .before .before .before .loop .inv in
+    let p = c .before .before .before .before .before .before .before .before .before .before .before .before .before .before .before .pre in
+    let W = v .6 (c .before .before .before .before .before .before .before .before .before .before .if1 .left) in
     omega (arith, W .short)
 
-loop-less-3 : tie.Need-loop-less-3 Inv-loop μ-loop
-loop-less-3 c =
-    let v = c .before .before .before .before .before .before .before .before .before .before .before .before .before .before .loop .inv in
-    let p = c .before .before .before .before .before .before .before .before .before .before .before .before .before .before .before .before .before .before .pre in
-    let W = v .6 (c .before .before .before .before .before .before .before .before .before .before .before .before .before .if1 .left) in
-    let E = c .before .before .before .before .before .before .before .before .before .before .leaves in
-    let L = E .ensures .1 (W .kids) (W .node) .holds (not-false _ (c .before .before .before .before .if5 .left)) in
-    let X = walk-leaves W (E .ensures .0) L in
-    let n = c .before .before .before .before .before .before .before .before .before .before .before .before .before .if1 .left in
-    omega (arith, v .7, n, L .more, L .tally .slots)
+loop-less-4 : tie.Need-loop-less-4 Inv-loop μ-loop
+loop-less-4 c =
+    let v = c .before .before .before .before .before .before .before .before .before .before .before .loop .inv in
+    let p = c .before .before .before .before .before .before .before .before .before .before .before .before .before .before .before .pre in
+    let n = c .before .before .before .before .before .before .before .before .before .before .if1 .left in
+    omega (arith, v .7, n)
 
-loop-again-3 : tie.Need-loop-again-3 Inv-loop μ-loop
-loop-again-3 c =
-    let v = c .before .before .before .before .before .before .before .before .before .before .before .before .before .before .loop .inv in
-    let p = c .before .before .before .before .before .before .before .before .before .before .before .before .before .before .before .before .before .before .pre in
-    let W = v .6 (c .before .before .before .before .before .before .before .before .before .before .before .before .before .if1 .left) in
-    let E = c .before .before .before .before .before .before .before .before .before .before .leaves in
-    let L = E .ensures .1 (W .kids) (W .node) .holds (not-false _ (c .before .before .before .before .if5 .left)) in
-    let X = walk-leaves W (E .ensures .0) L in
-    let e = c .before .before .child-at .ensures .1 (W .kids) (W .node) (L .reached) in
-    let o = L .other (omega (arith, W .count, c .before .before .before .if6 .taken)) in
-    let x = c .before .before .child-at .ensures .1 (X .kids) (X .node) (X .reached) in
-    let r = c .read2 .ensures in
-    (omega (arith, v .0, E .kept), simp length-set (omega (arith, v .1, E .kept)), simp length-set (v .2), simp length-set (v .3), simp length-set (v .4), λ q. walk-down X (c .before .before .before .if6 .taken) (x .0) (x .1) (omega (arith, v .1, E .kept)) (c .before .before .child-at .ensures .0) (v .2) (v .3) (v .4) (r .0) (r .1) (r .3) (omega (arith, e .1, o .0)) (omega (arith, e .1, o .1)) (λ y. o .2 (ap (λ (x : ℕ). highOf (c .before .before .before .before .before .before .before .before .before .before .before .before .before .before .before .before .before .before .args .f .now) x) (sym (e .1)) ∙ sym (r .0) ∙ y)) refl refl, λ q. absurd (q refl), omega arith)
+loop-again-4 : tie.Need-loop-again-4 Inv-loop μ-loop
+loop-again-4 c =
+    let v = c .before .before .before .before .before .before .before .before .before .before .before .loop .inv in
+    let p = c .before .before .before .before .before .before .before .before .before .before .before .before .before .before .before .pre in
+    let W = v .6 (c .before .before .before .before .before .before .before .before .before .before .if1 .left) in
+    let r = c .before .before .read2 .ensures in
+    let e = c .before .before .before .before .before .before .before .before .child-at .ensures .1 (W .kids) (W .node) (W .reached) in
+    (v .0, simp length-set (v .1), simp length-set (v .2), simp length-set (v .3), simp length-set (v .4), λ q. walk-down W (c .before .before .before .before .before .before .before .before .before .if5 .taken) (e .0) (e .1) (v .1) (c .before .before .before .before .before .before .before .before .child-at .ensures .0) (v .2) (v .3) (v .4) (r .0) (r .1) (r .3) (omega (arith, c .before .before .before .before .before .if6 .left)) (omega (arith, c .before .before .before .if7 .left)) (c .if8 .left) refl refl, λ q. absurd (q refl), omega arith)
 
-same-length-4 : tie.Need-same-length-4 Inv-loop μ-loop
-same-length-4 c =
-    omega (arith, c .before .before .before .before .before .before .before .before .before .before .before .before .loop .inv .0, c .before .before .before .before .before .before .before .before .leaves .kept)
+same-length-6 : tie.Need-same-length-6 Inv-loop μ-loop
+same-length-6 c = search needs
 
-returns-4 : tie.Need-returns-4 Inv-loop μ-loop
-returns-4 c =
-    let v = c .before .before .before .before .before .before .before .before .before .before .before .before .loop .inv in
-    let p = c .before .before .before .before .before .before .before .before .before .before .before .before .before .before .before .before .pre in
-    let W = v .6 (c .before .before .before .before .before .before .before .before .before .before .before .if1 .left) in
-    let E = c .before .before .before .before .before .before .before .before .leaves in
-    let L = E .ensures .1 (W .kids) (W .node) .holds (not-false _ (c .before .before .if5 .left)) in
-    let X = walk-leaves W (E .ensures .0) L in
-    walk-end X (omega (arith, c .before .if6 .left)) (c .if7 .taken)
+returns-6 : tie.Need-returns-6 Inv-loop μ-loop
+returns-6 c =
+    let v = c .before .before .before .loop .inv in
+    let p = c .before .before .before .before .before .before .before .pre in
+    let W = v .6 (c .before .before .if1 .left) in
+    walk-end W (omega (arith, c .before .if5 .left)) (c .if10 .taken)
 
 sub-waiting : tie.Need-sub-waiting Inv-loop μ-loop
 sub-waiting c =
-    omega (arith, c .if7 .left)
+    omega (arith, c .if10 .left)
 
 mul-slot : tie.Need-mul-slot Inv-loop μ-loop
 mul-slot c =
-    let W = c .before .before .before .before .before .before .before .before .before .before .before .before .loop .inv .6 (c .before .before .before .before .before .before .before .before .before .before .before .if1 .left) in
+    let v = c .before .before .before .loop .inv in
+    let p = c .before .before .before .before .before .before .before .pre in
+    let W = v .6 (c .before .before .if1 .left) in
     omega (arith, walk-room W)
 
 array-read-slot : tie.Need-array-read-slot Inv-loop μ-loop
 array-read-slot c =
-    let W = c .before .before .before .before .before .before .before .before .before .before .before .before .loop .inv .6 (c .before .before .before .before .before .before .before .before .before .before .before .if1 .left) in
-    omega (arith, walk-room W, c .if7 .left)
+    let v = c .before .before .before .loop .inv in
+    let p = c .before .before .before .before .before .before .before .pre in
+    let W = v .6 (c .before .before .if1 .left) in
+    omega (arith, walk-room W, c .if10 .left)
 
 cast-slot : tie.Need-cast-slot Inv-loop μ-loop
 cast-slot c =
-    let W = c .before .before .before .before .before .before .before .before .before .before .before .before .loop .inv .6 (c .before .before .before .before .before .before .before .before .before .before .before .if1 .left) in
-    let A = walk-above W {top = c .before .before .before .before .before .before .before .before .before .before .before .before .loop .waiting - 1} (omega (arith, c .if7 .left)) in
-    let L = c .before .before .before .before .before .before .before .before .before .before .before .before .before .before .before .before .pre .1 in
-    omega (arith, A .last, L .table, L .order, L .size)
+    let v = c .before .before .before .loop .inv in
+    let p = c .before .before .before .before .before .before .before .pre in
+    let W = v .6 (c .before .before .if1 .left) in
+    let A = walk-above W {top = c .before .before .before .loop .waiting - 1} (omega (arith, c .if10 .left)) in
+    omega (arith, A .last, p .1 .table, p .1 .order, p .1 .size)
 
 array-read-depth : tie.Need-array-read-depth Inv-loop μ-loop
 array-read-depth c =
-    let W = c .before .before .before .before .before .before .before .before .before .before .before .before .loop .inv .6 (c .before .before .before .before .before .before .before .before .before .before .before .if1 .left) in
-    omega (arith, walk-room W, c .if7 .left)
+    let v = c .before .before .before .loop .inv in
+    let p = c .before .before .before .before .before .before .before .pre in
+    let W = v .6 (c .before .before .if1 .left) in
+    omega (arith, walk-room W, c .if10 .left)
 
 cast-depth : tie.Need-cast-depth Inv-loop μ-loop
 cast-depth c =
-    let W = c .before .before .before .before .before .before .before .before .before .before .before .before .loop .inv .6 (c .before .before .before .before .before .before .before .before .before .before .before .if1 .left) in
-    let A = walk-above W {top = c .before .before .before .before .before .before .before .before .before .before .before .before .loop .waiting - 1} (omega (arith, c .if7 .left)) in
+    let v = c .before .before .before .loop .inv in
+    let p = c .before .before .before .before .before .before .before .pre in
+    let W = v .6 (c .before .before .if1 .left) in
+    let A = walk-above W {top = c .before .before .before .loop .waiting - 1} (omega (arith, c .if10 .left)) in
     omega (arith, A .less, W .short)
 
 array-read-i : tie.Need-array-read-i Inv-loop μ-loop
 array-read-i c =
-    let W = c .before .before .before .before .before .before .before .before .before .before .before .before .loop .inv .6 (c .before .before .before .before .before .before .before .before .before .before .before .if1 .left) in
-    omega (arith, walk-room W, c .if7 .left)
+    let v = c .before .before .before .loop .inv in
+    let p = c .before .before .before .before .before .before .before .pre in
+    let W = v .6 (c .before .before .if1 .left) in
+    omega (arith, walk-room W, c .if10 .left)
 
 cast-i : tie.Need-cast-i Inv-loop μ-loop
 cast-i c =
-    let W = c .before .before .before .before .before .before .before .before .before .before .before .before .loop .inv .6 (c .before .before .before .before .before .before .before .before .before .before .before .if1 .left) in
-    let A = walk-above W {top = c .before .before .before .before .before .before .before .before .before .before .before .before .loop .waiting - 1} (omega (arith, c .if7 .left)) in
+    let v = c .before .before .before .loop .inv in
+    let p = c .before .before .before .before .before .before .before .pre in
+    let W = v .6 (c .before .before .if1 .left) in
+    let A = walk-above W {top = c .before .before .before .loop .waiting - 1} (omega (arith, c .if10 .left)) in
     omega (arith, A .turn)
 
-add-i : tie.Need-add-i Inv-loop μ-loop
-add-i c =
-    let W = c .before .before .before .before .before .before .before .before .before .before .before .before .loop .inv .6 (c .before .before .before .before .before .before .before .before .before .before .before .if1 .left) in
-    let A = walk-above W {top = c .before .before .before .before .before .before .before .before .before .before .before .before .loop .waiting - 1} (omega (arith, c .if7 .left)) in
+add-i-2 : tie.Need-add-i-2 Inv-loop μ-loop
+add-i-2 c =
+    let v = c .before .before .before .loop .inv in
+    let p = c .before .before .before .before .before .before .before .pre in
+    let W = v .6 (c .before .before .if1 .left) in
+    let A = walk-above W {top = c .before .before .before .loop .waiting - 1} (omega (arith, c .if10 .left)) in
     omega (arith, A .turn)
 
 array-read-from : tie.Need-array-read-from Inv-loop μ-loop
 array-read-from c =
-    let W = c .before .before .before .before .before .before .before .before .before .before .before .before .loop .inv .6 (c .before .before .before .before .before .before .before .before .before .before .before .if1 .left) in
-    let A = walk-above W {top = c .before .before .before .before .before .before .before .before .before .before .before .before .loop .waiting - 1} (omega (arith, c .if7 .left)) in
-    omega (arith, A .less, W .short, c .before .before .before .before .before .before .before .before .before .before .before .before .loop .inv .1, c .before .before .before .before .before .before .before .before .leaves .kept)
+    let v = c .before .before .before .loop .inv in
+    let p = c .before .before .before .before .before .before .before .pre in
+    let W = v .6 (c .before .before .if1 .left) in
+    let A = walk-above W {top = c .before .before .before .loop .waiting - 1} (omega (arith, c .if10 .left)) in
+    omega (arith, A .less, W .short, v .1)
 
 cast-from : tie.Need-cast-from Inv-loop μ-loop
 cast-from c =
-    let v = c .before .before .before .before .before .before .before .before .before .before .before .before .loop .inv in
-    let p = c .before .before .before .before .before .before .before .before .before .before .before .before .before .before .before .before .pre in
-    let W = v .6 (c .before .before .before .before .before .before .before .before .before .before .before .if1 .left) in
-    let E = c .before .before .before .before .before .before .before .before .leaves in
-    let L = E .ensures .1 (W .kids) (W .node) .holds (not-false _ (c .before .before .if5 .left)) in
-    let X = walk-leaves W (E .ensures .0) L in
-    let A = walk-above X {top = c .before .before .before .before .before .before .before .before .before .before .before .before .loop .waiting - 1} (omega (arith, c .if7 .left)) in
+    let v = c .before .before .before .loop .inv in
+    let p = c .before .before .before .before .before .before .before .pre in
+    let W = v .6 (c .before .before .if1 .left) in
+    let A = walk-above W {top = c .before .before .before .loop .waiting - 1} (omega (arith, c .if10 .left)) in
     omega (arith, A .byte)
 
-add-from : tie.Need-add-from Inv-loop μ-loop
-add-from c =
-    let v = c .before .before .before .before .before .before .before .before .before .before .before .before .loop .inv in
-    let p = c .before .before .before .before .before .before .before .before .before .before .before .before .before .before .before .before .pre in
-    let W = v .6 (c .before .before .before .before .before .before .before .before .before .before .before .if1 .left) in
-    let E = c .before .before .before .before .before .before .before .before .leaves in
-    let L = E .ensures .1 (W .kids) (W .node) .holds (not-false _ (c .before .before .if5 .left)) in
-    let X = walk-leaves W (E .ensures .0) L in
-    let A = walk-above X {top = c .before .before .before .before .before .before .before .before .before .before .before .before .loop .waiting - 1} (omega (arith, c .if7 .left)) in
+add-from-2 : tie.Need-add-from-2 Inv-loop μ-loop
+add-from-2 c =
+    let v = c .before .before .before .loop .inv in
+    let p = c .before .before .before .before .before .before .before .pre in
+    let W = v .6 (c .before .before .if1 .left) in
+    let A = walk-above W {top = c .before .before .before .loop .waiting - 1} (omega (arith, c .if10 .left)) in
     omega (arith, A .byte)
 
 read-requires-3 : tie.Need-read-requires-3 Inv-loop μ-loop
 read-requires-3 c κs =
-    let W = c .before .before .before .before .before .before .before .before .before .before .before .before .loop .inv .6 (c .before .before .before .before .before .before .before .before .before .before .before .if1 .left) in
-    let A = walk-above W {top = c .before .before .before .before .before .before .before .before .before .before .before .before .loop .waiting - 1} (omega (arith, c .if7 .left)) in
-    let G = c .before .before .before .before .before .before .before .before .before .before .before .before .before .before .before .before .pre .0 in
+    let v = c .before .before .before .loop .inv in
+    let p = c .before .before .before .before .before .before .before .pre in
+    let W = v .6 (c .before .before .if1 .left) in
+    let A = walk-above W {top = c .before .before .before .loop .waiting - 1} (omega (arith, c .if10 .left)) in
+    let G = p .0 in
     (A .first, omega (arith, A .last, G .table, G .order, G .inside))
 
 count-requires-2 : tie.Need-count-requires-2 Inv-loop μ-loop
 count-requires-2 c κs =
-    let W = c .before .before .before .before .before .before .before .before .before .before .before .before .before .loop .inv .6 (c .before .before .before .before .before .before .before .before .before .before .before .before .if1 .left) in
-    let A = walk-above W {top = c .before .before .before .before .before .before .before .before .before .before .before .before .before .loop .waiting - 1} (omega (arith, c .before .if7 .left)) in
-    omega (arith, A .room, c .read3 .ensures .1, c .before .before .before .before .before .before .before .before .before .before .before .before .before .before .before .before .before .pre .0 .inside)
+    let v = c .before .before .before .before .loop .inv in
+    let p = c .before .before .before .before .before .before .before .before .pre in
+    let W = v .6 (c .before .before .before .if1 .left) in
+    let A = walk-above W {top = c .before .before .before .before .loop .waiting - 1} (omega (arith, c .before .if10 .left)) in
+    omega (arith, A .room, c .read3 .ensures .1, p .0 .inside)
 
-loop-less-4 : tie.Need-loop-less-4 Inv-loop μ-loop
-loop-less-4 c =
-    let v = c .before .before .before .before .before .before .before .before .before .before .before .before .before .before .loop .inv in
-    let p = c .before .before .before .before .before .before .before .before .before .before .before .before .before .before .before .before .before .before .pre in
-    let W = v .6 (c .before .before .before .before .before .before .before .before .before .before .before .before .before .if1 .left) in
-    let E = c .before .before .before .before .before .before .before .before .before .before .leaves in
-    let L = E .ensures .1 (W .kids) (W .node) .holds (not-false _ (c .before .before .before .before .if5 .left)) in
-    let X = walk-leaves W (E .ensures .0) L in
-    omega (arith, (walk-back X {top = c .before .before .before .before .before .before .before .before .before .before .before .before .before .before .loop .waiting - 1} (omega (arith, c .before .before .before .if6 .left)) (omega (arith, c .before .before .if7 .left)) refl refl refl (c .before .read3 .ensures .0) (c .before .read3 .ensures .1) (λ h ls M. c .count2 .ensures .1 h ls M)) .0, L .more, L .tally .slots)
+loop-less-5 : tie.Need-loop-less-5 Inv-loop μ-loop
+loop-less-5 c =
+    let v = c .before .before .before .before .before .loop .inv in
+    let p = c .before .before .before .before .before .before .before .before .before .pre in
+    let W = v .6 (c .before .before .before .before .if1 .left) in
+    omega (arith, (walk-back W {top = c .before .before .before .before .before .loop .waiting - 1} (omega (arith, c .before .before .before .if5 .left)) (omega (arith, c .before .before .if10 .left)) refl refl refl (c .before .read3 .ensures .0) (c .before .read3 .ensures .1) (λ h ls M. c .count2 .ensures .1 h ls M)) .0)
 
-loop-again-4 : tie.Need-loop-again-4 Inv-loop μ-loop
-loop-again-4 c =
-    let v = c .before .before .before .before .before .before .before .before .before .before .before .before .before .before .loop .inv in
-    let p = c .before .before .before .before .before .before .before .before .before .before .before .before .before .before .before .before .before .before .pre in
-    let W = v .6 (c .before .before .before .before .before .before .before .before .before .before .before .before .before .if1 .left) in
-    let E = c .before .before .before .before .before .before .before .before .before .before .leaves in
-    let L = E .ensures .1 (W .kids) (W .node) .holds (not-false _ (c .before .before .before .before .if5 .left)) in
-    let X = walk-leaves W (E .ensures .0) L in
-    (omega (arith, v .0, E .kept), omega (arith, v .1, E .kept), v .2, v .3, v .4, λ q. absurd (c .before .before .before .before .before .before .before .before .before .before .before .before .before .if1 .left q), λ q. (walk-back X {top = c .before .before .before .before .before .before .before .before .before .before .before .before .before .before .loop .waiting - 1} (omega (arith, c .before .before .before .if6 .left)) (omega (arith, c .before .before .if7 .left)) refl refl refl (c .before .read3 .ensures .0) (c .before .read3 .ensures .1) (λ h ls M. c .count2 .ensures .1 h ls M)) .1, v .7)
+loop-again-5 : tie.Need-loop-again-5 Inv-loop μ-loop
+loop-again-5 c =
+    let v = c .before .before .before .before .before .loop .inv in
+    let p = c .before .before .before .before .before .before .before .before .before .pre in
+    let W = v .6 (c .before .before .before .before .if1 .left) in
+    (v .0, v .1, v .2, v .3, v .4, λ q. absurd (c .before .before .before .before .if1 .left q), λ q. (walk-back W {top = c .before .before .before .before .before .loop .waiting - 1} (omega (arith, c .before .before .before .if5 .left)) (omega (arith, c .before .before .if10 .left)) refl refl refl (c .before .read3 .ensures .0) (c .before .read3 .ensures .1) (λ h ls M. c .count2 .ensures .1 h ls M)) .1, v .7)
 
 pub tree-spec : {M : Type 1} → statement M
 tree-spec =
@@ -384,14 +451,26 @@ tree-spec =
     count-requires
     loop-less-2
     loop-again-2
-    slice-aggregate-leaves
-    leaves-requires
-    refused-requires-3
-    same-length-3
-    returns-3
     child-at-requires
     cast-path
     array-write-path
+    refused-requires-3
+    same-length-3
+    returns-3
+    refused-requires-4
+    same-length-4
+    returns-4
+    read-requires-2
+    slice-aggregate-leaf
+    add-leaf
+    leaf-requires
+    refused-requires-5
+    same-length-5
+    returns-5
+    add-from
+    add-i
+    loop-less-3
+    loop-again-3
     cast-slots
     mul-slots
     array-write-slots
@@ -400,12 +479,11 @@ tree-spec =
     cast-turns
     array-write-turns
     add-waiting
-    read-requires-2
     add-depth
-    loop-less-3
-    loop-again-3
-    same-length-4
-    returns-4
+    loop-less-4
+    loop-again-4
+    same-length-6
+    returns-6
     sub-waiting
     mul-slot
     array-read-slot
@@ -414,11 +492,11 @@ tree-spec =
     cast-depth
     array-read-i
     cast-i
-    add-i
+    add-i-2
     array-read-from
     cast-from
-    add-from
+    add-from-2
     read-requires-3
     count-requires-2
-    loop-less-4
-    loop-again-4)
+    loop-less-5
+    loop-again-5)
