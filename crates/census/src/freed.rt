@@ -6,7 +6,6 @@ use crate::take;
 use fields::header::Header;
 use layout::entry::Entry;
 use layout::kind::Kind;
-ghost use mathlib.Core.Path.{_≡_};
 ghost use Prim.Native.Nat.{_+_, _<_, _≤_};
 ghost use lib.ListN.{length};
 ghost use Rattle.census.specs.Told.{Ground, Limits, Tally, Told};

@@ -1,5 +1,5 @@
 -- One law for each verdict (WholeLaws). Assumes nothing.
-use mathlib.Core.Path.{refl, ap}
+use mathlib.Core.Path.{refl}
 use native.Mathlib.Omega.{arith}
 use borrow.Author.Tests.{not-true, not-false}
 use Rattle.pieces.proofs.DecideLaws.{refuted, passed}
