@@ -14,7 +14,7 @@ const HALF: usize = 8;
 
 const QUARTER: usize = 4;
 
-// Those of a piece in a range that is longer than any body.
+// Those of a piece in a range of zeros that has as many.
 const LONG: usize = 64;
 
 // ---- two ranges are the same
