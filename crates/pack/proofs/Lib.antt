@@ -3,5 +3,6 @@ pub mod NodeLaws
 pub mod BodiesLaws
 pub mod WalkLaws
 pub mod RunLaws
+pub mod WayLaws
 pub mod ImageLaws
 pub mod PackLaws

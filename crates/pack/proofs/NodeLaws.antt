@@ -8,7 +8,7 @@ use lib.ListN.{length, length-append}
 use Rattle.layout.specs.Kind.{Inner, bodySize, most}
 use Rattle.layout.specs.Kind.Inner.{node4, node16, node48, node256}
 use Rattle.layout.specs.Entry.{entryOf}
-use Rattle.model.specs.Tree.{Kids, count, unnumbered, carried}
+use Rattle.model.specs.Tree.{Kids, count, unnumbered}
 use Rattle.model.specs.Tree.Kids.{nil, kid}
 use Rattle.model.specs.Image.{digits, numbers, padded, spread, upFrom, smallest, nodeOf, slots, slotsKids, size, sizeKids, bytesOf, childSlots, nodeBody, entries, entriesKids, bodies, bodiesKids}
 use Rattle.model.specs.Frame.{LayKids, pairs}
