@@ -42,6 +42,13 @@ module _ {f : List ℕ} {o kind cap bytes : ℕ} (h : kind ≤ 5) (ec : cap ≡ 
   pub has-sorted : {b : ℕ} → NodeHas f o kind b → SortedHas f o cap bytes b
   has-sorted P = record { kids = P .kids; node = at-sorted (P .node); caps = few-sorted o kind h ec eb (P .node .range .0) .0; child = P .child; has = P .has }
 
+-- at a kind that is known
+pub visit-sorted : {f : List ℕ} {o kind i from : ℕ} (k : ℕ) → k ≤ 5 → kind ≡ k → Visit f o kind i from → NodeSome f o k × (k ≤ 5) × (i < most k)
+visit-sorted k h e W =
+    let N = rw e at (W .node) in
+    let l = W .inside in
+    (record { kids = W .kids; node = N }, h, omega (arith, as-sorted N h .few))
+
 -- ---- Node48 and Node256
 
 module _ {f : List ℕ} {o kind : ℕ} where

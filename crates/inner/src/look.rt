@@ -40,13 +40,24 @@ pub fn count(f: &[u8], o: usize) -> usize
     Node::count(f, o)
 }
 
+// In a Node4 or Node16.
+fn sorted_seat(f: &[u8], o: usize, kind: usize, b: u8) -> Seat
+    requires { ⌜ NodeSome (now f) o kind × (kind ≤ 5) ⌝ }
+    ensures { λ r. ⌜ ((ks : List (ℕ × ℕ)) → InnerAt (now (f .entry)) o kind ks → (r .slot ≡ orZero (lookKid b ks)) × (r .link ≡ linkAt o kind (placeOf b ks) (placeAt (now (f .entry)) o kind b) b)) ⌝ }
+{
+    sorted::seat(f, o, kind::most_children(kind), sorted_bytes(kind), b)
+}
+
 // The child of byte b, 0 where there is none, and where it stands: four bytes that a caller may write.
 pub fn seat(f: &[u8], o: usize, kind: usize, b: u8) -> Seat
     requires { ⌜ NodeSome (now f) o kind ⌝ }
     ensures { λ r. ⌜ ((ks : List (ℕ × ℕ)) → InnerAt (now (f .entry)) o kind ks → (r .slot ≡ orZero (lookKid b ks)) × (r .link ≡ linkAt o kind (placeOf b ks) (placeAt (now (f .entry)) o kind b) b)) ⌝ }
 {
-    if kind <= Kind::NODE16 {
-        return sorted::seat(f, o, kind::most_children(kind), sorted_bytes(kind), b);
+    if kind == Kind::NODE4 {
+        return sorted_seat(f, o, Kind::NODE4, b);
+    }
+    if kind == Kind::NODE16 {
+        return sorted_seat(f, o, Kind::NODE16, b);
     }
     if kind == Kind::NODE48 {
         return node48::seat(f, o, b);

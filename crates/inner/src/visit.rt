@@ -9,18 +9,31 @@ use node_big::node256;
 ghost use mathlib.Core.Path.{_≡_};
 ghost use mathlib.Core.List.{List, [], _∷_};
 ghost use Prim.Native.Nat.{ℕ, _≤_, _<_};
+ghost use Rattle.layout.specs.Kind.{most};
 ghost use Rattle.model.specs.Body.{InnerAt, byteIn, childIn};
 ghost use Rattle.node.specs.Kids.{nextKid, Reached};
 ghost use Rattle.inner.specs.Inner.{NodeSome, NodeOne, Visit};
 
+// The i-th child from 0 of a Node4 or Node16.
+fn sorted_child(f: &[u8], o: usize, kind: usize, i: usize) -> Child
+    requires { ⌜ NodeSome (now f) o kind × (kind ≤ 5) × (i < most kind) ⌝ }
+    ensures { λ r. ⌜ (r .byte < 256) × ((ks : List (ℕ × ℕ)) → InnerAt (now (f .entry)) o kind ks → (r .byte ≡ byteIn ks i) × (r .slot ≡ childIn ks i)) ⌝ }
+{
+    sorted::child_at(f, o, kind::most_children(kind), look::sorted_bytes(kind), i)
+}
+
 // The i-th child from 0, of a walk that is past the bytes below `from`: where the walk starts 0, then one more than the byte of the
-// child before. All of them together cost 256 steps and one for each child.
+// child before. All of them together cost 256 steps and one for each child. The tables over kinds are asked at a kind that is known there, so
+// that the child's place is at hand.
 pub fn child_at(f: &[u8], o: usize, kind: usize, i: usize, from: usize) -> Child
     requires { ⌜ Visit (now f) o kind i from ⌝ }
     ensures { λ r. ⌜ (r .byte < 256) × ((ks : List (ℕ × ℕ)) → InnerAt (now (f .entry)) o kind ks → Reached ks i from → (r .byte ≡ byteIn ks i) × (r .slot ≡ childIn ks i)) ⌝ }
 {
-    if kind <= Kind::NODE16 {
-        return sorted::child_at(f, o, kind::most_children(kind), look::sorted_bytes(kind), i);
+    if kind == Kind::NODE4 {
+        return sorted_child(f, o, Kind::NODE4, i);
+    }
+    if kind == Kind::NODE16 {
+        return sorted_child(f, o, Kind::NODE16, i);
     }
     next_child(f, o, kind, from)
 }
