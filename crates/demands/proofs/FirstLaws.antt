@@ -1,5 +1,5 @@
 -- From a decision for each ground to the order of refusals, and the grounds that a frame and a key give. Assumes nothing.
-use Prim.Native.Nat.{ℕ, zero, suc, _<_}
+use Prim.Native.Nat.{ℕ, suc}
 use native.Mathlib.Omega.{arith}
 use mathlib.Core.Path.{_≡_, sym, _∙_}
 use mathlib.Core.List.{List, [], _∷_}
@@ -8,12 +8,12 @@ use mathlib.Core.Logic.{_⊎_, inl, inr, ⊎-elim, _≢_}
 use lib.ListN.{length}
 use lib.Dec.{eqb}
 use borrow.Author.Tests.{eq-eqb}
-use Rattle.layout.specs.Number.{byteAt}
 use Rattle.model.specs.Strings.{pick, hasZero}
 use Rattle.model.specs.Edition.{edition1}
 use Rattle.model.specs.Frame.{Good}
 use Rattle.model.specs.Promise.{LengthOk, Told}
 use Rattle.model.proofs.StringLaws.{bool-cases, eqb-cases, ltb-cases, clash}
+use Rattle.model.proofs.Edition1.{zero-free, positive-at}
 use Rattle.demands.specs.Words.{Ground, OneOf, FirstOf, wrongLength, notGood, keyLength, keyZero}
 
 -- ---- the first that applies, decided one after another
@@ -92,12 +92,7 @@ zero-at (x ∷ k) e = eqb-cases x 0
     (λ t q. let on = zero-at k (rw t at e) in (suc (on .0), omega arith, on .2))
 
 zero-none : (k : List ℕ) → hasZero k ≡ false → keyZero k .applies → ⊥
-zero-none [] e z = let o = z .1 in omega arith
-zero-none (x ∷ k) e z = eqb-cases x 0 (λ t q. clash (let y = rw t at e in cc)) (λ t q. go (z .0) (z .1) (z .2) q (zero-none k (rw t at e)))
-  where
-    go : (i : ℕ) → i < suc (length k) → byteAt (x ∷ k) i ≡ 0 → x ≢ 0 → (keyZero k .applies → ⊥) → ⊥
-    go zero l b q on = q b
-    go (suc i) l b q on = on (i, omega arith, b)
+zero-none k e z = positive-at k (zero-free k e) (z .0) (z .1) (z .2)
 
 -- a number that is the key's fault, if it has one, and else what is given on the other grounds
 pub key-given : (k : List ℕ) (n : ℕ) (gs : List Ground) (answers : List ℕ) → (edition1 .keyFault k ≢ 0 → n ≡ edition1 .keyFault k) → (edition1 .keyFault k ≡ 0 → Given gs answers n)

@@ -6,56 +6,38 @@ use mathlib.Core.List.{List, [], _∷_}
 use mathlib.Core.Bool.{Bool, true, false, not}
 use native.Mathlib.Omega.{arith}
 use native.Mathlib.Numerals.{add-one}
-use lib.ListN.{length, take, drop, getD, length-append, length-take, length-drop}
+use lib.ListN.{length, take, drop, getD, length-append, length-take, length-drop, List·getD-eq-default}
 use lib.Seq.{drop-cons, getD-take, getD-drop}
-use lib.Dec.{eqb}
 use borrow.Author.Tests.{eq-eqb, ne-eqb, lt-ltb, le-ltb}
 use Rattle.pieces.specs.Decides.{Decides}
 use Rattle.pieces.specs.Range.{Clean, Alike}
-use Rattle.pieces.proofs.DecideLaws.{clash, handed}
-use Rattle.model.specs.Strings.{pick, shared, hasZero}
+use Rattle.pieces.proofs.DecideLaws.{handed}
+use Rattle.model.specs.Strings.{shared, hasZero}
 use Rattle.model.specs.Edition.{edition1}
+use Rattle.model.proofs.Edition1.{zero-free, free-zero, positive-at, at-positive, walked-at}
 use Rattle.descent.proofs.SeatLaws.{text-part}
 
 -- ---- the walked string
 
 pub walked-in : (k : List ℕ) (d : ℕ) → d < length k → getD k d 0 ≡ getD (edition1 .walked k) d 0
-walked-in [] d h = absurd (omega arith)
-walked-in (x ∷ k) zero h = refl
-walked-in (x ∷ k) (suc d) h = walked-in k d (omega arith)
+walked-in k d h = sym (walked-at k d)
 
 pub walked-out : (k : List ℕ) (d : ℕ) → length k ≤ d → 0 ≡ getD (edition1 .walked k) d 0
-walked-out [] zero h = refl
-walked-out [] (suc d) h = refl
-walked-out (x ∷ k) zero h = absurd (omega arith)
-walked-out (x ∷ k) (suc d) h = walked-out k d (omega arith)
+walked-out k d h = sym (walked-at k d ∙ List·getD-eq-default k 0 h)
 
 pub walked-length : (k : List ℕ) → length (edition1 .walked k) ≡ length k + 1
 walked-length k = length-append k (0 ∷ [])
 
 -- ---- a byte 0
 
-clean-free : (k : List ℕ) → Clean k 0 (length k) → hasZero k ≡ false
-clean-free [] C = refl
-clean-free (x ∷ k) C = rw (ne-eqb x 0 (C 0 (omega arith) (omega arith))) (clean-free k (λ a l u. C (suc a) (omega arith) (omega arith)))
-
-later-free : (t b : Bool) → pick t true b ≡ false → b ≡ false
-later-free true b e = clash e
-later-free false b e = e
-
-free-clean : (k : List ℕ) → hasZero k ≡ false → Clean k 0 (length k)
-free-clean [] z a l u e = omega arith
-free-clean (x ∷ k) z zero l u e = clash (rw (eq-eqb x 0 e) at z)
-free-clean (x ∷ k) z (suc a) l u e = free-clean k (later-free (eqb x 0) (hasZero k) z) a (omega arith) (omega arith) e
-
 -- a key has a byte 0 exactly if it is not clean
 pub zero-test : (k : List ℕ) (r : Bool) → Decides (Clean k 0 (length k)) r → not r ≡ hasZero k
-zero-test k true D = sym (clean-free k (D .holds refl))
+zero-test k true D = sym (free-zero k (at-positive k (λ i l. D .holds refl i (omega arith) l)))
 zero-test k false D = by-value (hasZero k) refl
   where
     by-value : (z : Bool) → hasZero k ≡ z → true ≡ hasZero k
     by-value true e = sym e
-    by-value false e = absurd (D .fails refl (free-clean k e))
+    by-value false e = absurd (D .fails refl (λ i l u. positive-at k (zero-free k e) i u))
 
 -- the refusals
 module _ (k : List ℕ) where

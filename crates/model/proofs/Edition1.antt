@@ -1,11 +1,11 @@
 -- Edition 1 is lawful, and what its keys are: 1 to 112 bytes, none of them 0. In a well-formed tree of edition 1 no Prefix holds a
 -- byte 0 and no path to an inner node has more than 112 bytes. Assumes nothing.
-use Prim.Native.Nat.{ℕ, _<_, _≤_, zero-le}
+use Prim.Native.Nat.{ℕ, zero, suc, _<_, _≤_, zero-le}
 use native.Mathlib.Omega.{arith}
 use mathlib.Core.Path.{_≡_, refl, sym, _∙_}
 use mathlib.Core.List.{List, [], _∷_, _++_, head-eq-of-cons-eq, tail-eq-of-cons-eq}
 use mathlib.Core.Bool.{true, false}
-use lib.ListN.{length, length-append}
+use lib.ListN.{length, getD, length-append}
 use lib.Dec.{lit<, lit≤}
 use borrow.Author.Tests.{lt-ltb, le-ltb, eq-eqb, ne-eqb}
 use Rattle.model.specs.Strings.{before, hasZero, All, Byte}
@@ -31,6 +31,16 @@ pub free-zero : (k : List ℕ) → All Positive k → hasZero k ≡ false
 free-zero [] h = refl
 free-zero (x ∷ k) h = rw (ne-eqb x 0 (omega arith)) (free-zero k (h .1))
 
+-- by its places
+pub positive-at : (k : List ℕ) → All Positive k → (i : ℕ) → i < length k → getD k i 0 ≡ 0 → ⊥
+positive-at [] h i l q = omega arith
+positive-at (x ∷ k) h zero l q = let p = h .0 in omega arith
+positive-at (x ∷ k) h (suc i) l q = positive-at k (h .1) i (omega arith) q
+
+pub at-positive : (k : List ℕ) → ((i : ℕ) → i < length k → getD k i 0 ≡ 0 → ⊥) → All Positive k
+at-positive [] h = tt
+at-positive (x ∷ k) h = let p = h 0 (omega arith) in (omega arith, at-positive k (λ i l. h (suc i) (omega arith)))
+
 -- ---- the keys that edition 1 takes
 
 pub record Key1 (k : List ℕ) : Type 0 where
@@ -52,6 +62,13 @@ key-taken k h = let o = h .some in let q = h .short in
     rw (ne-eqb (length k) 0 (omega arith), le-ltb 112 (length k) q, free-zero k (h .chars))
 
 -- ---- edition 1 is lawful
+
+-- past a key's end the walked string has a byte 0, and so has the list that is read there
+pub walked-at : (k : List ℕ) (i : ℕ) → getD (edition1 .walked k) i 0 ≡ getD k i 0
+walked-at [] zero = refl
+walked-at [] (suc i) = refl
+walked-at (b ∷ k) zero = refl
+walked-at (b ∷ k) (suc i) = walked-at k i
 
 -- what stands before a byte of a walked string is of the key
 pub before-byte : (k w : List ℕ) (c : ℕ) (t : List ℕ) → All Positive k → edition1 .walked k ≡ w ++ c ∷ t → All Positive w × (length w ≤ length k)

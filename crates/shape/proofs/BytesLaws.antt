@@ -2,18 +2,12 @@
 use Prim.Native.Nat.{ℕ, zero, suc, _+_, _<_, _≤_}
 use mathlib.Core.Path.{_≡_, refl, ap, sym, _∙_}
 use mathlib.Core.List.{List, [], _∷_, _++_}
-use mathlib.Core.Bool.{Bool, true, false}
 use native.Mathlib.Omega.{arith}
-use borrow.Author.Tests.{eqb-false, ltb-false, le-ltb, ne-eqb}
-use lib.Dec.{eqb, ltb}
 use lib.ListN.{length, getD, take, length-append, length-take, List·getD-append}
 use lib.Seq.{getD-take, ext-getD, length-take-le}
 use Rattle.layout.specs.Number.{byteAt}
-use Rattle.model.specs.Strings.{pick, hasZero}
-use Rattle.model.specs.Edition.{edition1}
 use Rattle.model.specs.Body.{Text}
 use Rattle.model.specs.Frame.{Begins}
-use Rattle.pieces.proofs.DecideLaws.{clash}
 
 -- ---- n bytes from a place
 
@@ -41,52 +35,7 @@ bytes-append f o (suc m) n =
 pub text-left : (f : List ℕ) (o : ℕ) (p q : List ℕ) → Text f o (p ++ q) → Text f o p
 text-left f o p q t i l = t i (simp length-append (omega arith)) ∙ List·getD-append p q 0 i l
 
--- ---- legal keys
-
--- a string without a byte 0, by its places
-clean-cons : (t z : Bool) → pick t true z ≡ false → (t ≡ false) × (z ≡ false)
-clean-cons true z h = clash h
-clean-cons false z h = (refl, h)
-
-pub clean-has : (k : List ℕ) → hasZero k ≡ false → (i : ℕ) → i < length k → getD k i 0 ≡ 0 → ⊥
-clean-has [] h i l = absurd (omega arith)
-clean-has (b ∷ k) h zero l = eqb-false b 0 (clean-cons (eqb b 0) (hasZero k) h .0)
-clean-has (b ∷ k) h (suc i) l = clean-has k (clean-cons (eqb b 0) (hasZero k) h .1) i (omega arith)
-
-pub has-clean : (k : List ℕ) → ((i : ℕ) → i < length k → getD k i 0 ≡ 0 → ⊥) → hasZero k ≡ false
-has-clean [] h = refl
-has-clean (b ∷ k) h = rw (ne-eqb b 0 (h 0 (omega arith))) (has-clean k (λ i l. h (suc i) (omega arith)))
-
-fault-none : (t u z : Bool) → pick {X = ℕ} t 3 (pick u 3 (pick z 4 0)) ≡ 0 → (t ≡ false) × (u ≡ false) × (z ≡ false)
-fault-none true u z e = absurd (omega arith)
-fault-none false true z e = absurd (omega arith)
-fault-none false false true e = absurd (omega arith)
-fault-none false false false e = (refl, refl, refl)
-
-pub record LegalKey (k : List ℕ) : Type 0 where
-  pub some : 1 ≤ length k
-  pub most : length k ≤ 112
-  pub clean : hasZero k ≡ false
-
-pub legal-key : (k : List ℕ) → edition1 .keyFault k ≡ 0 → LegalKey k
-legal-key k e =
-    let t = fault-none (eqb (length k) 0) (ltb 112 (length k)) (hasZero k) e in
-    let n = eqb-false (length k) 0 (t .0) in
-    record { some = omega arith; most = ltb-false 112 (length k) (t .1); clean = t .2 }
-
-pub key-legal : (k : List ℕ) → LegalKey k → edition1 .keyFault k ≡ 0
-key-legal k h =
-    let n : length k ≡ 0 → ⊥ = λ e. let s = h .some in omega arith in
-    rw (ne-eqb (length k) 0 n, le-ltb 112 (length k) (h .most), h .clean) refl
-
--- ---- walked strings
-
--- past a key's end the walked string has a byte 0, and so has the list that is read there
-pub walked-at : (k : List ℕ) (i : ℕ) → getD (edition1 .walked k) i 0 ≡ getD k i 0
-walked-at [] zero = refl
-walked-at [] (suc i) = refl
-walked-at (b ∷ k) zero = refl
-walked-at (b ∷ k) (suc i) = walked-at k i
+-- ---- paths
 
 -- a string begins with a path, by its places
 pub record BeginsAt (w path : List ℕ) : Type 0 where

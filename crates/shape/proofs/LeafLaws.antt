@@ -13,11 +13,12 @@ use Rattle.layout.proofs.NumberLaws.{lt-or-le}
 use Rattle.model.specs.Edition.{edition1}
 use Rattle.model.specs.Tree.{up8}
 use Rattle.model.specs.Body.{LeafAt}
+use Rattle.model.proofs.Edition1.{positive-at, at-positive, Key1, key-passes, key-taken, walked-at}
 use Rattle.pieces.specs.Range.{Blank, Clean, Alike}
 use Rattle.shape.specs.Shape.{ExtentFits, Ends, KeyHere, LeafHere, LeafTold}
 use Rattle.pieces.proofs.DecideLaws.{clash}
 use Rattle.shape.proofs.ZeroLaws.{blank-zero, zero-blank}
-use Rattle.shape.proofs.BytesLaws.{bytesFrom, bytes-long, bytes-text, bytes-append, text-left, clean-has, has-clean, LegalKey, legal-key, key-legal, walked-at, BeginsAt, begins-at, at-begins}
+use Rattle.shape.proofs.BytesLaws.{bytesFrom, bytes-long, bytes-text, bytes-append, text-left, BeginsAt, begins-at, at-begins}
 
 -- ---- the key
 
@@ -53,7 +54,7 @@ module _ (f whole : List ℕ) (o d b depth e k v : ℕ) (deep : depth ≤ length
   pub leaf-extent : (x n : ℕ) → LeafHere f (take depth whole) o d b x n → ExtentFits e k (up8 (k + v)) d b
   leaf-extent x n L =
       let at = L .is .at in
-      let legal = legal-key (L .key) (L .is .legal) in
+      let legal = key-passes (L .key) (L .is .legal) in
       let z : k + v ≡ length (L .key) + length (L .value) = omega arith in
       let s : up8 (k + v) ≡ n = rw z (sym (L .long)) in
       record { eights = omega (arith, L .is .eights); low = omega arith; high = omega arith; some = omega arith; most = omega arith }
@@ -77,7 +78,7 @@ module _ (f whole : List ℕ) (o d b depth e k v : ℕ) (deep : depth ≤ length
         short = omega (arith, B .short, length-append key (0 ∷ []));
         clean = λ a x y z.
             let i : e + (a - e) ≡ a = omega arith in
-            clean-has key (legal-key key (L .is .legal) .clean) (a - e) (omega arith) (sym (T (a - e) (omega arith)) ∙ rw i z);
+            positive-at key (key-passes key (L .is .legal) .chars) (a - e) (omega arith) (sym (T (a - e) (omega arith)) ∙ rw i z);
         same = λ i l h. T i h ∙ W i l;
         end = λ l. sym (W k l) ∙ List·getD-eq-default key 0 (omega arith);
       }
@@ -90,8 +91,8 @@ module _ (f whole : List ℕ) (o d b depth e k v : ℕ) (deep : depth ≤ length
       let m = bytes-long f e k in
       let w = bytes-long f (e + k) v in
       let long = length-take-le depth whole deep in
-      let K' : LegalKey key
-      = record { some = omega arith; most = omega arith; clean = has-clean key (λ i l z. K .clean (e + i) (omega arith) (omega arith) (bytes-text f e k i l ∙ z)) } in
+      let K' : Key1 key
+      = record { some = omega arith; short = omega arith; chars = at-positive key (λ i l z. K .clean (e + i) (omega arith) (omega arith) (bytes-text f e k i l ∙ z)) } in
       let at : LeafAt f o e key value
       = record {
         room = omega arith;
@@ -116,7 +117,7 @@ module _ (f whole : List ℕ) (o d b depth e k v : ℕ) (deep : depth ≤ length
         is = record {
           at = at;
           eights = X .eights;
-          legal = key-legal key K';
+          legal = key-taken key K';
           begins = at-begins (edition1 .walked key) (take depth whole) B;
         };
         long = rw (m, w) refl;
