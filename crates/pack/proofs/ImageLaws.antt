@@ -37,7 +37,7 @@ use Rattle.pack_body.proofs.HasLaws.{has-only}
 use Rattle.pack_body.proofs.ImageParts.{Parts, image-of-parts}
 use Rattle.pack.specs.declared.bodies.Next.{Next}
 use Rattle.pack.specs.Laid.{Laid}
-use Rattle.pack.specs.Walk.{mostSlots, SlotIn, Inside, InsideAll, packedLay, TreeReady, TreePacked}
+use Rattle.pack.specs.Walk.{longestWalk, SlotIn, Inside, InsideAll, packedLay, TreeReady, TreePacked}
 use Rattle.pack.specs.Image.{Known, Imaged}
 use Rattle.pack.proofs.LaidLaws.{laid-as}
 use Rattle.pack.proofs.WalkLaws.{length-packed}
@@ -55,19 +55,14 @@ among-less : {u b : ℕ} {is js : List Item} → ((w : Item → ℕ) → sum w j
 among-less h A =
     record { zeroth = omega (arith, h (onSlot 0), A .zeroth); past = λ s l. omega (arith, h (onSlot s), A .past s l); high = λ a l. omega (arith, h (cover a), A .high a l) }
 
-module _ (f : List ℕ) (u b : ℕ) (table : 64 + 4 * u ≤ length f) (within : b ≤ length f) (few : u ≤ mostSlots) where
+module _ (f : List ℕ) (u b : ℕ) (table : 64 + 4 * u ≤ length f) (within : b ≤ length f) where
   module _ (s kind o : ℕ) (is : List Item) (h : (w : Item → ℕ) → w (body s kind o) ≤ sum w is) (A : Among u b is) where
-    slot-most : s ≤ u
-    unfolding onSlot
-    slot-most = elim (decLe s u) [ yes p ↦ p | no p ↦ absurd (omega (arith, in-yes s 1 s (omega arith) (omega arith), h (onSlot s), A .past s (omega arith))) ]
-
     slot-inside : SlotIn f s
     unfolding onSlot
     slot-inside =
         record {
           first = elim (decLe 1 s) [ yes p ↦ p | no p ↦ absurd (omega (arith, in-yes s 1 0 (omega arith) (omega arith), h (onSlot 0), A .zeroth)) ];
-          last = omega (arith, slot-most);
-          few = omega (arith, slot-most);
+          last = elim (decLe s u) [ yes p ↦ omega arith | no p ↦ absurd (omega (arith, in-yes s 1 s (omega arith) (omega arith), h (onSlot s), A .past s (omega arith))) ];
         }
 
     body-inside : 1 ≤ bodySize kind → o + bodySize kind ≤ length f
@@ -172,13 +167,13 @@ module _ {f : List ℕ} {capacity records root : ℕ} (K : Known f capacity reco
       let S = K .stands .heap .sound in
       let a = H .size in let b = H .givenIn in let c = H .bumpIn in
       let m = K .stands .nums in
-      inside-tree f (m .U) (m .B) (omega arith) (omega arith) (omega (arith, H .slotCap)) lay
+      inside-tree f (m .U) (m .B) (omega arith) (omega arith) lay
       (among-less {is = rootItems (K .stands .root) ++ freed 1 (K .stands .lists)}
       (λ w. omega (arith, sum-app w (rootItems (K .stands .root)) (freed 1 (K .stands .lists)), ap (λ (r : Root). sum w (rootItems r)) (rooted .is)))
       (record { zeroth = S .zeroth; past = S .past; high = S .high }))
 
   module _ {n : ℕ} (long : n ≡ length f) {out zeroed : List ℕ} (same : length out ≡ n) (C : Cleared out zeroed 0 n) where
-    pub image-start : TreeReady f root 0 zeroed (startOf capacity)
+    pub image-start : TreeReady f root longestWalk zeroed (startOf capacity)
     image-start =
         let L = known-limits K long .long in
         let z = C .rest .size in

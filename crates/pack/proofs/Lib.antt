@@ -3,6 +3,5 @@ pub mod NodeLaws
 pub mod BodiesLaws
 pub mod WalkLaws
 pub mod RunLaws
-pub mod WayLaws
 pub mod ImageLaws
 pub mod PackLaws

@@ -1,6 +1,6 @@
 -- The run of a node's children: it starts with none of them, goes on by the next in byte order with all below it, and ends with all of them
 -- behind the node's body. Assumes nothing.
-use Prim.Native.Nat.{ℕ, suc, _+_, _<_, _≤_}
+use Prim.Native.Nat.{ℕ, suc, _+_, _-_, _<_, _≤_}
 use mathlib.Core.Path.{_≡_, refl, sym, ap, _∙_}
 use mathlib.Core.List.{List, [], _∷_, _++_, append-assoc, append-nil, head-eq-of-cons-eq, tail-eq-of-cons-eq}
 use native.Mathlib.Omega.{arith}
@@ -68,7 +68,7 @@ module _ {f : List ℕ} {o kind : ℕ} {ks : LayKids} (N : NodeOf f o kind ks) w
     kids-well = trees-well edition1 f B path 0 ks (inner-asc f o kind (pairs ks) (N .inner)) T
 
     -- a path to an inner node is not yet whole
-    node-left : length path ≤ 112
+    pub node-left : length path ≤ 112
     node-left = node-path1 kind (artKids ks) path (node-well f o kind ks N, kids-well) .short
 
 -- their bytes ascend
@@ -78,7 +78,7 @@ run-bytes (kid b j l ks) = ap (λ (bs : List ℕ). b ∷ bs) (run-bytes ks)
 
 -- ---- the start
 
-module _ {f : List ℕ} {o kind depth : ℕ} {out : List ℕ} {at : Next} (P : NodeReady f o kind depth out at) {n : ℕ} (en : n ≡ length (pairs (P .kids))) {small : ℕ} (es : small ≡ smallest n) where
+module _ {f : List ℕ} {o kind left : ℕ} {out : List ℕ} {at : Next} (P : NodeReady f o kind left out at) {n : ℕ} (en : n ≡ length (pairs (P .kids))) {small : ℕ} (es : small ≡ smallest n) where
   ready-fits : Fits small n
   ready-fits = rw (es, en) (small-fits (P .of))
 
@@ -94,7 +94,7 @@ module _ {f : List ℕ} {o kind depth : ℕ} {out : List ℕ} {at : Next} (P : N
   pub node-fits : NodeFits small out at
   node-fits = let r = inner-range (ready-fits .sort) in record { low = r .0; high = r .1; room = room-first (omega arith) (omega arith) ready-room }
 
-  pub going-start : {out' : List ℕ} {here : Next} → Laid (entryOf small (at .place) ∷ []) (partBody small n [] []) at out out' here → Going f o kind depth n small out at 0 0 out' here
+  pub going-start : {out' : List ℕ} {here : Next} → Laid (entryOf small (at .place) ∷ []) (partBody small n [] []) at out out' here → Going f o kind left n small out at 0 0 out' here
   going-start {out'} {here} L =
       let ks = P .kids in
       let b : length (partBody small n [] []) ≡ bodySize small = length-part small n [] [] (ready-fits .sort) refl (omega arith) in
@@ -149,16 +149,7 @@ split c s more (kid b j l ks) e =
     let hb : b ≡ c = ap (λ (x : ℕ × ℕ). x .0) h in
     record { place = j; lay = l; kids = ks; is = ap (λ (x : ℕ). kid x j l ks) hb; slotIs = ap (λ (x : ℕ × ℕ). x .1) h; moreIs = tail-eq-of-cons-eq e }
 
-module _ {f : List ℕ} {o kind depth n small : ℕ} {out : List ℕ} {at : Next} {i from : ℕ} {out' : List ℕ} {here : Next} (G : Going f o kind depth n small out at i from out' here) where
-  pub going-short : depth ≤ 112
-  going-short = let d = G .deep in omega (arith, node-left (G .of) (G .path) (G .bytes) (G .trees))
-
-  pub going-few : n ≤ 256
-  going-few = let c = G .counted in omega (arith, few (G .of) .1)
-
-  pub going-place : at .place ≤ 524288
-  going-place = let t = G .laid .text .fits in let l = G .room .limit in omega arith
-
+module _ {f : List ℕ} {o kind left n small : ℕ} {out : List ℕ} {at : Next} {i from : ℕ} {out' : List ℕ} {here : Next} (G : Going f o kind left n small out at i from out' here) where
   pub going-visit : i < n → Visit f o kind i from
   going-visit h = let c = G .counted in record { kids = pairs (G .kids); node = G .of .inner; inside = omega arith; reached = G .reached; low = G .low }
 
@@ -227,7 +218,7 @@ module _ {f : List ℕ} {o kind depth n small : ℕ} {out : List ℕ} {at : Next
       child-tree = next-trees .0
 
       module _ {out'' : List ℕ} (W : ChildLaid (at .place) small i c (here .slot) out' out'') where
-        pub going-tree : TreeReady f s (depth + 1) out'' here
+        pub going-tree : TreeReady f s (left - 1) out'' here
         unfolding InsideAll
         going-tree =
             record {
@@ -237,7 +228,7 @@ module _ {f : List ℕ} {o kind depth n small : ℕ} {out : List ℕ} {at : Next
               slotIs = next-is .slotIs;
               inside = next-inside .0;
               bytes = G .bytes;
-              deep = (let d = G .deep in omega (arith, length-append (G .path) (c ∷ [])));
+              deep = (let d = G .deep in let m = node-left (G .of) (G .path) (G .bytes) (G .trees) in omega (arith, length-append (G .path) (c ∷ [])));
               room = room-only (body-below .0) (room-first (omega arith) (omega arith) next-room) (W .only);
             }
 
@@ -266,7 +257,7 @@ module _ {f : List ℕ} {o kind depth n small : ℕ} {out : List ℕ} {at : Next
               let same : P .lay ≡ child = tree-unique edition1 f (P .path) (G .path ++ c ∷ []) (P .lay) child (P .tree) child-tree (P .slotIs ∙ sym (next-is .slotIs)) in
               laid-as (ap (λ (l : Lay). entries (packedLay l) (here .place)) same) (ap (λ (l : Lay). bodies (packedLay l) (here .slot) (here .place)) same) (P .laid)
 
-          pub going-next : Going f o kind depth n small out at (i + 1) (c + 1) out3 r
+          pub going-next : Going f o kind left n small out at (i + 1) (c + 1) out3 r
           unfolding Trees InsideAll
           going-next =
               let a = length-entries (packedLay child) (here .place) in
@@ -317,7 +308,7 @@ unfolding pairs
 none-left nil e = refl
 none-left (kid b j l ks) e = clash (cc)
 
-module _ {f : List ℕ} {o kind depth n small : ℕ} {out : List ℕ} {at : Next} {i from : ℕ} {out' : List ℕ} {here : Next} (G : Going f o kind depth n small out at i from out' here) (es : small ≡ smallest n) (ei : i ≡ n) where
+module _ {f : List ℕ} {o kind left n small : ℕ} {out : List ℕ} {at : Next} {i from : ℕ} {out' : List ℕ} {here : Next} (G : Going f o kind left n small out at i from out' here) (es : small ≡ smallest n) (ei : i ≡ n) where
   no-rest : G .rest ≡ nil
   no-rest = none-left (G .rest) (G .restIs ∙ (ap (λ (m : ℕ). drop m (pairs (G .kids))) (ei ∙ sym (G .counted)) ∙ drop-length (pairs (G .kids))))
 

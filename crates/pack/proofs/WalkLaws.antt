@@ -1,11 +1,11 @@
 -- One law for each case of the tree at a slot: a Leaf, a Prefix with the node below, an inner node. Assumes nothing.
-use Prim.Native.Nat.{ℕ, _+_, _≤_}
+use Prim.Native.Nat.{ℕ, _+_, _-_, _≤_}
 use mathlib.Core.Path.{_≡_, refl, sym, ap, _∙_}
 use mathlib.Core.List.{List, [], _∷_, _++_}
 use native.Mathlib.Omega.{arith}
 use lib.ListN.{length, length-append}
 use Rattle.layout.specs.Number.{le, Bytes}
-use Rattle.layout.specs.Place.{prefixChild}
+use Rattle.layout.specs.Place.{prefixChild, prefixLength}
 use Rattle.layout.specs.Kind.{Leaf, Prefix, bodySize}
 use Rattle.layout.specs.Entry.{highOf, placeOf, entryOf}
 use Rattle.model.specs.Edition.{edition1}
@@ -17,7 +17,7 @@ use Rattle.model.proofs.StandsGood.{tree-well}
 use Rattle.model.proofs.PackedLaws.{packed-well}
 use Rattle.model.proofs.PackedBytes.{length-bodies, length-entries}
 use Rattle.model.proofs.UniqueLaws.{tree-unique}
-use Rattle.audit.proofs.TreeLaws.{node-kind}
+use Rattle.audit.proofs.TreeLaws.{node-short}
 use Rattle.pack.specs.declared.bodies.Next.{Next}
 use Rattle.pack.specs.Laid.{Room, Laid, LeafFits, LeafLaid, PrefixFits, PrefixLaid}
 use Rattle.pack.specs.Walk.{SlotIn, Inside, packedLay, TreeReady, TreePacked, NodeReady, NodePacked}
@@ -82,7 +82,7 @@ prefixBody child p = padded 16 (digits 4 child ++ digits 2 (length p)) ++ padded
 
 -- ---- the tree at slot s
 
-module _ {f : List ℕ} {s depth : ℕ} {out : List ℕ} {at : Next} (T : TreeReady f s depth out at) where
+module _ {f : List ℕ} {s left : ℕ} {out : List ℕ} {at : Next} (T : TreeReady f s left out at) where
   -- its entry lies in the frame
   pub tree-slot : SlotIn f s
   tree-slot = slot-in f s (T .lay) (T .inside) (T .slotIs)
@@ -103,10 +103,6 @@ module _ {f : List ℕ} {s depth : ℕ} {out : List ℕ} {at : Next} (T : TreeRe
         let R : Room 1 (size (packedLay (leaf s o (K .extent) (K .key) (K .value)))) at out = rw (K .is) at (T .room) in
         record { extent = K .extent; key = K .key; value = K .value; inside = i .1; stands = leaf-tree .1 .at; room = R }
 
-    pub leaf-more : {out' : List ℕ} {r : Next} → LeafLaid f o out at out' r → r .slot ≡ at .slot + 1
-    unfolding Tree
-    leaf-more L = let K = is-leaf in L .of (K .extent) (K .key) (K .value) (leaf-tree .1 .at) .slotIs
-
     pub leaf-packed : {out' : List ℕ} {r : Next} → LeafLaid f o out at out' r → TreePacked f s out at out' r
     unfolding Tree
     leaf-packed L =
@@ -115,7 +111,7 @@ module _ {f : List ℕ} {s depth : ℕ} {out : List ℕ} {at : Next} (T : TreeRe
 
   -- a Prefix
   module _ {o : ℕ} (h : highOf f s ≡ Prefix) (p : placeOf f s ≡ o) where
-    pub is-prefix : IsPrefix s o (T .lay)
+    is-prefix : IsPrefix s o (T .lay)
     is-prefix = prefix-lay f (T .path) s o (T .lay) (T .tree) (T .slotIs) h p
 
     prefix-tree : Tree edition1 f (T .path) (prefix s o (is-prefix .bytes) (is-prefix .below))
@@ -135,19 +131,23 @@ module _ {f : List ℕ} {s depth : ℕ} {out : List ℕ} {at : Next} (T : TreeRe
     unfolding Tree
     prefix-in = prefix-tree .1 .room
 
-    module _ {c : ℕ} (ec : c ≡ le 4 f (o + prefixChild)) where
+    -- its bytes are no more than the path has left
+    prefix-left : length (T .path) + length (is-prefix .bytes) ≤ 112
+    unfolding Tree
+    prefix-left = omega (arith, node-short f (T .path ++ is-prefix .bytes) (is-prefix .below) (T .bytes) (prefix-tree .2) (prefix-tree .3), length-append (T .path) (is-prefix .bytes))
+
+    module _ {c n : ℕ} (ec : c ≡ le 4 f (o + prefixChild)) (en : n ≡ le 2 f (o + prefixLength)) where
       child-is : slotOf (is-prefix .below) ≡ c
       unfolding Tree
       child-is = sym (prefix-tree .1 .child) ∙ sym ec
 
-      -- the entry of the node below
-      pub prefix-slot : SlotIn f c
-      unfolding Inside
-      prefix-slot = slot-in f c (is-prefix .below) (prefix-inside .1) child-is
-
-      pub prefix-other : highOf f c ≡ Leaf → ⊥
+      long-is : n ≡ length (is-prefix .bytes)
       unfolding Tree
-      prefix-other q = let k = node-kind f (T .path ++ is-prefix .bytes) c (is-prefix .below) (prefix-tree .2) (prefix-tree .3) child-is in omega (arith, k .0)
+      long-is = en ∙ prefix-tree .1 .long
+
+      pub prefix-some : (1 ≤ n) × (n ≤ left)
+      unfolding Tree
+      prefix-some = let a = prefix-tree .1 .some in let b = long-is in let d = T .deep in let e = prefix-left in (omega arith, omega arith)
 
       module _ {out' : List ℕ} {here : Next} (L : PrefixLaid f o out at out' here) where
         head : Laid (entryOf Prefix (at .place) ∷ []) (prefixBody (at .slot + 1) (is-prefix .bytes)) at out out' here
@@ -158,10 +158,7 @@ module _ {f : List ℕ} {s depth : ℕ} {out : List ℕ} {at : Next} (T : TreeRe
         unfolding Tree
         head-long = length-prefix (at .slot + 1) (is-prefix .bytes) (prefix-tree .1 .most)
 
-        pub prefix-more : here .slot ≡ at .slot + 1
-        prefix-more = head .slotIs
-
-        pub prefix-below : TreeReady f c (depth + length (is-prefix .bytes)) out' here
+        pub prefix-below : TreeReady f c (left - n) out' here
         unfolding Tree Inside
         prefix-below =
             record {
@@ -171,7 +168,7 @@ module _ {f : List ℕ} {s depth : ℕ} {out : List ℕ} {at : Next} (T : TreeRe
               slotIs = child-is;
               inside = prefix-inside .1;
               bytes = T .bytes;
-              deep = (let d = T .deep in omega (arith, length-append (T .path) (is-prefix .bytes)));
+              deep = (let d = T .deep in let e = prefix-left in let b = long-is in omega (arith, length-append (T .path) (is-prefix .bytes)));
               room = room-rest (omega arith) (omega (arith, head-long)) prefix-room head;
             }
 
@@ -200,7 +197,7 @@ module _ {f : List ℕ} {s depth : ℕ} {out : List ℕ} {at : Next} (T : TreeRe
     inner-tree : Tree edition1 f (T .path) (node s o kind (is-inner .kids))
     inner-tree = rw (is-inner .is) at (T .tree)
 
-    pub node-ready : NodeReady f o kind depth out at
+    pub node-ready : NodeReady f o kind left out at
     unfolding Tree Inside
     node-ready =
         let K = is-inner in

@@ -18,15 +18,14 @@ use Rattle.pack_body.specs.Part.{partBody}
 use Rattle.pack.specs.declared.bodies.Next.{Next}
 use Rattle.pack.specs.Laid.{Room, Laid}
 
--- the most slots of a frame
-abbrev pub mostSlots : ℕ
-mostSlots = 10240
+-- the most bytes of a walked string: a key of 112 and one byte 0
+abbrev pub longestWalk : ℕ
+longestWalk = 113
 
 -- the slot's entry lies in f
 pub record SlotIn (f : List ℕ) (s : ℕ) : Type 0 where
   pub first : 1 ≤ s
   pub last : entryAt s + 4 ≤ length f
-  pub few : s ≤ mostSlots
 
 -- every entry and every Leaf's body of a tree lies in f
 unfoldable mutual
@@ -47,16 +46,16 @@ packedLay l = packed (art l)
 abbrev pub packedRun : LayKids → Kids
 packedRun ks = packedKids (artKids ks)
 
--- ---- the tree at slot s, to which a path of so many bytes leads
+-- ---- the tree at slot s, where a path has so many bytes left
 
-pub record TreeReady (f : List ℕ) (s depth : ℕ) (out : List ℕ) (at : Next) : Type 0 where
+pub record TreeReady (f : List ℕ) (s left : ℕ) (out : List ℕ) (at : Next) : Type 0 where
   pub lay : Lay
   pub path : List ℕ
   pub tree : Tree edition1 f path lay
   pub slotIs : slotOf lay ≡ s
   pub inside : Inside f lay
   pub bytes : Bytes f
-  pub deep : length path ≡ depth
+  pub deep : length path + left ≡ longestWalk
   pub room : Room (slots (packedLay lay)) (size (packedLay lay)) at out
 
 pub record TreePacked (f : List ℕ) (s : ℕ) (out : List ℕ) (at : Next) (out' : List ℕ) (r : Next) : Type 0 where
@@ -66,16 +65,16 @@ pub record TreePacked (f : List ℕ) (s : ℕ) (out : List ℕ) (at : Next) (out
   pub slotIs : slotOf lay ≡ s
   pub laid : Laid (entries (packedLay lay) (at .place)) (bodies (packedLay lay) (at .slot) (at .place)) at out out' r
 
--- ---- the inner node of a kind whose body lies at o, to which such a path leads
+-- ---- the inner node of a kind whose body lies at o
 
-pub record NodeReady (f : List ℕ) (o kind depth : ℕ) (out : List ℕ) (at : Next) : Type 0 where
+pub record NodeReady (f : List ℕ) (o kind left : ℕ) (out : List ℕ) (at : Next) : Type 0 where
   pub kids : LayKids
   pub path : List ℕ
   pub of : NodeOf f o kind kids
   pub trees : Trees edition1 f path kids
   pub inside : InsideAll f kids
   pub bytes : Bytes f
-  pub deep : length path ≡ depth
+  pub deep : length path + left ≡ longestWalk
   pub room : Room (slots (nodeOf (packedRun kids))) (size (nodeOf (packedRun kids))) at out
 
 pub record NodePacked (f : List ℕ) (o kind : ℕ) (out : List ℕ) (at : Next) (out' : List ℕ) (r : Next) : Type 0 where
@@ -87,13 +86,13 @@ pub record NodePacked (f : List ℕ) (o kind : ℕ) (out : List ℕ) (at : Next)
 
 -- its first i children are packed behind its body, which is of the kind `small` and so far names just these: bytes bs, slots ss, entries es,
 -- bodies and extents ds
-pub record Going (f : List ℕ) (o kind depth n small : ℕ) (out : List ℕ) (at : Next) (i from : ℕ) (out' : List ℕ) (here : Next) : Type 0 where
+pub record Going (f : List ℕ) (o kind left n small : ℕ) (out : List ℕ) (at : Next) (i from : ℕ) (out' : List ℕ) (here : Next) : Type 0 where
   pub kids : LayKids
   pub path : List ℕ
   pub of : NodeOf f o kind kids
   pub trees : Trees edition1 f path kids
   pub bytes : Bytes f
-  pub deep : length path ≡ depth
+  pub deep : length path + left ≡ longestWalk
   pub counted : length (pairs kids) ≡ n
   pub most : i ≤ n
   pub reached : Reached (pairs kids) i from

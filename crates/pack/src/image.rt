@@ -13,6 +13,9 @@ ghost use Rattle.pack.specs.Image.{Known, Imaged};
 // "Slots are numbered from 1"
 const FIRST_SLOT: usize = 1;
 
+// The longest walked string: a key of 112 bytes and one byte 0.
+const LONGEST_PATH: usize = 113;
+
 // The image of one record or more.
 fn of_tree(f: &[u8], out: &mut [u8], capacity: usize, records: usize, root: usize)
     requires { ⌜ Known (now f) capacity records root × (length (now out) ≡ length (now f)) × (1 ≤ records) ⌝ }
@@ -24,7 +27,7 @@ fn of_tree(f: &[u8], out: &mut [u8], capacity: usize, records: usize, root: usiz
         slot: FIRST_SLOT,
         place: Header::SIZE + Entry::SIZE * capacity,
     };
-    let end = walk::tree(f, out, root, start);
+    let end = walk::tree(f, out, root, LONGEST_PATH, start);
     header::write(
         out,
         bytes,
