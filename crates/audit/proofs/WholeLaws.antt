@@ -10,8 +10,6 @@ use borrow.Author.Tests.{eqb-true, eqb-false}
 use Rattle.layout.specs.Number.{le}
 use Rattle.layout.specs.Place.{atD, atB, atU, atR, atX, atRoot}
 use Rattle.layout.specs.Entry.{placeOf}
-use Rattle.fields.specs.declared.header.Header.{Header}
-use Rattle.fields.specs.Header.{headerOf}
 use Rattle.model.specs.Edition.{edition1}
 use Rattle.model.specs.State.{State}
 use Rattle.model.specs.Item.{Item, body, extent, inside, onSlot, cover, bulk, leafy, sum, Sound}
@@ -21,7 +19,7 @@ use Rattle.model.specs.Frame.LayKids.{nil, kid}
 use Rattle.model.proofs.StringLaws.{clash}
 use Rattle.model.proofs.ItemLaws.{in-under, sum-app, sum-as}
 use Rattle.model.proofs.UniqueLaws.{lists-same, stands-unique}
-use Rattle.model.proofs.StandsGood.{bodied, leafy-other, sound-bodies, stands-heads}
+use Rattle.model.proofs.StandsGood.{bodied, leafy-other, sound-bodies}
 use Rattle.claims.specs.Units.{Each, Eighth, Within, Slotted, Seen}
 use Rattle.claims.proofs.UnitLaws.{fits-seen}
 use Rattle.claims.proofs.SlotLaws.{slots-each, sound-made}
@@ -260,42 +258,29 @@ good-length s S =
     let e = h .size in
     record { limits = rw e (h .limits); stored = h .stored ∙ sym e }
 
-module _ {f free : List ℕ} {n : ℕ} {h : Header} where
-  pub audit-length : (LengthFits f → ⊥) → n ≡ 1 → AuditTold f n free h
+module _ {f free : List ℕ} {n : ℕ} where
+  pub audit-length : (LengthFits f → ⊥) → n ≡ 1 → AuditTold f n free
   audit-length nay e =
       record {
         promise = record {
           told = record { length1 = λ q. e; bad2 = λ L q. absurd (nay (record { limits = L .0; stored = L .1 })); good = λ a b. absurd (a e) };
           good0 = λ G. absurd (nay (good-length (G .0) (G .1)));
         };
-        room = λ s w. absurd (nay (good-length s w));
+        counts = λ s w. absurd (nay (good-length s w));
       }
 
-  pub audit-bad : LengthFits f → (Good edition1 f → ⊥) → n ≡ 2 → AuditTold f n free h
+  pub audit-bad : LengthFits f → (Good edition1 f → ⊥) → n ≡ 2 → AuditTold f n free
   audit-bad L nay e =
       record {
         promise = record { told = record { length1 = λ q. absurd (q (L .limits, L .stored)); bad2 = λ K q. e; good = λ a b. absurd (b e) }; good0 = λ G. absurd (nay G) };
-        room = λ s w. absurd (nay (s, w));
+        counts = λ s w. absurd (nay (s, w));
       }
 
-  pub audit-good : LengthFits f → Counted f free → h ≡ headerOf f → n ≡ 0 → AuditTold f n free h
-  unfolding headerOf
-  audit-good L C q e =
+  pub audit-good : LengthFits f → Counted f free → n ≡ 0 → AuditTold f n free
+  audit-good L C e =
       record {
         promise = record { told = record { length1 = λ z. absurd (z (L .limits, L .stored)); bad2 = λ K z. absurd (z (C .state, C .stands)); good = λ a b. (C .state, C .stands) }; good0 = λ G. e };
-        room = λ s w.
-            let k = stands-heads edition1 f s w in
-            let z = stands-unique edition1 f (C .state) s (C .stands) w in
-            record {
-              counts = C .counts ∙ ap (λ (x : State). x .free) z;
-              F = ap (λ (x : Header). x .«frame_length») q ∙ k .stored;
-              N = ap (λ (x : Header). x .«slot_capacity») q ∙ k .slotsAt;
-              B = ap (λ (x : Header). x .«next_byte») q ∙ k .bumpAt;
-              U = ap (λ (x : Header). x .«slots_given») q ∙ k .givenAt;
-              R = ap (λ (x : Header). x .records) q ∙ k .recordsAt;
-              X = ap (λ (x : Header). x .«dead_bytes») q ∙ k .deadAt;
-              slot = ap (λ (x : Header). x .root) q ∙ w .heap .header .rootAt ∙ w .rootIs;
-            };
+        counts = λ s w. C .counts ∙ ap (λ (x : State). x .free) (stands-unique edition1 f (C .state) s (C .stands) w);
       }
 
 -- a header that no good frame has

@@ -1,4 +1,4 @@
--- What the check promises: the model's promise of its number, and of a good frame the room that the state has.
+-- What the check promises: the model's promise of its number, and of a good frame the free counts of the state.
 use Prim.Native.Nat.{ℕ, _+_, _≤_}
 use mathlib.Core.Path.{_≡_}
 use mathlib.Core.List.{List, [], _∷_}
@@ -6,7 +6,6 @@ use mathlib.Core.Bool.{Bool, true, false}
 use Rattle.layout.specs.Number.{le, Bytes}
 use Rattle.layout.specs.Place.{atEdition, atD, atB, atU, atR, atX}
 use Rattle.layout.specs.Kind.{EmptyRoot}
-use Rattle.fields.specs.declared.header.Header.{Header}
 use Rattle.model.specs.Edition.{edition1}
 use Rattle.model.specs.State.{State}
 use Rattle.model.specs.Item.{Item, body}
@@ -59,18 +58,7 @@ pub record WholeTold (f : List ℕ) (good : Bool) (free : List ℕ) : Type 0 whe
   pub holds : good ≡ true → Counted f free
   pub fails : good ≡ false → Good edition1 f → ⊥
 
--- the free counts and the header's numbers are the state's
-pub record RoomOf (free : List ℕ) (h : Header) (s : State) (root : Root) : Type 0 where
-  pub counts : free ≡ s .free
-  pub F : h .«frame_length» ≡ s .F
-  pub N : h .«slot_capacity» ≡ s .N
-  pub B : h .«next_byte» ≡ s .B
-  pub U : h .«slots_given» ≡ s .U
-  pub R : h .records ≡ s .R
-  pub X : h .«dead_bytes» ≡ s .X
-  pub slot : h .root ≡ rootSlot root
-
 -- n: the number given
-pub record AuditTold (f : List ℕ) (n : ℕ) (free : List ℕ) (h : Header) : Type 0 where
+pub record AuditTold (f : List ℕ) (n : ℕ) (free : List ℕ) : Type 0 where
   pub promise : CheckPromise edition1 f n
-  pub room : (s : State) (w : Stands edition1 f s) → RoomOf free h s (w .root)
+  pub counts : (s : State) → Stands edition1 f s → free ≡ s .free

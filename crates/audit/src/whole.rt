@@ -1,4 +1,4 @@
-// The root with all below it, the lists of freed slots, and the sums over both.
+// The root with all below it, the lists of freed slots with their counts by kind, and the sums over both.
 use crate::walk::tree;
 use census::Sums;
 use census::freed::lists;
@@ -17,12 +17,6 @@ ghost use Rattle.claims.specs.Units.{Seen};
 ghost use Rattle.census.specs.Told.{Ground, Limits, Tally, Told};
 ghost use Rattle.audit.specs.Walk.{At};
 ghost use Rattle.audit.specs.Audit.{HeaderFits, RootItems, EmptyTold, Closes, WholeTold};
-
-pub struct Whole {
-    // how many slots each list has, by kind
-    pub free: [usize; Kind::TABLE],
-    pub good: bool,
-}
 
 // An EmptyRoot whose body lies at o.
 fn empty(f: &[u8], map: &mut [u64], o: usize, d: usize, u: usize, b: usize, t: Sums) -> Sums
@@ -91,14 +85,13 @@ fn closes(f: &[u8], slots: usize, bytes: usize, leaves: usize) -> bool
 }
 
 // All, with a map of units that is still zero.
-fn over(f: &[u8], map: &mut [u64]) -> Whole
-    requires { ⌜ HeaderFits (now f) × (length (now f) ≤ 512 * length (now map)) × Seen (now map) [] ⌝ }
-    ensures { λ r. ⌜ WholeTold (now (f .entry)) (r .good) (r .free) ⌝ }
+fn over(f: &[u8], map: &mut [u64], free: &mut [usize; Kind::TABLE]) -> bool
+    requires { ⌜ HeaderFits (now f) × (length (now f) ≤ 512 * length (now map)) × Seen (now map) [] × (length (now free) ≡ 9) ⌝ }
+    ensures { λ r. ⌜ WholeTold (now (f .entry)) r (now (free .exit)) ⌝ }
 {
     let d = Header::data_start(f);
     let u = Header::slots_given(f);
     let b = Header::next_byte(f);
-    let none: [usize; Kind::TABLE] = [0; Kind::TABLE];
     let start = Sums {
         good: true,
         slots: 0,
@@ -107,61 +100,49 @@ fn over(f: &[u8], map: &mut [u64]) -> Whole
     };
     let r = root(f, map, Header::root(f), d, u, b, start);
     if !r.good {
-        return Whole {
-            free: none,
-            good: false,
-        };
+        return false;
     }
-    let l = lists(f, map, d, u, b, r);
-    let sums = l.sums;
-    let free = l.free;
-    if !sums.good {
-        return Whole {
-            free: none,
-            good: false,
-        };
+    let l = lists(f, map, free, d, u, b, r);
+    if !l.good {
+        return false;
     }
-    let good = closes(f, sums.slots, sums.bytes, r.leaves);
-    Whole {
-        free: free,
-        good: good,
-    }
+    closes(f, l.slots, l.bytes, r.leaves)
 }
 
-fn smallest(f: &[u8]) -> Whole
-    requires { ⌜ HeaderFits (now f) × (length (now f) ≤ 4096) ⌝ }
-    ensures { λ r. ⌜ WholeTold (now (f .entry)) (r .good) (r .free) ⌝ }
+fn smallest(f: &[u8], free: &mut [usize; Kind::TABLE]) -> bool
+    requires { ⌜ HeaderFits (now f) × (length (now f) ≤ 4096) × (length (now free) ≡ 9) ⌝ }
+    ensures { λ r. ⌜ WholeTold (now (f .entry)) r (now (free .exit)) ⌝ }
 {
     let mut map: [u64; 8] = [0; 8];
-    over(f, &mut map)
+    over(f, &mut map, free)
 }
 
-fn small(f: &[u8]) -> Whole
-    requires { ⌜ HeaderFits (now f) × (length (now f) ≤ 16384) ⌝ }
-    ensures { λ r. ⌜ WholeTold (now (f .entry)) (r .good) (r .free) ⌝ }
+fn small(f: &[u8], free: &mut [usize; Kind::TABLE]) -> bool
+    requires { ⌜ HeaderFits (now f) × (length (now f) ≤ 16384) × (length (now free) ≡ 9) ⌝ }
+    ensures { λ r. ⌜ WholeTold (now (f .entry)) r (now (free .exit)) ⌝ }
 {
     let mut map: [u64; 32] = [0; 32];
-    over(f, &mut map)
+    over(f, &mut map, free)
 }
 
-fn large(f: &[u8]) -> Whole
-    requires { ⌜ HeaderFits (now f) ⌝ }
-    ensures { λ r. ⌜ WholeTold (now (f .entry)) (r .good) (r .free) ⌝ }
+fn large(f: &[u8], free: &mut [usize; Kind::TABLE]) -> bool
+    requires { ⌜ HeaderFits (now f) × (length (now free) ≡ 9) ⌝ }
+    ensures { λ r. ⌜ WholeTold (now (f .entry)) r (now (free .exit)) ⌝ }
 {
     let mut map: [u64; 1024] = [0; 1024];
-    over(f, &mut map)
+    over(f, &mut map, free)
 }
 
 // All, with a map on the stack that is no larger than it need be.
-pub fn all(f: &[u8]) -> Whole
-    requires { ⌜ HeaderFits (now f) ⌝ }
-    ensures { λ r. ⌜ WholeTold (now (f .entry)) (r .good) (r .free) ⌝ }
+pub fn all(f: &[u8], free: &mut [usize; Kind::TABLE]) -> bool
+    requires { ⌜ HeaderFits (now f) × (length (now free) ≡ 9) ⌝ }
+    ensures { λ r. ⌜ WholeTold (now (f .entry)) r (now (free .exit)) ⌝ }
 {
     if f.len() <= 4096 {
-        return smallest(f);
+        return smallest(f, free);
     }
     if f.len() <= 16384 {
-        return small(f);
+        return small(f, free);
     }
-    large(f)
+    large(f, free)
 }

@@ -1,17 +1,15 @@
 -- The lists of freed slots, a slot and a list at a time. Assumes nothing.
-use Prim.Native.Nat.{ℕ, zero, suc, _+_, _*_, _-_, _<_, _≤_}
+use Prim.Native.Nat.{ℕ, suc, _+_, _-_, _<_, _≤_}
 use mathlib.Core.Path.{_≡_, refl, sym, ap, _∙_}
 use mathlib.Core.List.{List, [], _∷_, _++_, map, append-assoc, append-nil}
 use mathlib.Core.Bool.{true, false}
 use native.Mathlib.Omega.{arith}
-use lib.ListN.{length, replicate, take, set}
+use lib.ListN.{length, take, set}
 use lib.Seq.{take-suc-set}
 use Rattle.layout.specs.Number.{le}
-use Rattle.layout.specs.Place.{atHead, atSpare}
+use Rattle.layout.specs.Place.{atHead}
 use Rattle.layout.specs.Kind.{Crossing}
 use Rattle.layout.specs.Entry.{placeOf, highOf}
-use Rattle.pieces.specs.Range.{Blank}
-use Rattle.pieces.proofs.ZeroLaws.{blank-le}
 use Rattle.model.specs.Item.{Item, body, onSlot, sum}
 use Rattle.model.specs.Frame.{Chain, listItems, freed}
 use Rattle.model.proofs.ItemLaws.{in-under, sum-app, sum-cons}
@@ -19,7 +17,7 @@ use Rattle.model.proofs.UniqueLaws.{chain-unique}
 use Rattle.claims.specs.Units.{Each}
 use Rattle.census.specs.declared.Sums.{Sums}
 use Rattle.census.specs.Told.{isBody, Sited, Tally, BodyTold, Told}
-use Rattle.census.specs.Freed.{ChainItems, ListOf, ListItems, ListsOf, FreedItems, CountedFrom, CountedItems}
+use Rattle.census.specs.Freed.{ChainItems, ListOf, ListItems, ListsOf, FreedItems, CountedFrom}
 use Rattle.census.proofs.ToldLaws.{tidy-slot, tidy-part, grown-none, told-no, told-yes, told-as, told-on, told-first, body-sited}
 
 -- ---- along the links
@@ -114,15 +112,15 @@ lists-split f kind zs h F = go (F .lists) (F .eight) (F .are) (F .items)
     go [] e L q = absurd (omega arith)
     go (l ∷ ls) e L q = (l, L .0, freed (suc kind) ls, record { lists = ls; eight = omega arith; are = L .1; items = refl }, sym q)
 
-lists-join : (f : List ℕ) (kind next n : ℕ) (before free after : List ℕ) (xs ys : List Item) → next ≡ suc kind → before ≡ take kind free → kind < length free
-    → (L : ListItems f kind xs) → n ≡ length (L .slots) → CountedFrom f next (take next (set free kind n)) after ys → CountedFrom f kind before after (xs ++ ys)
+lists-join : (f : List ℕ) (kind next n : ℕ) (free after : List ℕ) (xs ys : List Item) → next ≡ suc kind → kind < length free
+    → (L : ListItems f kind xs) → n ≡ length (L .slots) → CountedFrom f next (take next (set free kind n)) after ys → CountedFrom f kind (take kind free) after (xs ++ ys)
 unfolding ListsOf freed
-lists-join f kind next n before free after xs ys z q h L e C =
+lists-join f kind next n free after xs ys z h L e C =
     let ls = C .at .lists in
     let g = C .at .eight in
     record {
       at = record { lists = L .slots ∷ ls; eight = omega arith; are = (L .list, rw z at (C .at .are)); items = rw (L .are) (ap (λ (v : List Item). xs ++ v) (rw z at (C .at .items))) };
-      counts = C .counts ∙ rw (z, take-suc-set free kind n h, q, e) (append-assoc (take kind free) (length (L .slots) ∷ []) (map length ls));
+      counts = C .counts ∙ rw (z, take-suc-set free kind n h, e) (append-assoc (take kind free) (length (L .slots) ∷ []) (map length ls));
     }
 
 module _ {f : List ℕ} {d u b kind : ℕ} {m : List ℕ} {t : Sums} {m' : List ℕ} {t' : Sums} (T : Told (ListItems f kind) (ListItems f kind) f d u b m t m' t') where
@@ -130,18 +128,18 @@ module _ {f : List ℕ} {d u b kind : ℕ} {m : List ℕ} {t : Sums} {m' : List 
   lists-bad h n k =
       told-first n k (λ zs is Y F. let w = lists-split f kind zs h F in (listItems kind (w .0), record { slots = w .0; list = w .1; are = refl }, w .2, w .4)) T
 
-  pub lists-more : {next : ℕ} {before : List ℕ} (free : List ℕ) {after : List ℕ} {m'' : List ℕ} {r : Sums} → t' .good ≡ true → kind < 9 → next ≡ kind + 1 → before ≡ take kind free → kind < length free
-      → Told (CountedFrom f next (take next (set free kind (t' .slots - t .slots))) after) (FreedItems f next) f d u b m' t' m'' r
-      → Told (CountedFrom f kind before after) (FreedItems f kind) f d u b m t m'' r
-  lists-more {next} {before} free {after} g h e q n R =
+  pub lists-more : {next n : ℕ} (free : List ℕ) {after : List ℕ} {m'' : List ℕ} {r : Sums} → t' .good ≡ true → kind < 9 → next ≡ kind + 1 → n ≡ t' .slots - t .slots → kind < length free
+      → Told (CountedFrom f next (take next (set free kind n)) after) (FreedItems f next) f d u b m' t' m'' r
+      → Told (CountedFrom f kind (take kind free) after) (FreedItems f kind) f d u b m t m'' r
+  lists-more {next} {n} free {after} g h e q room R =
       let K = T .holds g in
       let xs = K .items in
       let L = K .are in
       let l = L .slots in
       let z : next ≡ suc kind = omega arith in
-      let c : t' .slots - t .slots ≡ length l = omega (arith, K .grown .slots, ap (sum isBody) (L .are), list-count kind l) in
+      let c : n ≡ length l = omega (arith, K .grown .slots, ap (sum isBody) (L .are), list-count kind l) in
       let own = sited-zero f d u b kind l (rw (L .are) (K .sited)) in
-      told-on xs (K .grown) (K .sited) (λ ys C. lists-join f kind next (t' .slots - t .slots) before free after xs ys z q n L c C)
+      told-on xs (K .grown) (K .sited) (λ ys C. lists-join f kind next n free after xs ys z room L c C)
       (λ zs is Y F.
       let w = lists-split f kind zs h F in
       let y = w .2 in
@@ -150,29 +148,13 @@ module _ {f : List ℕ} {d u b kind : ℕ} {m : List ℕ} {t : Sums} {m' : List 
       (y, rw z (w .3), w .4 ∙ ap (λ (v : List Item). v ++ y) (ap (listItems kind) same ∙ L .are)))
       R
 
+-- nothing stands before the first list
+pub lists-begin : (free : List ℕ) → length free ≡ 9 → take 1 (set free 0 0) ≡ 0 ∷ []
+lists-begin free n = take-suc-set free 0 0 (omega arith)
+
 pub lists-end : {f : List ℕ} {d u b kind : ℕ} {m : List ℕ} {t : Sums} {before free : List ℕ} → kind ≡ 9 → free ≡ before → Tally u 0 t
     → Told (CountedFrom f kind before free) (FreedItems f kind) f d u b m t m t
 unfolding ListsOf freed
 lists-end {before = before} e q T =
     told-yes (T .good)
     (record { items = []; are = record { at = record { lists = []; eight = omega arith; are = tt; items = refl }; counts = q ∙ sym (append-nil before) }; grown = grown-none; sited = tt; tally = T })
-
--- ---- no list has a slot
-
--- the n lists from a kind on, whose heads are zero bytes
-heads-zero : (f : List ℕ) (n kind : ℕ) → Blank f (atHead kind) (atHead kind + 2 * n) → ListsOf f kind (replicate n [])
-unfolding ListsOf Chain
-heads-zero f zero kind z = tt
-heads-zero f (suc n) kind z =
-    (record { chain = blank-le 2 f (atHead kind) (λ a x y. z a x (omega arith)); third = λ q. refl }, heads-zero f n (suc kind) (λ a x y. z a (omega arith) (omega arith)))
-
-freed-none : (n kind : ℕ) → freed kind (replicate n []) ≡ []
-unfolding freed listItems
-freed-none zero kind = refl
-freed-none (suc n) kind = freed-none n (suc kind)
-
-pub lists-none : {f : List ℕ} {d u b : ℕ} {m : List ℕ} {t : Sums} → Blank f (atHead 1) atSpare → Tally u 0 t
-    → Told (CountedItems f (replicate 9 0)) (FreedItems f 1) f d u b m t m t
-lists-none {f} z T =
-    told-yes (T .good)
-    (record { items = []; are = record { at = record { lists = replicate 8 []; eight = refl; are = heads-zero f 8 1 z; items = freed-none 8 1 }; counts = refl }; grown = grown-none; sited = tt; tally = T })

@@ -6,16 +6,11 @@ use crate::take;
 use fields::header::Header;
 use layout::entry::Entry;
 use layout::kind::Kind;
+ghost use mathlib.Core.Path.{_≡_};
 ghost use Prim.Native.Nat.{_+_, _<_, _≤_};
 ghost use lib.ListN.{length};
 ghost use Rattle.census.specs.Told.{Ground, Limits, Tally, Told};
 ghost use Rattle.census.specs.Freed.{ChainItems, ListItems, FreedItems, CountedItems};
-
-pub struct Freed {
-    pub sums: Sums,
-    // how many slots each list has, by kind
-    pub free: [usize; Kind::TABLE],
-}
 
 // The slots from `head` on, bodies of the kind.
 fn chain(
@@ -63,34 +58,35 @@ fn list(f: &[u8], map: &mut [u64], kind: usize, d: usize, u: usize, b: usize, t:
     kept(t)
 }
 
-// All eight, and how many slots each has. Most frames have none: all the heads are looked at together first.
-pub fn lists(f: &[u8], map: &mut [u64], d: usize, u: usize, b: usize, t: Sums) -> Freed
-    requires { ⌜ Ground (now f) d u b × Limits d u b (length (now map)) × Tally u 0 t ⌝ }
-    ensures { λ r. ⌜ Told (CountedItems (now (f .entry)) (r .free)) (FreedItems (now (f .entry)) 1) (now (f .entry)) d u b (now (map .entry)) t (now (map .exit)) (r .sums) ⌝ }
+// All eight, and how many slots each has, by kind. An empty list has none, and nothing of it is counted.
+pub fn lists(
+    f: &[u8],
+    map: &mut [u64],
+    free: &mut [usize; Kind::TABLE],
+    d: usize,
+    u: usize,
+    b: usize,
+    t: Sums,
+) -> Sums
+    requires { ⌜ Ground (now f) d u b × Limits d u b (length (now map)) × (length (now free) ≡ 9) × Tally u 0 t ⌝ }
+    ensures { λ r. ⌜ Told (CountedItems (now (f .entry)) (now (free .exit))) (FreedItems (now (f .entry)) 1) (now (f .entry)) d u b (now (map .entry)) t (now (map .exit)) r ⌝ }
 {
-    if pieces::all_zero(f, Header::AT_HEADS, Header::AT_SPARE) {
-        return Freed {
-            sums: kept(t),
-            free: [0; Kind::TABLE],
-        };
-    }
-    let mut free: [usize; Kind::TABLE] = [0; Kind::TABLE];
+    free[0] = 0;
     let mut sums = kept(t);
     let mut kind = 1;
     while kind < Kind::TABLE {
+        if Header::list_head(f, kind) == 0 {
+            free[kind] = 0;
+            kind += 1;
+            continue;
+        }
         let r = list(f, map, kind, d, u, b, sums);
         if !r.good {
-            return Freed {
-                sums: r,
-                free: free,
-            };
+            return r;
         }
         free[kind] = r.slots - sums.slots;
         sums = r;
         kind += 1;
     }
-    Freed {
-        sums: sums,
-        free: free,
-    }
+    sums
 }

@@ -5,7 +5,7 @@ ghost use Prim.Native.Nat.{_≤_, _<_};
 ghost use lib.ListN.{length};
 ghost use Rattle.layout.specs.Number.{le, put};
 ghost use Rattle.layout.specs.Place.{atEdition, atF, atN, atD, atB, atU, atR, atX, atRoot, atHead};
-ghost use Rattle.fields.specs.Header.{headerOf, putHeader};
+ghost use Rattle.fields.specs.Header.{putHeader};
 
 pub struct Header {
     // F
@@ -179,22 +179,6 @@ impl Header {
     }
 
     // ---- all
-
-    pub fn read(f: &[u8]) -> Header
-        requires { ⌜ 64 ≤ length (now f) ⌝ }
-        ensures { λ r. ⌜ r ≡ headerOf (now (f .entry)) ⌝ }
-    {
-        Header {
-            frame_length: Header::frame_length(f),
-            slot_capacity: Header::slot_capacity(f),
-            data_start: Header::data_start(f),
-            next_byte: Header::next_byte(f),
-            slots_given: Header::slots_given(f),
-            records: Header::records(f),
-            dead_bytes: Header::dead_bytes(f),
-            root: Header::root(f),
-        }
-    }
 
     // Edition 1 and the eight fields; list heads and zeros stay.
     pub fn write(self, f: &mut [u8])

@@ -1,11 +1,12 @@
 -- The ends of packing: refused by the check, refused for the output's length, done. Assumes nothing.
-use Prim.Native.Nat.{ℕ}
+use Prim.Native.Nat.{ℕ, _≤_}
 use mathlib.Core.Path.{_≡_, refl, ap, _∙_}
 use mathlib.Core.List.{List}
 use native.Mathlib.Omega.{arith}
 use native.Mathlib.Decide.{ℕ-discrete}
 use lib.ListN.{length}
-use Rattle.fields.specs.declared.header.Header.{Header}
+use Rattle.layout.specs.Number.{le}
+use Rattle.layout.specs.Place.{atN, atR, atRoot}
 use Rattle.model.specs.Edition.{edition1}
 use Rattle.model.specs.Records.{recordsOf}
 use Rattle.model.specs.State.{State}
@@ -14,6 +15,7 @@ use Rattle.model.specs.Frame.{Good}
 use Rattle.model.specs.Promise.{Told, CheckPromise, PackPromise}
 use Rattle.model.proofs.StringLaws.{clash}
 use Rattle.model.proofs.UniqueLaws.{stands-unique}
+use Rattle.model.proofs.StandsGood.{stands-heads}
 use Rattle.audit.specs.Audit.{AuditTold}
 use Rattle.pack.specs.Image.{Known, Imaged}
 
@@ -22,7 +24,7 @@ use Rattle.pack.specs.Image.{Known, Imaged}
 refused : (f o : List ℕ) (n : ℕ) → CheckPromise edition1 f n → (n ≡ 0 → ⊥) → PackPromise edition1 f o n o
 refused f o n p ne = record { told = p .told; output7 = λ g x. absurd (ne (p .good0 g)); packed0 = λ s w e. absurd (ne (p .good0 (s, w))); kept = λ x. refl }
 
-module _ {f : List ℕ} {free : List ℕ} {h : Header} {n : ℕ} (A : AuditTold f n free h) where
+module _ {f : List ℕ} {free : List ℕ} {n : ℕ} (A : AuditTold f n free) where
   promised : CheckPromise edition1 f n
   promised = A .promise
 
@@ -43,8 +45,14 @@ module _ {f : List ℕ} {free : List ℕ} {h : Header} {n : ℕ} (A : AuditTold 
     told-good : (k : ℕ) → Told edition1 f k
     told-good k = record { length1 = λ x. absurd (omega (arith, promised .told .length1 x)); bad2 = λ l x. absurd (x good); good = λ a b. good }
 
-    pub known : Known f (h .«slot_capacity») (h .records) (h .root)
-    known = let R = A .room (good .0) (good .1) in record { state = good .0; stands = good .1; N = R .N; R = R .R; slot = R .slot }
+    pub header-long : 64 ≤ length f
+    header-long = let h = good .1 .heap .header in omega (arith, h .size, h .limits)
+
+    -- the header tells N, R and the root's slot
+    pub known : {capacity records root : ℕ} → capacity ≡ le 4 f atN → records ≡ le 4 f atR → root ≡ le 2 f atRoot → Known f capacity records root
+    known a b c =
+        let w = good .1 in
+        let H = stands-heads edition1 f (good .0) w in record { state = good .0; stands = w; N = a ∙ H .slotsAt; R = b ∙ H .recordsAt; slot = c ∙ w .heap .header .rootAt ∙ w .rootIs }
 
     pub pack-seven : (o : List ℕ) → (length o ≡ length f → ⊥) → PackPromise edition1 f o 7 o
     pack-seven o d = record { told = told-good 7; output7 = λ g x. refl; packed0 = λ s w x. absurd (d x); kept = λ x. refl }

@@ -5,7 +5,8 @@ mod walk;
 
 use answers::Pack;
 use answers::Refusal;
-use audit::Audit;
+use fields::header::Header;
+use layout::kind::Kind;
 ghost use Rattle.answers.specs.Number.{packNumber};
 ghost use Rattle.model.specs.Edition.{edition1};
 ghost use Rattle.model.specs.Promise.{PackPromise};
@@ -14,18 +15,23 @@ ghost use Rattle.model.specs.Promise.{PackPromise};
 pub fn pack(frame: &[u8], out: &mut [u8]) -> Pack
     ensures { λ r. ⌜ PackPromise edition1 (now (frame .entry)) (now (out .entry)) (packNumber r) (now (out .exit)) ⌝ }
 {
-    let a = audit::check(frame);
-    let n = a.number;
-    if n == Audit::BAD_LENGTH {
+    let mut free: [usize; Kind::TABLE] = [0; Kind::TABLE];
+    let n = audit::check(frame, &mut free);
+    if n == audit::BAD_LENGTH {
         return Pack::Refused(Refusal::Length);
     }
-    if n != Audit::GOOD {
+    if n != audit::GOOD {
         return Pack::Refused(Refusal::Frame);
     }
     if out.len() != frame.len() {
         return Pack::Refused(Refusal::Output);
     }
-    let h = a.header;
-    image::write(frame, out, h.slot_capacity, h.records, h.root);
+    image::write(
+        frame,
+        out,
+        Header::slot_capacity(frame),
+        Header::records(frame),
+        Header::root(frame),
+    );
     Pack::Done
 }

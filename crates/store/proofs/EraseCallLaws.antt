@@ -5,7 +5,6 @@ use mathlib.Core.List.{List}
 use mathlib.Core.Bool.{false}
 use native.Mathlib.Omega.{arith}
 use Rattle.layout.specs.Number.{Bytes}
-use Rattle.fields.specs.declared.header.Header.{Header}
 use Rattle.model.specs.Edition.{edition1}
 use Rattle.model.specs.State.{State, Done, done, unless, callErase, onErase}
 use Rattle.model.specs.Frame.{Good}
@@ -15,9 +14,8 @@ use Rattle.audit.specs.Audit.{AuditTold}
 use Rattle.room.specs.declared.fit.Room.{Room}
 use Rattle.erase_core.specs.Core.{Left, Roomed, EraseMade}
 use Rattle.erase_core.proofs.CoreLaws.{never-zero, left-same}
-use Rattle.store.specs.Left.{Within, RoomLeft}
+use Rattle.store.specs.Left.{RoomLeft}
 use Rattle.store.proofs.LookLaws.{told-good, check-two, key-four, standing}
-use Rattle.store.proofs.LeftLaws.{within}
 
 module _ (f k : List ℕ) where
   -- the check refuses
@@ -58,7 +56,7 @@ module _ (f k : List ℕ) where
 
 -- ---- the ends, by the tests that led there: n is the check's number, e the key's fault
 
-module _ (f k : List ℕ) {n : ℕ} {free : List ℕ} {h : Header} (T : AuditTold f n free h) where
+module _ (f k : List ℕ) {n : ℕ} {free : List ℕ} (T : AuditTold f n free) where
   checked : CheckPromise edition1 f n
   checked = T .promise
 
@@ -72,9 +70,6 @@ module _ (f k : List ℕ) {n : ℕ} {free : List ℕ} {h : Header} (T : AuditTol
     stands : Good edition1 f
     stands = let S = standing f k n (T .promise) good in (S .st, S .stands)
 
-    pub erase-within : Within h
-    erase-within = within (stands .1) (T .room (stands .0) (stands .1))
-
     module _ {e : ℕ} (fault : e ≡ edition1 .keyFault k) where
       pub erase-three : e ≡ 3 → ErasePromise edition1 f k 3 f
       erase-three x = refused-key f k stands 3 refl (key-is f k 3 (sym fault ∙ x))
@@ -83,13 +78,13 @@ module _ (f k : List ℕ) {n : ℕ} {free : List ℕ} {h : Header} (T : AuditTol
       erase-four x y = refused-key f k stands 4 refl (key-is f k 4 (key-four k (λ z. y (fault ∙ z)) (λ z. x (fault ∙ z))))
 
       module _ (legal : e ≡ 0) where
-        pub erase-roomed : {r : Room} → RoomLeft free h r → Bytes k → Roomed f k r
+        pub erase-roomed : {r : Room} → RoomLeft f free r → Bytes k → Roomed f k r
         erase-roomed R bk =
             record {
               st = stands .0;
               stands = stands .1;
               legal = record { passes = sym fault ∙ legal; bytes = bytes-all k bk };
-              room = R .of (stands .0) (stands .1 .root) (T .room (stands .0) (stands .1));
+              room = R .of (stands .0) (stands .1) (T .counts (stands .0) (stands .1));
             }
 
         pub erase-made : {x : ℕ} {f' : List ℕ} → EraseMade f k x f' → ErasePromise edition1 f k x f'

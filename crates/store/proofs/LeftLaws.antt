@@ -1,25 +1,27 @@
 -- The room that is left, as the room rule counts it. Assumes nothing.
-use Prim.Native.Nat.{ℕ, _-_}
-use mathlib.Core.Path.{_≡_, ap, _∙_}
+use Prim.Native.Nat.{ℕ, _-_, _≤_}
+use mathlib.Core.Path.{_≡_, _∙_}
 use mathlib.Core.List.{List}
 use native.Mathlib.Omega.{arith}
-use Rattle.fields.specs.declared.header.Header.{Header}
+use lib.ListN.{length}
+use Rattle.layout.specs.Number.{le}
+use Rattle.layout.specs.Place.{atN, atB, atU}
 use Rattle.model.specs.Edition.{edition1}
-use Rattle.model.specs.State.{State}
-use Rattle.model.specs.Frame.{Root, Stands}
+use Rattle.model.proofs.StandsGood.{stands-heads}
+use Rattle.descent.specs.Spot.{Standing}
 use Rattle.room.specs.declared.fit.Room.{Room}
-use Rattle.room.specs.Fit.{RoomOf}
-use Rattle.audit.specs.Audit as told
-use Rattle.store.specs.Left.{Within}
+use Rattle.store.specs.Left.{RoomLeft}
 
--- of a good frame the numbers given are within the limits
-pub within : {f free : List ℕ} {h : Header} {s : State} (w : Stands edition1 f s) → told.RoomOf free h s (w .root) → Within h
-within {s = s} w T =
-    let H = w .heap .header in
+-- a good frame has a header, U is at most N and B at most F
+pub within : {f : List ℕ} → Standing f → (64 ≤ length f) × (le 4 f atU ≤ le 4 f atN) × (le 4 f atB ≤ length f)
+within {f} S =
+    let H = stands-heads edition1 f (S .st) (S .stands) in
+    (omega (arith, H .size, H .limits), omega (arith, H .givenAt, H .slotsAt, H .givenIn), omega (arith, H .bumpAt, H .size, H .bumpIn))
+
+pub left-is : {f free : List ℕ} {r : Room} {n u b : ℕ} → n ≡ le 4 f atN → u ≡ le 4 f atU → b ≡ le 4 f atB → r .free ≡ free → r .slots ≡ n - u → r .bytes ≡ length f - b → RoomLeft f free r
+left-is {f} n u b p q e =
     record {
-      slots = omega (arith, T .U, T .N, ap (λ (x : State). x .U) (w .state), ap (λ (x : State). x .N) (w .state), H .givenIn .1);
-      bytes = omega (arith, T .B, T .F, ap (λ (x : State). x .B) (w .state), ap (λ (x : State). x .F) (w .state), H .bumpIn .2);
+      of = λ s w c.
+          let H = stands-heads edition1 f s w in
+          record { free = p ∙ c; slots = omega (arith, q, n, u, H .slotsAt, H .givenAt); bytes = omega (arith, e, b, H .size, H .bumpAt) };
     }
-
-pub left-is : {free : List ℕ} {h : Header} {s : State} {root : Root} {r : Room} → r .free ≡ free → r .slots ≡ h .«slot_capacity» - h .«slots_given» → r .bytes ≡ h .«frame_length» - h .«next_byte» → told.RoomOf free h s root → RoomOf r s
-left-is a b c T = record { free = a ∙ T .counts; slots = omega (arith, b, T .N, T .U); bytes = omega (arith, c, T .F, T .B) }

@@ -13,14 +13,12 @@ use Rattle.model.specs.State.{State, Done, done, unless, callPut, onPut}
 use Rattle.model.specs.Frame.{Good}
 use Rattle.model.specs.Promise.{changes, CheckPromise, PutPromise}
 use Rattle.model.proofs.TextLaws.{bytes-all}
-use Rattle.fields.specs.declared.header.Header.{Header}
 use Rattle.audit.specs.Audit.{AuditTold}
 use Rattle.room.specs.declared.fit.Room.{Room}
 use Rattle.put_core.specs.Core.{Left, Roomed, PutMade}
 use Rattle.put_core.proofs.CoreLaws.{left-same}
-use Rattle.store.specs.Left.{Within, RoomLeft}
+use Rattle.store.specs.Left.{RoomLeft}
 use Rattle.store.proofs.LookLaws.{told-good, check-two, key-four, standing}
-use Rattle.store.proofs.LeftLaws.{within}
 
 module _ (f k v : List ℕ) where
   -- the check refuses
@@ -49,7 +47,7 @@ module _ (f k v : List ℕ) where
 
 -- ---- the ends, by the tests that led there: n is the check's number, e the key's fault
 
-module _ (f k v : List ℕ) {n : ℕ} {free : List ℕ} {h : Header} (T : AuditTold f n free h) where
+module _ (f k v : List ℕ) {n : ℕ} {free : List ℕ} (T : AuditTold f n free) where
   checked : CheckPromise edition1 f n
   checked = T .promise
 
@@ -63,9 +61,6 @@ module _ (f k v : List ℕ) {n : ℕ} {free : List ℕ} {h : Header} (T : AuditT
     stands : Good edition1 f
     stands = let S = standing f k n (T .promise) good in (S .st, S .stands)
 
-    pub put-within : Within h
-    put-within = within (stands .1) (T .room (stands .0) (stands .1))
-
     module _ {e : ℕ} (fault : e ≡ edition1 .keyFault k) where
       pub put-three : e ≡ 3 → PutPromise edition1 f k v 3 f
       put-three h = refused f k v stands 3 refl (key-is f k v 3 (sym fault ∙ h))
@@ -78,14 +73,14 @@ module _ (f k v : List ℕ) {n : ℕ} {free : List ℕ} {h : Header} (T : AuditT
         put-five l = refused f k v stands 5 refl (value-is f k v 5 (sym fault ∙ legal) (ap (λ b. pick b 5 0) (lt-ltb 65535 (length v) l)))
 
         module _ (short : length v ≤ 65535) where
-          pub put-roomed : {r : Room} → RoomLeft free h r → Bytes k → Bytes v → Roomed f k v r
+          pub put-roomed : {r : Room} → RoomLeft f free r → Bytes k → Bytes v → Roomed f k v r
           put-roomed R bk bv =
               record {
                 st = stands .0;
                 stands = stands .1;
                 legal = record { passes = sym fault ∙ legal; bytes = bytes-all k bk };
                 legalValue = record { passes = short; bytes = bytes-all v bv };
-                room = R .of (stands .0) (stands .1 .root) (T .room (stands .0) (stands .1));
+                room = R .of (stands .0) (stands .1) (T .counts (stands .0) (stands .1));
               }
 
           pub put-made : {x : ℕ} {f' : List ℕ} → PutMade f k v x f' → PutPromise edition1 f k v x f'

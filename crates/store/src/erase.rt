@@ -2,8 +2,8 @@
 use crate::left;
 use answers::Erase;
 use answers::Refusal;
-use audit::Audit;
 use descent::key;
+use layout::kind::Kind;
 ghost use Rattle.answers.specs.Number.{eraseNumber};
 ghost use Rattle.model.specs.Edition.{edition1};
 ghost use Rattle.model.specs.Promise.{ErasePromise};
@@ -11,12 +11,12 @@ ghost use Rattle.model.specs.Promise.{ErasePromise};
 pub fn erase(frame: &mut [u8], key: &[u8]) -> Erase
     ensures { λ r. ⌜ ErasePromise edition1 (now (frame .entry)) (now (key .entry)) (eraseNumber r) (now (frame .exit)) ⌝ }
 {
-    let a = audit::check(frame);
-    let n = a.number;
-    if n == Audit::BAD_LENGTH {
+    let mut free: [usize; Kind::TABLE] = [0; Kind::TABLE];
+    let n = audit::check(frame, &mut free);
+    if n == audit::BAD_LENGTH {
         return Erase::Refused(Refusal::Length);
     }
-    if n != Audit::GOOD {
+    if n != audit::GOOD {
         return Erase::Refused(Refusal::Frame);
     }
     let fault = key::fault(key);
@@ -26,5 +26,5 @@ pub fn erase(frame: &mut [u8], key: &[u8]) -> Erase
     if fault != 0 {
         return Erase::Refused(Refusal::KeyZero);
     }
-    erase_core::erase(frame, key, left::room_left(a))
+    erase_core::erase(frame, key, left::room_left(frame, free))
 }

@@ -1,17 +1,19 @@
-// The room that is left in a good frame, from what the check has told.
-use audit::Audit;
+// The room that is left in a good frame: the counts that the check has told, and N - U and F - B.
+use fields::header::Header;
+use layout::kind::Kind;
 use room::fit::Room;
-ghost use Rattle.store.specs.Left.{Within, RoomLeft};
+ghost use Rattle.descent.specs.Spot.{Standing};
+ghost use Rattle.store.specs.Left.{RoomLeft};
 
-pub fn room_left(a: Audit) -> Room
-    requires { ⌜ Within (a .header) ⌝ }
-    ensures { λ r. ⌜ RoomLeft (a .free) (a .header) r ⌝ }
+pub fn room_left(f: &[u8], free: [usize; Kind::TABLE]) -> Room
+    requires { ⌜ Standing (now f) ⌝ }
+    ensures { λ r. ⌜ RoomLeft (now (f .entry)) free r ⌝ }
 {
-    let free = a.free;
-    let header = a.header;
+    let capacity = Header::slot_capacity(f);
+    let given = Header::slots_given(f);
     Room {
         free: free,
-        slots: header.slot_capacity - header.slots_given,
-        bytes: header.frame_length - header.next_byte,
+        slots: capacity - given,
+        bytes: f.len() - Header::next_byte(f),
     }
 }

@@ -2,9 +2,9 @@
 use answers::Check;
 use answers::LookUp;
 use answers::Refusal;
-use audit::Audit;
 use descent::key;
 use descent::lookup;
+use layout::kind::Kind;
 ghost use mathlib.Core.Path.{_≡_};
 ghost use Rattle.answers.specs.Number.{checkNumber, lookUpPlace, lookUpLong};
 ghost use Rattle.model.specs.Edition.{edition1};
@@ -14,12 +14,12 @@ ghost use Rattle.store.specs.Found.{foundIn, ValueAt};
 pub fn check(frame: &[u8]) -> Check
     ensures { λ r. ⌜ CheckPromise edition1 (now (frame .entry)) (checkNumber r) ⌝ }
 {
-    let a = audit::check(frame);
-    let n = a.number;
-    if n == Audit::BAD_LENGTH {
+    let mut free: [usize; Kind::TABLE] = [0; Kind::TABLE];
+    let n = audit::check(frame, &mut free);
+    if n == audit::BAD_LENGTH {
         return Check::Refused(Refusal::Length);
     }
-    if n != Audit::GOOD {
+    if n != audit::GOOD {
         return Check::Refused(Refusal::Frame);
     }
     Check::Good
@@ -28,12 +28,12 @@ pub fn check(frame: &[u8]) -> Check
 pub fn look_up(frame: &[u8], key: &[u8]) -> LookUp
     ensures { λ r. ⌜ LookUpPromise edition1 (now (frame .entry)) (now (key .entry)) (foundIn r) ⌝ }
 {
-    let a = audit::check(frame);
-    let n = a.number;
-    if n == Audit::BAD_LENGTH {
+    let mut free: [usize; Kind::TABLE] = [0; Kind::TABLE];
+    let n = audit::check(frame, &mut free);
+    if n == audit::BAD_LENGTH {
         return LookUp::Refused(Refusal::Length);
     }
-    if n != Audit::GOOD {
+    if n != audit::GOOD {
         return LookUp::Refused(Refusal::Frame);
     }
     let fault = key::fault(key);
@@ -55,9 +55,9 @@ pub fn look_up(frame: &[u8], key: &[u8]) -> LookUp
 pub fn value<'a>(frame: &'a [u8], key: &[u8]) -> &'a [u8]
     ensures { λ r. ⌜ ValueAt (now (frame .entry)) (now (key .entry)) (now r) ⌝ }
 {
-    let a = audit::check(frame);
-    let n = a.number;
-    if n != Audit::GOOD {
+    let mut free: [usize; Kind::TABLE] = [0; Kind::TABLE];
+    let n = audit::check(frame, &mut free);
+    if n != audit::GOOD {
         return &frame[..0];
     }
     let fault = key::fault(key);

@@ -2,8 +2,8 @@
 use crate::left;
 use answers::Put;
 use answers::Refusal;
-use audit::Audit;
 use descent::key;
+use layout::kind::Kind;
 ghost use Rattle.answers.specs.Number.{putNumber};
 ghost use Rattle.model.specs.Edition.{edition1};
 ghost use Rattle.model.specs.Promise.{PutPromise};
@@ -14,12 +14,12 @@ const LONGEST_VALUE: usize = 65535;
 pub fn put(frame: &mut [u8], key: &[u8], value: &[u8]) -> Put
     ensures { λ r. ⌜ PutPromise edition1 (now (frame .entry)) (now (key .entry)) (now (value .entry)) (putNumber r) (now (frame .exit)) ⌝ }
 {
-    let a = audit::check(frame);
-    let n = a.number;
-    if n == Audit::BAD_LENGTH {
+    let mut free: [usize; Kind::TABLE] = [0; Kind::TABLE];
+    let n = audit::check(frame, &mut free);
+    if n == audit::BAD_LENGTH {
         return Put::Refused(Refusal::Length);
     }
-    if n != Audit::GOOD {
+    if n != audit::GOOD {
         return Put::Refused(Refusal::Frame);
     }
     let fault = key::fault(key);
@@ -32,5 +32,5 @@ pub fn put(frame: &mut [u8], key: &[u8], value: &[u8]) -> Put
     if value.len() > LONGEST_VALUE {
         return Put::Refused(Refusal::ValueLength);
     }
-    put_core::put(frame, key, value, left::room_left(a))
+    put_core::put(frame, key, value, left::room_left(frame, free))
 }

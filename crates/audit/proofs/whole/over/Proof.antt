@@ -21,62 +21,66 @@ root-requires c κs = search needs
 
 root-requires-2 : tie.Need-root-requires-2
 root-requires-2 c κs =
-    let p = c .before .before .before .before .before .before .before .pre in
-    let H = p .0 in
-    let d = c .before .before .before .before .data-start .ensures .0 in
-    let u = c .before .before .before .slots-given .ensures .0 in
-    let b = c .before .before .next-byte .ensures .0 in
-    (ground-of H d u b, limits-of H d u b (p .1), record { good = refl; slots = omega arith; bytes = omega arith; leaves = omega arith })
+    let b = c .before .before in
+    let d = b .before .before in
+    let p = d .before .before .before .pre in
+    (ground-of (p .0) (d .data-start .ensures .0) (b .before .slots-given .ensures .0) (b .next-byte .ensures .0), limits-of (p .0) (d .data-start .ensures .0) (b .before .slots-given .ensures .0) (b .next-byte .ensures .0) (p .1), record { good = refl; slots = omega arith; bytes = omega arith; leaves = omega arith })
 
 same-length : tie.Need-same-length
 same-length c = search needs
 
 returns : tie.Need-returns
 returns c =
-    let p = c .before .before .before .before .before .before .before .before .before .before .before .before .pre in
-    whole-root (p .0) (c .before .before .before .before .before .before .before .before .before .data-start .ensures .0) (c .before .before .before .before .before .before .before .before .slots-given .ensures .0) (c .before .before .before .before .before .before .before .next-byte .ensures .0) (c .before .before .before .before .before .root .ensures .0) (p .2) (refl, refl, refl) (c .before .before .before .before .root2 .ensures) (not-true _ (c .if1 .taken))
+    let R = c .before .before .before .before in
+    let b = R .before .before .before in
+    let d = b .before .before in
+    let p = d .before .before .before .pre in
+    whole-root (p .0) (d .data-start .ensures .0) (b .before .slots-given .ensures .0) (b .next-byte .ensures .0) (R .before .root .ensures .0) (p .2) (refl, refl, refl) (R .root2 .ensures) (not-true _ (c .if1 .taken))
 
 lists-requires : tie.Need-lists-requires
 lists-requires c κs =
-    let p = c .before .before .before .before .before .before .before .before .before .before .before .before .before .pre in
-    let H = p .0 in
-    let d = c .before .before .before .before .before .before .before .before .before .before .data-start .ensures .0 in
-    let u = c .before .before .before .before .before .before .before .before .before .slots-given .ensures .0 in
-    let b = c .before .before .before .before .before .before .before .before .next-byte .ensures .0 in
-    (ground-of H d u b, limits-of H d u b (omega (arith, p .1)), c .before .before .before .before .before .root2 .ensures .holds (not-false _ (c .before .if1 .left)) .tally)
+    let R = c .before .before .before .before .before .before in
+    let b = R .before .before .before in
+    let d = b .before .before in
+    let p = d .before .before .before .pre in
+    (ground-of (p .0) (d .data-start .ensures .0) (b .before .slots-given .ensures .0) (b .next-byte .ensures .0), limits-of (p .0) (d .data-start .ensures .0) (b .before .slots-given .ensures .0) (b .next-byte .ensures .0) (omega (arith, p .1)), p .3, R .root2 .ensures .holds (not-false _ (c .before .before .if1 .left)) .tally)
 
 same-length-2 : tie.Need-same-length-2
 same-length-2 c = search needs
 
 returns-2 : tie.Need-returns-2
 returns-2 c =
-    let p = c .before .before .before .before .before .before .before .before .before .before .before .before .before .before .before .before .before .before .before .before .pre in
-    let K = c .before .before .before .before .before .before .before .before .before .before .before .before .root2 .ensures .holds (not-false _ (c .before .before .before .before .before .before .before .before .if1 .left)) in
-    whole-lists (p .0) (c .before .before .before .before .before .before .before .before .before .before .before .before .before .before .before .before .before .data-start .ensures .0) (c .before .before .before .before .before .before .before .before .before .before .before .before .before .before .before .before .slots-given .ensures .0) (c .before .before .before .before .before .before .before .before .before .before .before .before .before .before .before .next-byte .ensures .0) (c .before .before .before .before .before .before .before .before .before .before .before .before .before .root .ensures .0) (p .2) (refl, refl, refl) K (c .before .before .before .before .before .before .lists .ensures) (not-true _ (c .if2 .taken))
+    let L = c .before .before .before .before in
+    let R = L .before .before .before .before .before .before .before in
+    let b = R .before .before .before in
+    let d = b .before .before in
+    let p = d .before .before .before .pre in
+    whole-lists (p .0) (d .data-start .ensures .0) (b .before .slots-given .ensures .0) (b .next-byte .ensures .0) (R .before .root .ensures .0) (p .2) (refl, refl, refl) (R .root2 .ensures .holds (not-false _ (L .before .before .before .if1 .left))) (L .lists .ensures) (not-true _ (c .if2 .taken))
 
 closes-requires : tie.Need-closes-requires
 closes-requires c κs =
-    let h = c .before .before .before .before .before .before .before .before .before .before .before .before .before .before .before .before .before .before .before .before .pre .0 .header in
-    let J = c .before .before .before .before .before .before .lists .ensures .holds (not-false _ (c .if2 .left)) .tally in
-    let u = c .before .before .before .before .before .before .before .before .before .before .before .before .before .before .before .before .slots-given .ensures .0 in
-    (omega (arith, h .size, h .limits), omega (arith, J .bytes, J .slots, h .givenIn, h .slotCap, u))
+    let L = c .before .before .before .before in
+    let u = L .before .before .before .before .before .before .before .before .before .before .before in
+    let h = u .before .before .before .before .pre .0 .header in
+    let J = L .lists .ensures .holds (not-false _ (c .if2 .left)) .tally in
+    (omega (arith, h .size, h .limits), omega (arith, J .bytes, J .slots, h .givenIn, h .slotCap, u .slots-given .ensures .0))
 
 same-length-3 : tie.Need-same-length-3
 same-length-3 c = search needs
 
 returns-3 : tie.Need-returns-3
 returns-3 c =
-    let p = c .before .before .before .before .before .before .before .before .before .before .before .before .before .before .before .before .before .before .before .before .before .pre in
-    let K = c .before .before .before .before .before .before .before .before .before .before .before .before .before .root2 .ensures .holds (not-false _ (c .before .before .before .before .before .before .before .before .before .if1 .left)) in
-    let J = c .before .before .before .before .before .before .before .lists .ensures .holds (not-false _ (c .before .if2 .left)) in
+    let L = c .before .before .before .before .before in
+    let R = L .before .before .before .before .before .before .before in
+    let b = R .before .before .before in
+    let d = b .before .before in
+    let p = d .before .before .before .pre in
+    let K = R .root2 .ensures .holds (not-false _ (L .before .before .before .if1 .left)) in
+    let J = L .lists .ensures .holds (not-false _ (c .before .if2 .left)) in
     let C = c .closes .ensures in
-    let d = c .before .before .before .before .before .before .before .before .before .before .before .before .before .before .before .before .before .before .data-start .ensures .0 in
-    let u = c .before .before .before .before .before .before .before .before .before .before .before .before .before .before .before .before .before .slots-given .ensures .0 in
-    let b = c .before .before .before .before .before .before .before .before .before .before .before .before .before .before .before .before .next-byte .ensures .0 in
-    let s = c .before .before .before .before .before .before .before .before .before .before .before .before .before .before .root .ensures .0 in
     record {
-      holds = λ e. whole-good (p .0) d u b s (p .2) (refl, refl, refl) K J (C .holds e);
-      fails = λ e G. whole-open (p .0) d u b s (p .2) (refl, refl, refl) K J (C .fails e) G;
+      holds = λ e. whole-good (p .0) (d .data-start .ensures .0) (b .before .slots-given .ensures .0) (b .next-byte .ensures .0) (R .before .root .ensures .0) (p .2) (refl, refl, refl) K J (C .holds e);
+      fails = λ e G. whole-open (p .0) (d .data-start .ensures .0) (b .before .slots-given .ensures .0) (b .next-byte .ensures .0) (R .before .root .ensures .0) (p .2) (refl, refl, refl) K J (C .fails e) G;
     }
 
 pub over-spec : {M : Type 1} → statement M

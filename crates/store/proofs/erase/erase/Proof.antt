@@ -1,7 +1,8 @@
 -- Each way out is one of erase's ends. Assumes nothing.
 use mathlib.Core.List.{[]}
 use native.Mathlib.Omega.{arith}
-use Rattle.store.proofs.EraseCallLaws.{erase-one, erase-two, erase-three, erase-four, erase-within, erase-roomed, erase-made}
+use Rattle.store.proofs.LookLaws.{standing}
+use Rattle.store.proofs.EraseCallLaws.{erase-one, erase-two, erase-three, erase-four, erase-roomed, erase-made}
 use borrow.Author.Needs.{needs}
 use Rattle.store.proofs.erase.erase.Statement.{statement}
 use Rattle.store.proofs.erase.erase.Tie as tie
@@ -48,21 +49,21 @@ returns-4 c =
 
 room-left-requires : tie.Need-room-left-requires
 room-left-requires c κs =
-    let n = c .before .before .before .before .before .before in
-    erase-within _ [] (n .check .ensures) (omega arith)
+    let n = c .before .before .before .before .before .before .before in
+    standing _ [] _ (n .check .ensures .promise) (omega arith)
 
 erase-requires : tie.Need-erase-requires
 erase-requires c κs =
-    let key = c .before .before .before .before in
+    let key = c .before .before .before .before .before in
     let n = key .before .before .before in
-    erase-roomed _ _ (n .check .ensures) (omega arith) (key .fault .ensures) (omega arith) (c .room-left .ensures) (λ a. omega (arith, n .before .before .shared-slice-known .given a))
+    erase-roomed _ _ (n .check .ensures) (omega arith) (key .fault .ensures) (omega arith) (c .room-left .ensures) (λ a. omega (arith, n .before .before .before .shared-slice-known .given a))
 
 same-length-5 : tie.Need-same-length-5
 same-length-5 c = search needs
 
 returns-5 : tie.Need-returns-5
 returns-5 c =
-    let key = c .before .before .before .before .before .before .before in
+    let key = c .before .before .before .before .before .before .before .before in
     let n = key .before .before .before in
     erase-made _ _ (n .check .ensures) (omega arith) (key .fault .ensures) (omega arith) (c .before .before .erase .ensures)
 

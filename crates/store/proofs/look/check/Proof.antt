@@ -20,7 +20,7 @@ returns-2 c =
 returns-3 : tie.Need-returns-3
 returns-3 c =
     let m = c .before .before .check in
-    let e : m .result .number ≡ 0 = omega (arith, c .if2 .left) in rw e at (m .ensures .promise)
+    let e : m .result ≡ 0 = omega (arith, c .if2 .left) in rw e at (m .ensures .promise)
 
 pub check-spec : {M : Type 1} → statement M
 check-spec = tie.close (tie.spec check-requires returns returns-2 returns-3)

@@ -1,7 +1,8 @@
 -- Each way out is one of put's ends. Assumes nothing.
 use mathlib.Core.List.{[]}
 use native.Mathlib.Omega.{arith}
-use Rattle.store.proofs.PutCallLaws.{put-one, put-two, put-three, put-four, put-five, put-within, put-roomed, put-made}
+use Rattle.store.proofs.LookLaws.{standing}
+use Rattle.store.proofs.PutCallLaws.{put-one, put-two, put-three, put-four, put-five, put-roomed, put-made}
 use borrow.Author.Needs.{needs}
 use Rattle.store.proofs.put.put.Statement.{statement}
 use Rattle.store.proofs.put.put.Tie as tie
@@ -57,21 +58,21 @@ returns-5 c =
 
 room-left-requires : tie.Need-room-left-requires
 room-left-requires c κs =
-    let n = c .before .before .before .before .before .before .before in
-    put-within _ [] [] (n .check .ensures) (omega arith)
+    let n = c .before .before .before .before .before .before .before .before in
+    standing _ [] _ (n .check .ensures .promise) (omega arith)
 
 put-requires : tie.Need-put-requires
 put-requires c κs =
-    let key = c .before .before .before .before .before in
+    let key = c .before .before .before .before .before .before in
     let n = key .before .before .before in
-    put-roomed _ _ _ (n .check .ensures) (omega arith) (key .fault .ensures) (omega arith) (omega arith) (c .room-left .ensures) (λ a. omega (arith, n .before .before .before .shared-slice-known .given a)) (λ a. omega (arith, n .before .before .shared-slice-known2 .given a))
+    put-roomed _ _ _ (n .check .ensures) (omega arith) (key .fault .ensures) (omega arith) (omega arith) (c .room-left .ensures) (λ a. omega (arith, n .before .before .before .before .shared-slice-known .given a)) (λ a. omega (arith, n .before .before .before .shared-slice-known2 .given a))
 
 same-length-6 : tie.Need-same-length-6
 same-length-6 c = search needs
 
 returns-6 : tie.Need-returns-6
 returns-6 c =
-    let key = c .before .before .before .before .before .before .before .before in
+    let key = c .before .before .before .before .before .before .before .before .before in
     let n = key .before .before .before in
     put-made _ _ _ (n .check .ensures) (omega arith) (key .fault .ensures) (omega arith) (omega arith) (c .before .before .put .ensures)
 
