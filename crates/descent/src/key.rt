@@ -8,7 +8,7 @@ ghost use Rattle.model.specs.Edition.{edition1};
 
 const LONGEST: usize = 112;
 // the refusals of a key, by document 01's numbers
-const BAD_LENGTH: usize = 3;
+pub const BAD_LENGTH: usize = 3;
 
 const HOLDS_ZERO: usize = 4;
 

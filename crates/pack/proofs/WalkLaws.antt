@@ -5,22 +5,22 @@ use mathlib.Core.List.{List, [], _∷_, _++_}
 use native.Mathlib.Omega.{arith}
 use lib.ListN.{length, length-append}
 use Rattle.layout.specs.Number.{le, Bytes}
-use Rattle.layout.specs.Place.{prefixChild, prefixLength}
+use Rattle.layout.specs.Place.{entryAt, prefixChild, prefixLength}
 use Rattle.layout.specs.Kind.{Leaf, Prefix, bodySize}
 use Rattle.layout.specs.Entry.{highOf, placeOf, entryOf}
 use Rattle.model.specs.Edition.{edition1}
-use Rattle.model.specs.Image.{digits, padded, slots, size, entries, bodies}
-use Rattle.model.specs.Frame.{Lay, LayKids, slotOf, art, Entry, Tree}
+use Rattle.model.specs.Image.{nodeOf, digits, padded, slots, size, entries, bodies}
+use Rattle.model.specs.Frame.{Lay, LayKids, slotOf, art, IsNode, Entry, NodeOf, Tree, Trees}
 use Rattle.model.specs.Frame.Lay.{leaf, prefix, node}
 use Rattle.model.proofs.Edition1.{lawful1}
 use Rattle.model.proofs.StandsGood.{tree-well}
 use Rattle.model.proofs.PackedLaws.{packed-well}
 use Rattle.model.proofs.PackedBytes.{length-bodies, length-entries}
 use Rattle.model.proofs.UniqueLaws.{tree-unique}
-use Rattle.audit.proofs.TreeLaws.{node-short}
+use Rattle.audit.proofs.TreeLaws.{node-short, node-kind}
 use Rattle.pack.specs.declared.bodies.Next.{Next}
 use Rattle.pack.specs.Laid.{Room, Laid, LeafFits, LeafLaid, PrefixFits, PrefixLaid}
-use Rattle.pack.specs.Walk.{SlotIn, Inside, packedLay, TreeReady, TreePacked, NodeReady, NodePacked}
+use Rattle.pack.specs.Walk.{SlotIn, Inside, InsideAll, packedLay, packedRun, TreeReady, TreePacked}
 use Rattle.pack.proofs.BodiesLaws.{length-prefix}
 use Rattle.pack.proofs.LaidLaws.{laid-as, laid-join, room-first, room-rest}
 
@@ -41,9 +41,9 @@ pub record IsPrefix (s o : ℕ) (l : Lay) : Type 0 where
   pub below : Lay
   pub is : l ≡ prefix s o bytes below
 
-pub record IsInner (s o kind : ℕ) (l : Lay) : Type 0 where
+pub record IsInner (f : List ℕ) (s : ℕ) (l : Lay) : Type 0 where
   pub kids : LayKids
-  pub is : l ≡ node s o kind kids
+  pub is : l ≡ node s (placeOf f s) (highOf f s) kids
 
 module _ (f path : List ℕ) (s o : ℕ) where
   leaf-lay : (l : Lay) → Tree edition1 f path l → slotOf l ≡ s → highOf f s ≡ Leaf → placeOf f s ≡ o → IsLeaf s o l
@@ -58,11 +58,18 @@ module _ (f path : List ℕ) (s o : ℕ) where
   prefix-lay (prefix s' o' b l) T q h p = let w = entry-at f s' s Prefix Prefix o' o q h p (T .0) in let y = w .1 in record { bytes = b; below = l; is = cc }
   prefix-lay (node s' o' kind ks) T q h p = absurd (omega (arith, entry-at f s' s kind Prefix o' o q h p (T .0) .0, T .1 .inner .range))
 
-  inner-lay : (kind : ℕ) (l : Lay) → Tree edition1 f path l → slotOf l ≡ s → highOf f s ≡ kind → placeOf f s ≡ o → (kind ≡ Leaf → ⊥) → (kind ≡ Prefix → ⊥) → IsInner s o kind l
-  unfolding Tree
-  inner-lay kind (leaf s' o' e k v) T q h p x y = absurd (x (sym (entry-at f s' s Leaf kind o' o q h p (T .0) .0)))
-  inner-lay kind (prefix s' o' b l) T q h p x y = absurd (y (sym (entry-at f s' s Prefix kind o' o q h p (T .0) .0)))
-  inner-lay kind (node s' o' kind' ks) T q h p x y = let w = entry-at f s' s kind' kind o' o q h p (T .0) in let y = w .0 in let z = w .1 in record { kids = ks; is = cc }
+inner-lay : (f path : List ℕ) (s : ℕ) (l : Lay) → Tree edition1 f path l → slotOf l ≡ s → 4 ≤ highOf f s → IsInner f s l
+unfolding Tree
+inner-lay f path s (leaf s' o e k v) T q low = absurd (omega (arith, entry-at f s' s Leaf (highOf f s) o (placeOf f s) q refl refl (T .0) .0))
+inner-lay f path s (prefix s' o b l) T q low = absurd (omega (arith, entry-at f s' s Prefix (highOf f s) o (placeOf f s) q refl refl (T .0) .0))
+inner-lay f path s (node s' o kind ks) T q low = let w = entry-at f s' s kind (highOf f s) o (placeOf f s) q refl refl (T .0) in let y = w .0 in let z = w .1 in record { kids = ks; is = cc }
+
+-- what is neither a Leaf nor a Prefix is an inner node
+is-node : (f path : List ℕ) (s : ℕ) (l : Lay) → Tree edition1 f path l → slotOf l ≡ s → (highOf f s ≡ Leaf → ⊥) → (highOf f s ≡ Prefix → ⊥) → IsNode l
+unfolding Tree
+is-node f path s (leaf s' o e k v) T q x y = absurd (x (rw q at (T .0 .kindIs)))
+is-node f path s (prefix s' o p l) T q x y = absurd (y (rw q at (T .0 .kindIs)))
+is-node f path s (node s' o kind ks) T q x y = tt
 
 -- every slot's entry lies in the frame
 slot-in : (f : List ℕ) (s : ℕ) (l : Lay) → Inside f l → slotOf l ≡ s → SlotIn f s
@@ -82,10 +89,17 @@ prefixBody child p = padded 16 (digits 4 child ++ digits 2 (length p)) ++ padded
 
 -- ---- the tree at slot s
 
+-- all that is still to pack of the tree at slot s is the inner node at slot s'
+pub record NodeRemains (f : List ℕ) (s left : ℕ) (out : List ℕ) (at : Next) (s' left' : ℕ) (out' : List ℕ) (at' : Next) : Type 0 where
+  pub ready : TreeReady f s' left' out' at'
+  pub kind : (4 ≤ highOf f s') × (highOf f s' ≤ 7)
+  pub fewer : left' ≤ left
+  pub packed : (out'' : List ℕ) (r : Next) → TreePacked f s' out' at' out'' r → TreePacked f s out at out'' r
+
 module _ {f : List ℕ} {s left : ℕ} {out : List ℕ} {at : Next} (T : TreeReady f s left out at) where
   -- its entry lies in the frame
-  pub tree-slot : SlotIn f s
-  tree-slot = slot-in f s (T .lay) (T .inside) (T .slotIs)
+  pub tree-slot : (1 ≤ s) × (entryAt s + 4 ≤ length f)
+  tree-slot = let S = slot-in f s (T .lay) (T .inside) (T .slotIs) in (S .first, S .last)
 
   -- a Leaf
   module _ {o : ℕ} (h : highOf f s ≡ Leaf) (p : placeOf f s ≡ o) where
@@ -145,9 +159,8 @@ module _ {f : List ℕ} {s left : ℕ} {out : List ℕ} {at : Next} (T : TreeRea
       unfolding Tree
       long-is = en ∙ prefix-tree .1 .long
 
-      pub prefix-some : (1 ≤ n) × (n ≤ left)
-      unfolding Tree
-      prefix-some = let a = prefix-tree .1 .some in let b = long-is in let d = T .deep in let e = prefix-left in (omega arith, omega arith)
+      pub prefix-most : n ≤ left
+      prefix-most = let b = long-is in let d = T .deep in let e = prefix-left in omega arith
 
       module _ {out' : List ℕ} {here : Next} (L : PrefixLaid f o out at out' here) where
         head : Laid (entryOf Prefix (at .place) ∷ []) (prefixBody (at .slot + 1) (is-prefix .bytes)) at out out' here
@@ -158,7 +171,7 @@ module _ {f : List ℕ} {s left : ℕ} {out : List ℕ} {at : Next} (T : TreeRea
         unfolding Tree
         head-long = length-prefix (at .slot + 1) (is-prefix .bytes) (prefix-tree .1 .most)
 
-        pub prefix-below : TreeReady f c (left - n) out' here
+        prefix-below : TreeReady f c (left - n) out' here
         unfolding Tree Inside
         prefix-below =
             record {
@@ -172,7 +185,7 @@ module _ {f : List ℕ} {s left : ℕ} {out : List ℕ} {at : Next} (T : TreeRea
               room = room-rest (omega arith) (omega (arith, head-long)) prefix-room head;
             }
 
-        pub prefix-packed : {out'' : List ℕ} {r : Next} → TreePacked f c out' here out'' r → TreePacked f s out at out'' r
+        prefix-packed : {out'' : List ℕ} {r : Next} → TreePacked f c out' here out'' r → TreePacked f s out at out'' r
         unfolding Tree
         prefix-packed {out''} {r} P =
             let l = is-prefix .below in
@@ -189,21 +202,40 @@ module _ {f : List ℕ} {s left : ℕ} {out : List ℕ} {at : Next} (T : TreeRea
               laid = laid-join (omega (arith, length-entries (packedLay l) (at .place + bodySize Prefix))) head D;
             }
 
+        pub prefix-node : NodeRemains f s left out at c (left - n) out' here
+        unfolding Tree
+        prefix-node =
+            record {
+              ready = prefix-below;
+              kind = node-kind f (T .path ++ is-prefix .bytes) c (is-prefix .below) (prefix-tree .2) (prefix-tree .3) child-is;
+              fewer = omega arith;
+              packed = λ out'' r P. prefix-packed P;
+            }
+
   -- an inner node
-  module _ {o kind : ℕ} (h : highOf f s ≡ kind) (p : placeOf f s ≡ o) (x : kind ≡ Leaf → ⊥) (y : kind ≡ Prefix → ⊥) where
-    is-inner : IsInner s o kind (T .lay)
-    is-inner = inner-lay f (T .path) s o kind (T .lay) (T .tree) (T .slotIs) h p x y
+  pub inner-node : (highOf f s ≡ Leaf → ⊥) → (highOf f s ≡ Prefix → ⊥) → NodeRemains f s left out at s left out at
+  inner-node x y =
+      record { ready = T; kind = node-kind f (T .path) s (T .lay) (is-node f (T .path) s (T .lay) (T .tree) (T .slotIs) x y) (T .tree) (T .slotIs); fewer = omega arith; packed = λ out' r P. P }
 
-    inner-tree : Tree edition1 f (T .path) (node s o kind (is-inner .kids))
-    inner-tree = rw (is-inner .is) at (T .tree)
+  -- and what stands at it
+  module _ (low : 4 ≤ highOf f s) where
+    pub is-inner : IsInner f s (T .lay)
+    is-inner = inner-lay f (T .path) s (T .lay) (T .tree) (T .slotIs) low
 
-    pub node-ready : NodeReady f o kind left out at
-    unfolding Tree Inside
-    node-ready =
-        let K = is-inner in
-        let i : Inside f (node s o kind (K .kids)) = rw (K .is) at (T .inside) in
-        record { kids = K .kids; path = T .path; of = inner-tree .1; trees = inner-tree .2; inside = i .1; bytes = T .bytes; deep = T .deep; room = rw (K .is) at (T .room) }
+    node-tree : Tree edition1 f (T .path) (node s (placeOf f s) (highOf f s) (is-inner .kids))
+    node-tree = rw (is-inner .is) at (T .tree)
 
-    pub node-packed : {out' : List ℕ} {r : Next} → NodePacked f o kind out at out' r → TreePacked f s out at out' r
+    pub node-of : NodeOf f (placeOf f s) (highOf f s) (is-inner .kids)
     unfolding Tree
-    node-packed P = record { lay = node s o kind (P .kids); path = P .path; tree = (inner-tree .0, P .of, P .trees); slotIs = refl; laid = P .laid }
+    node-of = node-tree .1
+
+    pub node-trees : Trees edition1 f (T .path) (is-inner .kids)
+    unfolding Tree
+    node-trees = node-tree .2
+
+    pub node-inside : InsideAll f (is-inner .kids)
+    unfolding Inside
+    node-inside = let i : Inside f (node s (placeOf f s) (highOf f s) (is-inner .kids)) = rw (is-inner .is) at (T .inside) in i .1
+
+    pub node-room : Room (slots (nodeOf (packedRun (is-inner .kids)))) (size (nodeOf (packedRun (is-inner .kids)))) at out
+    node-room = rw (is-inner .is) at (T .room)

@@ -1,4 +1,4 @@
--- What packing counts on at a slot of the frame and at an inner node, what it leaves, and how far the run of a node's children is.
+-- What packing counts on at a slot of the frame, what it leaves, and how far the run of a node's children is.
 use Prim.Native.Nat.{ℕ, _+_, _≤_}
 use mathlib.Core.Path.{_≡_}
 use mathlib.Core.List.{List, _∷_, _++_}
@@ -6,10 +6,10 @@ use lib.ListN.{length, drop}
 use Rattle.layout.specs.Number.{Bytes}
 use Rattle.layout.specs.Place.{entryAt}
 use Rattle.layout.specs.Kind.{Leaf, bodySize}
-use Rattle.layout.specs.Entry.{entryOf}
+use Rattle.layout.specs.Entry.{highOf, placeOf, entryOf}
 use Rattle.model.specs.Edition.{edition1}
 use Rattle.model.specs.Tree.{Art, Kids}
-use Rattle.model.specs.Image.{packed, packedKids, nodeOf, slots, slotsKids, size, sizeKids, bytesOf, childSlots, entries, entriesKids, bodies, bodiesKids}
+use Rattle.model.specs.Image.{smallest, packed, packedKids, slots, slotsKids, size, sizeKids, bytesOf, childSlots, entries, entriesKids, bodies, bodiesKids}
 use Rattle.model.specs.Frame.{Lay, LayKids, slotOf, art, artKids, pairs, NodeOf, Tree, Trees}
 use Rattle.model.specs.Frame.Lay.{leaf, prefix, node}
 use Rattle.model.specs.Frame.LayKids.{nil, kid}
@@ -65,36 +65,21 @@ pub record TreePacked (f : List ℕ) (s : ℕ) (out : List ℕ) (at : Next) (out
   pub slotIs : slotOf lay ≡ s
   pub laid : Laid (entries (packedLay lay) (at .place)) (bodies (packedLay lay) (at .slot) (at .place)) at out out' r
 
--- ---- the inner node of a kind whose body lies at o
+-- ---- the run of the children of the inner node at slot s
 
-pub record NodeReady (f : List ℕ) (o kind left : ℕ) (out : List ℕ) (at : Next) : Type 0 where
+-- the kind that it is packed at
+abbrev pub packedKind : LayKids → ℕ
+packedKind ks = smallest (length (pairs ks))
+
+-- its first i children are packed behind its body, which so far names just these: bytes bs, slots ss, entries es, bodies and extents ds
+pub record Going (f : List ℕ) (s left : ℕ) (out : List ℕ) (at : Next) (i from : ℕ) (out' : List ℕ) (here : Next) : Type 0 where
   pub kids : LayKids
   pub path : List ℕ
-  pub of : NodeOf f o kind kids
-  pub trees : Trees edition1 f path kids
-  pub inside : InsideAll f kids
-  pub bytes : Bytes f
-  pub deep : length path + left ≡ longestWalk
-  pub room : Room (slots (nodeOf (packedRun kids))) (size (nodeOf (packedRun kids))) at out
-
-pub record NodePacked (f : List ℕ) (o kind : ℕ) (out : List ℕ) (at : Next) (out' : List ℕ) (r : Next) : Type 0 where
-  pub kids : LayKids
-  pub path : List ℕ
-  pub of : NodeOf f o kind kids
-  pub trees : Trees edition1 f path kids
-  pub laid : Laid (entries (nodeOf (packedRun kids)) (at .place)) (bodies (nodeOf (packedRun kids)) (at .slot) (at .place)) at out out' r
-
--- its first i children are packed behind its body, which is of the kind `small` and so far names just these: bytes bs, slots ss, entries es,
--- bodies and extents ds
-pub record Going (f : List ℕ) (o kind left n small : ℕ) (out : List ℕ) (at : Next) (i from : ℕ) (out' : List ℕ) (here : Next) : Type 0 where
-  pub kids : LayKids
-  pub path : List ℕ
-  pub of : NodeOf f o kind kids
+  pub of : NodeOf f (placeOf f s) (highOf f s) kids
   pub trees : Trees edition1 f path kids
   pub bytes : Bytes f
   pub deep : length path + left ≡ longestWalk
-  pub counted : length (pairs kids) ≡ n
-  pub most : i ≤ n
+  pub most : i ≤ length (pairs kids)
   pub reached : Reached (pairs kids) i from
   pub low : from ≤ 256
   pub rest : LayKids
@@ -109,8 +94,8 @@ pub record Going (f : List ℕ) (o kind left n small : ℕ) (out : List ℕ) (at
   pub slotsLong : length ss ≡ i
   pub bytesAre : bs ++ bytesOf (packedRun rest) ≡ bytesOf (packedRun kids)
   pub slotsAre : ss ++ childSlots (here .slot) (packedRun rest) ≡ childSlots (at .slot + 1) (packedRun kids)
-  pub entriesAre : es ++ entriesKids (packedRun rest) (here .place) ≡ entriesKids (packedRun kids) (at .place + bodySize small)
-  pub bodiesAre : ds ++ bodiesKids (packedRun rest) (here .slot) (here .place) ≡ bodiesKids (packedRun kids) (at .slot + 1) (at .place + bodySize small)
-  pub laid : Laid (entryOf small (at .place) ∷ es) (partBody small n bs ss ++ ds) at out out' here
+  pub entriesAre : es ++ entriesKids (packedRun rest) (here .place) ≡ entriesKids (packedRun kids) (at .place + bodySize (packedKind kids))
+  pub bodiesAre : ds ++ bodiesKids (packedRun rest) (here .slot) (here .place) ≡ bodiesKids (packedRun kids) (at .slot + 1) (at .place + bodySize (packedKind kids))
+  pub laid : Laid (entryOf (packedKind kids) (at .place) ∷ es) (partBody (packedKind kids) (length (pairs kids)) bs ss ++ ds) at out out' here
   pub table : entryAt (here .slot + slotsKids (packedRun rest)) ≤ at .place
   pub room : Room (slotsKids (packedRun rest)) (sizeKids (packedRun rest)) here out'

@@ -8,48 +8,63 @@ use inner::visit::child_at;
 use layout::entry::Entry;
 use layout::kind::Kind;
 use pack_body::inner_node;
-ghost use Rattle.pack.specs.Walk.{TreeReady, TreePacked, NodeReady, NodePacked};
+ghost use Prim.Native.Nat.{_≤_};
+ghost use Rattle.layout.specs.Entry.{highOf};
+ghost use Rattle.pack.specs.Walk.{TreeReady, TreePacked};
 
-// The tree at slot s of the frame, where a path has `left` bytes left.
+// The tree at slot s of the frame, where a path has `left` bytes left. Below a Prefix there is an inner node.
 pub fn tree(f: &[u8], out: &mut [u8], s: usize, left: usize, next: Next) -> Next
     requires { ⌜ TreeReady (now f) s left (now out) next ⌝ }
     ensures { λ r. ⌜ TreePacked (now (f .entry)) s (now (out .entry)) next (now (out .exit)) r ⌝ }
 {
     let e = Entry::read(f, s);
-    let o = e.place;
     if e.high == Kind::LEAF {
-        return bodies::leaf(f, out, o, next);
+        return bodies::leaf(f, out, e.place, next);
     }
+    let mut node = s;
+    let mut node_left = left;
+    let mut here = next;
     if e.high == Kind::PREFIX {
-        let below = bodies::prefix(f, out, o, next);
-        return tree(
-            f,
-            out,
-            Prefix::child(f, o),
-            left - Prefix::length(f, o),
-            below,
-        );
+        here = bodies::prefix(f, out, e.place, next);
+        node = Prefix::child(f, e.place);
+        node_left = left - Prefix::length(f, e.place);
     }
-    run(f, out, o, e.high, left, next)
+    run(f, out, node, node_left, here)
 }
 
-// The inner node of a kind whose body lies at o of the frame, at the smallest kind that holds its children, and the run of its children: "A
-// node's children are packed in ascending byte order".
-fn run(f: &[u8], out: &mut [u8], o: usize, kind: usize, left: usize, next: Next) -> Next
-    requires { ⌜ NodeReady (now f) o kind left (now out) next ⌝ }
-    ensures { λ r. ⌜ NodePacked (now (f .entry)) o kind (now (out .entry)) next (now (out .exit)) r ⌝ }
+// The inner node of slot s, at the smallest kind that holds its children, and the run of its children: "A node's children are packed in
+// ascending byte order". What the frame says of the node is read again for each child, so that little is kept while a child is packed.
+fn run(f: &[u8], out: &mut [u8], s: usize, left: usize, next: Next) -> Next
+    requires { ⌜ TreeReady (now f) s left (now out) next × (4 ≤ highOf (now f) s) × (highOf (now f) s ≤ 7) ⌝ }
+    ensures { λ r. ⌜ TreePacked (now (f .entry)) s (now (out .entry)) next (now (out .exit)) r ⌝ }
 {
-    let n = look::count(f, o);
-    let small = inner_node::smallest(n);
-    let mut here = bodies::node(out, small, n, next);
+    let top = Entry::read(f, s);
+    let count = look::count(f, top.place);
+    let mut here = bodies::node(out, inner_node::smallest(count), count, next);
     let mut from = 0;
     let mut i = 0;
-    while i < n {
-        let c = child_at(f, o, kind, i, from);
-        bodies::child(out, next.place, small, i, c.byte as u8, here.slot);
-        here = tree(f, out, c.slot, left - 1, here);
+    loop {
+        let e = Entry::read(f, s);
+        let n = look::count(f, e.place);
+        if n <= i {
+            return here;
+        }
+        let c = child_at(f, e.place, e.high, i, from);
+        bodies::child(
+            out,
+            next.place,
+            inner_node::smallest(n),
+            i,
+            c.byte as u8,
+            here.slot,
+        );
         from = c.byte + 1;
         i += 1;
+        let k = Entry::read(f, c.slot);
+        if k.high == Kind::LEAF {
+            here = bodies::leaf(f, out, k.place, here);
+            continue;
+        }
+        here = tree(f, out, c.slot, left - 1, here);
     }
-    here
 }

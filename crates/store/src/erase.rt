@@ -20,7 +20,7 @@ pub fn erase(frame: &mut [u8], key: &[u8]) -> Erase
         return Erase::Refused(Refusal::Frame);
     }
     let fault = key::fault(key);
-    if fault == 3 {
+    if fault == key::BAD_LENGTH {
         return Erase::Refused(Refusal::KeyLength);
     }
     if fault != 0 {
