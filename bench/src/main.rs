@@ -6,15 +6,16 @@ use store_bench::deepest::{deep_trees, DeepTree};
 use store_bench::measure::measure;
 use store_bench::plain::layout::MOST_SLOTS;
 use store_bench::stack::bytes_used;
-use store_bench::workload::{workload, Fill, FRAMES};
+use store_bench::workload::{wide, workload, Fill, Workload, FRAMES, WIDTHS};
 
 fn main() {
     let arguments: Vec<String> = std::env::args().skip(1).collect();
     match arguments.iter().map(String::as_str).collect::<Vec<_>>()[..] {
         [] => times(),
+        ["wide"] => wide_times(),
         ["stack"] => stacks(),
         _ => {
-            eprintln!("no argument: times; `stack`: the stack that each call uses");
+            eprintln!("no argument: times; `wide`: those of trees of wide nodes; `stack`: the stack that each call uses");
             std::process::exit(2);
         }
     }
@@ -26,32 +27,46 @@ fn shown(figure: Option<impl Display>) -> String {
 }
 
 fn times() {
-    println!(
-        "{:<18} {:>7} {:<6} {:>6} {:>10} {:>10} {:>6} {:>10} {:>11}",
-        "call", "F", "fill", "slots", "ns plain", "ns proved", "ratio", "plain/slot", "proved/slot"
-    );
+    times_head("fill");
     for (f, n) in FRAMES {
         for fill in Fill::ALL {
-            let workload = workload(f, n, fill);
-            let slots = workload.slots();
-            for task in &workload.tasks {
-                let measured = measure(&workload, task);
-                let (time, proved) = (measured.plain, measured.proved);
-                let by_slot = |time: f64| format!("{:.1}", time / slots as f64);
-                println!(
-                    "{:<18} {:>7} {:<6} {:>6} {:>10.0} {:>10} {:>6} {:>10} {:>11}",
-                    task.name,
-                    f,
-                    fill.name(),
-                    slots,
-                    time,
-                    shown(proved.as_ref().map(|it| format!("{:.0}", it.time))),
-                    shown(proved.as_ref().map(|it| format!("{:.2}", it.ratio))),
-                    by_slot(time),
-                    shown(proved.as_ref().map(|it| by_slot(it.time))),
-                );
-            }
+            times_of(&workload(f, n, fill), fill.name());
         }
+    }
+}
+
+fn wide_times() {
+    times_head("width");
+    for width in WIDTHS {
+        times_of(&wide(width), &width.to_string());
+    }
+}
+
+fn times_head(what: &str) {
+    println!(
+        "{:<18} {:>7} {:<6} {:>6} {:>10} {:>10} {:>6} {:>10} {:>11}",
+        "call", "F", what, "slots", "ns plain", "ns proved", "ratio", "plain/slot", "proved/slot"
+    );
+}
+
+fn times_of(workload: &Workload, what: &str) {
+    let slots = workload.slots();
+    for task in &workload.tasks {
+        let measured = measure(workload, task);
+        let (time, proved) = (measured.plain, measured.proved);
+        let by_slot = |time: f64| format!("{:.1}", time / slots as f64);
+        println!(
+            "{:<18} {:>7} {:<6} {:>6} {:>10.0} {:>10} {:>6} {:>10} {:>11}",
+            task.name,
+            workload.frame.len(),
+            what,
+            slots,
+            time,
+            shown(proved.as_ref().map(|it| format!("{:.0}", it.time))),
+            shown(proved.as_ref().map(|it| format!("{:.2}", it.ratio))),
+            by_slot(time),
+            shown(proved.as_ref().map(|it| by_slot(it.time))),
+        );
     }
 }
 

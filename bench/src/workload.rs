@@ -6,7 +6,7 @@
 use crate::calls::{self, Call, Lent};
 use crate::plain;
 use crate::plain::layout::number::{ABSENT, DONE, NO_ROOM, REPLACED};
-use crate::plain::layout::{get32, AT_U, MOST_SLOTS};
+use crate::plain::layout::{get32, AT_U, LONGEST_FRAME, MOST_SLOTS};
 use crate::random::Random;
 
 /// Frame lengths with their slot capacities.
@@ -68,6 +68,35 @@ const SEED: u64 = 1;
 /// Different inputs of one task; they are used in turn.
 const MOST_INPUTS: usize = 64;
 const LONGEST_NEW_VALUE: usize = 48;
+
+/// Children of every node of a wide tree: each number makes nodes of another
+/// kind.
+pub const WIDTHS: [usize; 4] = [4, 16, 48, 64];
+
+/// The records of a wide tree that are left out, to be put.
+pub const ABSENT_OF_WIDE: usize = 2;
+
+/// A tree of two levels with so many children at each node: two bytes, spread
+/// over all that a key can hold, and the same text behind them.
+pub fn wide(children: usize) -> Workload {
+    let (f, n) = (LONGEST_FRAME, MOST_SLOTS);
+    let mut random = Random::new(SEED);
+    let spread = |place: usize| 1 + (place * 255 / children) as u8;
+    let mut records = Vec::new();
+    for first in 0..children {
+        for second in 0..children {
+            let key = [&[spread(first), spread(second)], &b"/setting"[..]].concat();
+            let length = random.below(LONGEST_NEW_VALUE);
+            records.push(Record { key, value: random.bytes(length) });
+        }
+    }
+    random.shuffle(&mut records);
+    let absent = records.split_off(records.len() - ABSENT_OF_WIDE);
+    let mut frame = formatted(f, n);
+    assert_eq!(puts_until_no_room(&mut frame, &records), None, "the longest frame has room");
+    let tasks = tasks(&frame, n, &records, &absent);
+    Workload { frame, n, tasks }
+}
 
 pub fn workload(f: usize, n: usize, fill: Fill) -> Workload {
     let mut random = Random::new(SEED);

@@ -8,7 +8,7 @@ use second_store::slotless::Tree;
 use second_store::store;
 use store_bench::calls::Call;
 use store_bench::deepest::deep_trees;
-use store_bench::workload::{workload, Fill, FRAMES};
+use store_bench::workload::{wide, workload, Fill, Workload, ABSENT_OF_WIDE, FRAMES, WIDTHS};
 
 /// Slots on the longest way from the root.
 fn slots_deep(tree: &Tree) -> usize {
@@ -33,26 +33,58 @@ fn deep_trees_are_as_deep_as_allowed() {
     }
 }
 
+fn gives_the_numbers_it_tells(workload: &Workload, what: &str) {
+    let f = workload.frame.len();
+    assert_eq!(check(&workload.frame), DONE);
+    for task in &workload.tasks {
+        let input = &task.inputs[0];
+        let mut frame = workload.frame.clone();
+        let number = match task.call {
+            Call::Format => store::format(&mut frame, f, workload.n),
+            Call::Check => check(&frame),
+            Call::LookUp => store::look_up(&frame, &input.key).0,
+            Call::Put => store::put(&mut frame, &input.key, &input.value),
+            Call::Erase => store::erase(&mut frame, &input.key),
+            Call::Pack => store::pack(&frame, &mut vec![0; f]),
+        };
+        assert_eq!(number, task.number, "{} of {f} bytes, {what}", task.name);
+    }
+}
+
 #[test]
 fn workloads_give_the_numbers_they_tell() {
     for (f, n) in FRAMES {
         for fill in Fill::ALL {
-            let workload = workload(f, n, fill);
-            assert_eq!(check(&workload.frame), DONE);
-            for task in &workload.tasks {
-                let input = &task.inputs[0];
-                let mut frame = workload.frame.clone();
-                let number = match task.call {
-                    Call::Format => store::format(&mut frame, f, n),
-                    Call::Check => check(&frame),
-                    Call::LookUp => store::look_up(&frame, &input.key).0,
-                    Call::Put => store::put(&mut frame, &input.key, &input.value),
-                    Call::Erase => store::erase(&mut frame, &input.key),
-                    Call::Pack => store::pack(&frame, &mut vec![0; f]),
-                };
-                assert_eq!(number, task.number, "{} of {f} bytes, {fill:?}", task.name);
-            }
+            gives_the_numbers_it_tells(&workload(f, n, fill), fill.name());
         }
+    }
+    for width in WIDTHS {
+        gives_the_numbers_it_tells(&wide(width), &format!("width {width}"));
+    }
+}
+
+/// The children of each inner node.
+fn widths(tree: &Tree) -> Vec<usize> {
+    match tree {
+        Tree::Leaf { .. } => Vec::new(),
+        Tree::Prefix { below, .. } => widths(below),
+        Tree::Inner { children, .. } => {
+            let below = children.values().flat_map(|child| widths(child));
+            below.chain([children.len()]).collect()
+        }
+    }
+}
+
+#[test]
+fn wide_trees_have_the_width_they_tell() {
+    for width in WIDTHS {
+        let frame = wide(width).frame;
+        let reading = read(&frame).expect("the lengths agree");
+        let tree = decode::state(&frame, &reading).tree.expect("there are records");
+        let widths = widths(&tree);
+        assert_eq!(widths.len(), width + 1, "the root's node and one below each byte");
+        let narrower = widths.iter().map(|it| width - it).sum::<usize>();
+        assert_eq!(narrower, ABSENT_OF_WIDE, "only the records to be put are missing");
     }
 }
 
