@@ -7,7 +7,6 @@ use native.Mathlib.Omega.{arith}
 use native.Mathlib.Decide.{decLt}
 use lib.ListN.{length, getD, length-append, List·getD-append}
 use lib.Seq.{getD-append-add}
-use lib.Dec.{eqb}
 use borrow.Author.Tests.{eq-eqb, ne-eqb}
 use Rattle.layout.specs.Number.{byteAt, le, Bytes}
 use Rattle.layout.proofs.NumberLaws.{le-lt}
@@ -17,7 +16,7 @@ use Rattle.layout.specs.Kind.{Leaf}
 use Rattle.model.specs.Edition.{edition1}
 use Rattle.model.specs.Tree.{Art, Change, up8, extentOf, putTree}
 use Rattle.model.specs.State.{State, room}
-use Rattle.model.specs.Item.{Item, body, extent, cover, leafy, sum, Same}
+use Rattle.model.specs.Item.{Item, body, extent, cover, Same}
 use Rattle.model.specs.Item as item
 use Rattle.model.specs.Frame.{Lay, slotOf, LeafOf, View, Heap, tree, Stands}
 use Rattle.model.specs.Frame.Lay.{leaf}
@@ -29,23 +28,24 @@ use Rattle.node.proofs.MoveLaws.{le-keeps}
 use Rattle.room.specs.View.{extended, retired}
 use Rattle.room.specs.Step.{Pasted, Extends, Extended, Retires, Renumbered}
 use Rattle.room.specs.Book.{takenAll, Kinds}
-use Rattle.room.proofs.HeapLaws.{touch-extent, cover-body, cover-extent, lies, Lies}
+use Rattle.room.proofs.HeapLaws.{touch-extent, cover-body, cover-extent}
 use Rattle.room.proofs.BookLaws.{room-last}
 use Rattle.descent.specs.declared.spot.Spot.{Spot}
 use Rattle.between.specs.Hole.{Step, plug, pathOf, stepsItems, holderOf}
-use Rattle.between.specs.Work.{Suits, forestItems, Work}
+use Rattle.between.specs.Work.{forestItems, Work}
 use Rattle.between.specs.Since.{written, Accounts}
 use Rattle.between.specs.Edit.{LeafWritten, Booked}
 use Rattle.between.proofs.TreeLaws.{sum-none, leaf-sum, body-kept}
 use Rattle.between.proofs.HoleLaws.{suits-any, plug-sum}
 use Rattle.between.proofs.LeadLaws.{leaf-look}
-use Rattle.between.proofs.WorkLaws.{standsView, stands-sum, work-of, work-open, work-close, work-extend, work-turn, work-write, work-paste, work-retire, first-owns, any-write, open-leaf, make-leaf, leafy-leaf}
+use Rattle.between.proofs.WorkLaws.{standsView, stands-sum, work-close, work-extend, work-turn, work-write, work-paste, work-retire, first-owns, any-write, make-leaf, leafy-leaf}
 use Rattle.between.proofs.EditLaws.{leaf-written}
 use Rattle.between.proofs.ChangeLaws.{changed-only}
 use Rattle.between.proofs.SinceLaws.{stepped-start, since-start, since-also, since-extend, since-write, since-retire}
 use Rattle.between.proofs.OutsideLaws.{among-here}
 use Rattle.between.proofs.BookedLaws.{booked-row, booked-extend, booked-retire}
 use Rattle.leaf_new.specs.Put.{PutStep}
+use Rattle.leaf_new.proofs.OpenLaws.{leaf-opened, leaf-loose, leaf-room}
 use Rattle.leaf_new.proofs.DoneLaws.{any-root, any-room, Edited, change-is, room-is, put-done}
 use Rattle.put_replace.specs.Put.{Present}
 
@@ -81,20 +81,11 @@ touch-other n o e k v v' h d q = rw (same-refl k, ne-eqb (length v) (length v') 
 -- ---- the hole at the Leaf
 
 module _ {f : List ℕ} {s : State} (w : Stands edition1 f s) (xs : List Step) (n o e : ℕ) (k v' : List ℕ) (er : w .root ≡ tree (plug xs (leaf n o e k v'))) where
-  opened : Work edition1 f (standsView w) xs n ((pathOf xs, leaf n o e k v') ∷ []) [] × Suits xs (leaf n o e k v')
-  opened = work-open xs (leaf n o e k v') [] (work-of w (plug xs (leaf n o e k v')) er) refl
-
-  pub loose : Work edition1 f (standsView w) xs n [] (body n Leaf o ∷ extent e (extentOf k v') ∷ []) × LeafOf edition1 f (pathOf xs) o e k v'
-  loose = open-leaf (pathOf xs) [] [] n o e k v' (opened .0)
-
-  pub leaf-lies : Lies (standsView w) n Leaf o
-  leaf-lies = lies n Leaf o ((extent e (extentOf k v') ∷ []) ++ (stepsItems xs ++ forestItems [])) (w .heap) (first-owns (loose .0)) (omega arith) (omega arith)
-
-  pub leaf-room : o + 16 ≤ length f
-  leaf-room = omega (arith, leaf-lies .ends, w .heap .header .size)
+  loose : Work edition1 f (standsView w) xs n [] (body n Leaf o ∷ extent e (extentOf k v') ∷ []) × LeafOf edition1 f (pathOf xs) o e k v'
+  loose = leaf-loose w xs n o e k v' er
 
   close : {g : List ℕ} {h : View} (e' : ℕ) (v : List ℕ) → Work edition1 g h xs n ((pathOf xs, leaf n o e' k v) ∷ []) [] → Work edition1 g h [] (slotOf (plug xs (leaf n o e' k v))) (([], plug xs (leaf n o e' k v)) ∷ []) []
-  close e' v W = work-close xs (leaf n o e' k v) [] W refl (suits-any xs (leaf n o e k v') (leaf n o e' k v) (λ z. z) (opened .1))
+  close e' v W = work-close xs (leaf n o e' k v) [] W refl (suits-any xs (leaf n o e k v') (leaf n o e' k v) (λ z. z) (leaf-opened w xs n o e k v' er .1))
 
   -- ---- with the same length
 

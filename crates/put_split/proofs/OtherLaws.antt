@@ -37,8 +37,8 @@ use Rattle.descent.specs.declared.spot.Spot.{Spot}
 use Rattle.leaf_new.specs.Make.{Counts, Counted, Relinked}
 use Rattle.leaf_new.specs.Put.{PutStep}
 use Rattle.leaf_new.proofs.LeafLaws.{counts-of}
+use Rattle.leaf_new.proofs.OpenLaws.{leaf-loose, leaf-lies, leaf-room}
 use Rattle.leaf_new.proofs.DoneLaws.{any-root, any-room, change-is, room-is, put-done}
-use Rattle.put_replace.proofs.ReplaceLaws as replace
 use Rattle.put_split.specs.Parts.{LeafHere, Forks, Forked, PrefixWritten}
 use Rattle.put_split.specs.Split.{AtOther, Beside}
 use Rattle.put_split.proofs.PartedLaws.{shared-is, byte-here, byte-there, part-short, part-is}
@@ -70,7 +70,7 @@ module _ {f k v : List ℕ} {p : Spot} (A : AtOther f k v p) where
   w0 = A .put .ready .stands
 
   leaf-of : LeafOf edition1 f (pathOf xs) (p .here .place) (A .other .extent) (A .other .key) (A .other .value)
-  leaf-of = replace.loose w0 xs (p .here .slot) (p .here .place) (A .other .extent) (A .other .key) (A .other .value) (root-at (A .put .ready .st) w0) .1
+  leaf-of = leaf-loose w0 xs (p .here .slot) (p .here .place) (A .other .extent) (A .other .key) (A .other .value) (root-at (A .put .ready .st) w0) .1
 
   pub leaf-here : LeafHere f (p .here .place)
   leaf-here =
@@ -78,7 +78,7 @@ module _ {f k v : List ℕ} {p : Spot} (A : AtOther f k v p) where
         extent = A .other .extent;
         key = A .other .key;
         value = A .other .value;
-        room = replace.leaf-room w0 xs (p .here .slot) (p .here .place) (A .other .extent) (A .other .key) (A .other .value) (root-at (A .put .ready .st) w0);
+        room = leaf-room w0 xs (p .here .slot) (p .here .place) (A .other .extent) (A .other .key) (A .other .value) (root-at (A .put .ready .st) w0);
         at = leaf-of .at;
       }
 
@@ -136,7 +136,7 @@ module _ {f k v : List ℕ} {p : Spot} (A : AtOther f k v p) where
     -- the old Leaf's slot
     slot-in : (1 ≤ p .here .slot) × (p .here .slot < 4294967296)
     slot-in =
-        let L = replace.leaf-lies w0 xs (p .here .slot) (p .here .place) (A .other .extent) (A .other .key) (A .other .value) (root-at (A .put .ready .st) w0) in
+        let L = leaf-lies w0 xs (p .here .slot) (p .here .place) (A .other .extent) (A .other .key) (A .other .value) (root-at (A .put .ready .st) w0) in
         let c = w0 .heap .header .slotCap in
         (L .low, omega (arith, L .table))
 

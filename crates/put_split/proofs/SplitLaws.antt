@@ -13,8 +13,8 @@ use Rattle.layout.specs.Entry.{placeOf}
 use Rattle.model.specs.Edition.{edition1}
 use Rattle.model.specs.Tree.{Art, extentOf, asPrefix, fork, newKey, prefixIf, putTree}
 use Rattle.model.specs.State.{State}
-use Rattle.model.specs.Item.{Item, body, cover, leafy, sum}
-use Rattle.model.specs.Frame.{Lay, slotOf, art, View, Stands, Begins}
+use Rattle.model.specs.Item.{Item, body, cover, leafy}
+use Rattle.model.specs.Frame.{Lay, slotOf, View, Stands, Begins}
 use Rattle.model.specs.Frame.Lay.{leaf, prefix, node}
 use Rattle.model.specs.Touch.{Touch, touch, holder, touchPut}
 use Rattle.model.proofs.ItemLaws.{sum-cons}
@@ -30,10 +30,11 @@ use Rattle.between.specs.Edit.{Booked, leafView, leafIn}
 use Rattle.between.proofs.TreeLaws.{sum-none, prefix-sum}
 use Rattle.between.proofs.HoleLaws.{is-node, suits-any}
 use Rattle.between.proofs.LeadLaws.{leaf-look}
-use Rattle.between.proofs.WorkLaws.{standsView, work-of, work-open, work-take, work-turn, work-write, entries-first, make-prefix, leafy-leaf}
+use Rattle.between.proofs.WorkLaws.{standsView, work-take, work-turn, work-write, entries-first, make-prefix, leafy-leaf}
 use Rattle.between.proofs.SinceLaws.{since-start, since-take, since-write}
 use Rattle.between.proofs.BookedLaws.{booked-row, booked-as, booked-extend}
 use Rattle.leaf_new.specs.Make.{Counted, Relinked}
+use Rattle.leaf_new.proofs.OpenLaws.{leaf-opened}
 use Rattle.leaf_new.proofs.DoneLaws.{Edited}
 use Rattle.put_split.specs.Parts.{PrefixWritten, Forked}
 use Rattle.put_split.specs.Split.{Beside}
@@ -73,7 +74,7 @@ module _ (h : View) (k v : List ℕ) (e8 : length (h .lists) ≡ 8) where
 
 module _ {f : List ℕ} {st : State} {w : Stands edition1 f st} {k : List ℕ} {xs : List Step} {n o e : ℕ} {k' v' : List ℕ} {at : ℕ} (P : Beside w k xs n o e k' v' at) (v : List ℕ) where
   pub opened : Work edition1 f (standsView w) xs n ((pathOf xs, leaf n o e k' v') ∷ []) []
-  opened = work-open xs (leaf n o e k' v') [] (work-of w (plug xs (leaf n o e k' v')) (P .is)) refl .0
+  opened = leaf-opened w xs n o e k' v' (P .is) .0
 
   accounts : (kinds : List ℕ) (bs : List Item) → Accounts (w .root) (touch (holder (holderOf xs)) []) kinds bs (holderItems xs ++ []) [] → Accounts (w .root) (touchPut edition1 (leaf n o e k' v') (holderOf xs) (length (pathOf xs)) k v) kinds bs (holderItems xs ++ []) []
   accounts kinds bs A = subst (λ (t : Touch). Accounts (w .root) t kinds bs (holderItems xs ++ []) []) (sym (touch-leaf k k' (pathOf xs) (P .word) (P .word') (P .parted) v v' (P .differs) n o e (holderOf xs))) A
@@ -206,7 +207,7 @@ module _ {f : List ℕ} {st : State} {w : Stands edition1 f st} {k : List ℕ} {
               let bs : List Item = b1 ∷ b2 ∷ b4 ∷ [] in
               let fits = took-slot U prefix-kind in
               let e8 = w .heap .lists .eight in
-              let suits = suits-any xs old crown (λ z. z) (work-open xs old [] (work-of w (plug xs old) (P .is)) refl .1) in
+              let suits = suits-any xs old crown (λ z. z) (leaf-opened w xs n o e k' v' (P .is) .1) in
               let deep : drop d (edition1 .walked k) ≡ P .parted .w ++ (P .parted .b ∷ P .parted .s) = ap (drop d) (P .word) ∙ drop-append-seam (pathOf xs) (P .rest) ∙ P .parted .left in
               let Z2 = since-take prefix-kind (T .heap) (since-take node4-kind (w .heap) (since-start (w .heap)) T) U in
               let Z3 = fork-since (pathOf xs ++ P .parted .w) [] place4 old taken-two G refl room-two (P .legal) (begins-here k (pathOf xs) (P .word) (P .parted)) Z2
