@@ -19,13 +19,13 @@ pub record Joined (f : List ℕ) (from i joined : ℕ) : Type 0 where
   pub zero : joined ≡ 0 → Blank f from i
   pub blank : Blank f from i → joined ≡ 0
 
-or-left : (a b : ℕ) → bitOr a b ≡ 0 → a ≡ 0
+pub or-left : (a b : ℕ) → bitOr a b ≡ 0 → a ≡ 0
 or-left a b e = omega (arith, or-add-and a b, and-le-l a b, and-le-r a b)
 
-or-right : (a b : ℕ) → bitOr a b ≡ 0 → b ≡ 0
+pub or-right : (a b : ℕ) → bitOr a b ≡ 0 → b ≡ 0
 or-right a b e = omega (arith, or-add-and a b, and-le-l a b, and-le-r a b)
 
-or-zero : (a b : ℕ) → a ≡ 0 → b ≡ 0 → bitOr a b ≡ 0
+pub or-zero : (a b : ℕ) → a ≡ 0 → b ≡ 0 → bitOr a b ≡ 0
 or-zero a b x y = omega (arith, or-add-and a b)
 
 pub joined-none : (f : List ℕ) (from : ℕ) → Joined f from (from + 0) 0

@@ -6,17 +6,19 @@ use mathlib.Core.Option.{none, some}
 use mathlib.Core.Bool.{Bool}
 use mathlib.Core.Logic.{⊎-elim, _⊎_, inl, inr}
 use native.Mathlib.Omega.{arith}
-use borrow.Author.Count.{below-more}
-use lib.ListN.{length, getD, set, replicate, length-set}
+use lib.ListN.{length, getD, set, replicate, length-set, length-replicate}
+use lib.Bits.{bitOr}
 use lib.Seq.{getD-set-same, getD-set-other}
-use Rattle.layout.specs.Number.{byteAt, le}
+use Rattle.layout.specs.Number.{byteAt, le, Bytes}
 use Rattle.layout.specs.Place.{node48Index, node48Children}
 use Rattle.layout.proofs.NumberLaws.{lt-or-le}
 use Rattle.model.specs.Body.{namedChild}
 use Rattle.pieces.specs.Decides.{Decides}
+use Rattle.pieces.specs.Range.{Blank}
 use Rattle.pieces.proofs.DecideLaws.{handed}
-use Rattle.shape_inner.specs.Inner.{child48, Unmarked, IndexedHere}
-use Rattle.shape_inner.proofs.KidsLaws.{Counted, counted-none, counted-some, counted-end}
+use Rattle.pieces.proofs.ZeroLaws.{or-left, or-right, or-zero}
+use Rattle.shape_inner.specs.Inner.{inUse, child48, Unmarked, IndexedHere}
+use Rattle.shape_inner.proofs.KidsLaws.{Counted, counted-more, counted-end, in-use-one}
 
 -- an entry below b names the place
 pub record NamedBelow (f : List ℕ) (index b place : ℕ) : Type 0 where
@@ -24,24 +26,32 @@ pub record NamedBelow (f : List ℕ) (index b place : ℕ) : Type 0 where
   pub below : entry < b
   pub is : byteAt f (index + entry) ≡ place
 
--- the entries below b, marked in `seen`, `used` of them not 0
-pub record Marked (f : List ℕ) (o b : ℕ) (seen : List ℕ) (used : ℕ) : Type 0 where
-  pub sized : length seen ≡ 49
+-- two entries below b name one place
+pub record TwiceBelow (f : List ℕ) (index b : ℕ) : Type 0 where
+  pub later : ℕ
+  pub first : NamedBelow f index later (byteAt f (index + later))
+  pub below : later < b
+  pub place : 1 ≤ byteAt f (index + later)
+
+-- the entries below b, marked in `seen`, `used` of them not 0; `twice` is 0 as long as no two name one place
+pub record Marked (f : List ℕ) (o b : ℕ) (seen : List ℕ) (twice used : ℕ) : Type 0 where
+  pub sized : length seen ≡ 256
   pub few : used ≤ b
   pub counted : Counted (child48 f o) b used
-  pub place : (d : ℕ) → d < b → byteAt f (o + node48Index + d) ≤ 48
-  pub once : (d e : ℕ) → d < b → e < b → byteAt f (o + node48Index + d) ≡ byteAt f (o + node48Index + e) → 1 ≤ byteAt f (o + node48Index + d) → d ≡ e
+  pub noPlace : getD seen 0 0 ≡ 0
   pub clear : (p d : ℕ) → getD seen p 0 ≡ 0 → d < b → byteAt f (o + node48Index + d) ≡ p → 1 ≤ p → ⊥
   pub named : (p : ℕ) → (getD seen p 0 ≡ 0 → ⊥) → NamedBelow f (o + node48Index) b p
+  pub once : twice ≡ 0 → (d e : ℕ) → d < b → e < b → byteAt f (o + node48Index + d) ≡ byteAt f (o + node48Index + e) → 1 ≤ byteAt f (o + node48Index + d) → d ≡ e
+  pub again : (twice ≡ 0 → ⊥) → TwiceBelow f (o + node48Index) b
 
 child-none : (f : List ℕ) (o p : ℕ) → p ≡ 0 → namedChild f o p ≡ none
 unfolding namedChild
 child-none f o p e = rw e refl
 
-child-some : (f : List ℕ) (o p : ℕ) → 1 ≤ p → namedChild f o p ≡ some (le 4 f (o + node48Children + 4 * (p - 1)))
+child-some : (f : List ℕ) (o p : ℕ) → (p ≡ 0 → ⊥) → namedChild f o p ≡ some (le 4 f (o + node48Children + 4 * (p - 1)))
 unfolding namedChild
-child-some f o zero l = absurd (omega arith)
-child-some f o (suc p) l = let e : suc p - 1 ≡ p = omega arith in rw e refl
+child-some f o zero n = absurd (n refl)
+child-some f o (suc p) n = let e : suc p - 1 ≡ p = omega arith in rw e refl
 
 same-or-not : (a b : ℕ) → (a ≡ b) ⊎ (a ≡ b → ⊥)
 same-or-not a b =
@@ -52,92 +62,111 @@ zeros-at zero p = refl
 zeros-at (suc n) zero = refl
 zeros-at (suc n) (suc p) = zeros-at n p
 
-pub marked-none : (f : List ℕ) (o : ℕ) → Marked f o 0 (replicate 49 0) 0
+pub marked-none : (f : List ℕ) (o : ℕ) → Marked f o 0 (replicate 256 0) 0 0
 marked-none f o =
     record {
-      sized = refl;
+      sized = length-replicate {A = ℕ} 256 0;
       few = omega arith;
       counted = omega arith;
-      place = λ d l. absurd (omega arith);
-      once = λ d e l m. absurd (omega arith);
+      noPlace = zeros-at 256 0;
       clear = λ p d g l. absurd (omega arith);
-      named = λ p g. absurd (g (zeros-at 49 p));
+      named = λ p g. absurd (g (zeros-at 256 p));
+      once = λ z d e l. absurd (omega arith);
+      again = λ g. absurd (g refl);
     }
 
-module _ (f : List ℕ) (o b : ℕ) (seen : List ℕ) (used : ℕ) (M : Marked f o b seen used) where
-  -- what entry d holds
+module _ (f : List ℕ) (o b : ℕ) (seen : List ℕ) (twice used : ℕ) (M : Marked f o b seen twice used) where
+  -- what entry d holds, and the mark of a place
   abbrev at : ℕ → ℕ
   at d = byteAt f (o + node48Index + d)
+
+  abbrev mark : ℕ → ℕ
+  mark p = getD seen p 0
 
   last : (d : ℕ) → b ≤ d → d < b + 1 → at d ≡ at b
   last d x y = let e : d ≡ b = omega arith in rw e refl
 
-  -- an entry that names no place
-  pub marked-skip : b < 256 → at b ≡ 0 → Marked f o (b + 1) seen used
-  marked-skip l z =
+  -- the next entry's own mark, and the others, after it is marked
+  mark-same : (p : ℕ) → at b < 256 → p ≡ at b → getD (set seen (at b) (at b)) p 0 ≡ at b
+  mark-same p i e = rw e (getD-set-same seen (at b) (at b) 0 (omega (arith, M .sized)))
+
+  mark-other : (p : ℕ) → (p ≡ at b → ⊥) → getD (set seen (at b) (at b)) p 0 ≡ mark p
+  mark-other p n = getD-set-other seen (at b) p (at b) 0 n
+
+  -- its place has a mark already
+  marked-again : (mark (at b) ≡ 0 → ⊥) → TwiceBelow f (o + node48Index) (b + 1)
+  marked-again g =
       record {
-        sized = M .sized;
-        few = omega (arith, M .few);
-        counted = counted-none (child48 f o) b used l (child-none f o (at b) z) (M .counted);
-        place = below-more (λ (d : ℕ). at d ≤ 48) b (M .place) (omega arith);
-        once = λ d e x y q h.
-            ⊎-elim (λ u. ⊎-elim (λ v. M .once d e u v q h) (λ v. absurd (omega (arith, last e v y))) (lt-or-le e b))
-            (λ u. absurd (omega (arith, last d u x))) (lt-or-le d b);
-        clear = λ p d g x q h. ⊎-elim (λ u. M .clear p d g u q h) (λ u. omega (arith, last d u x)) (lt-or-le d b);
-        named = λ p g. let N = M .named p g in record { entry = N .entry; below = omega (arith, N .below); is = N .is };
+        later = b;
+        first = M .named (at b) g;
+        below = omega arith;
+        place = ⊎-elim (λ z. absurd (g (ap mark z ∙ M .noPlace))) (λ n. omega arith) (same-or-not (at b) 0);
       }
 
-  -- one that names a new place
-  pub marked-more : b < 256 → 1 ≤ at b → at b ≤ 48 → getD seen (at b) 0 ≡ 0 → Marked f o (b + 1) (set seen (at b) 1) (used + 1)
-  marked-more l x y z =
-      let inside : at b < length seen = omega (arith, M .sized) in
+  -- the next entry is marked
+  pub marked-more : Bytes f → b < 256 → Marked f o (b + 1) (set seen (at b) (at b)) (bitOr twice (mark (at b))) (used + inUse (at b))
+  marked-more bytes l =
+      let i = bytes (o + node48Index + b) in
       record {
         sized = simp length-set (M .sized);
-        few = omega (arith, M .few);
-        counted = counted-some (child48 f o) b used (le 4 f (o + node48Children + 4 * (at b - 1))) l (child-some f o (at b) x) (M .counted);
-        place = below-more (λ (d : ℕ). at d ≤ 48) b (M .place) y;
-        once = λ d e v w q h.
-            ⊎-elim
-            (λ s. ⊎-elim (λ t. M .once d e s t q h) (λ t. absurd (M .clear (at b) d z s (omega (arith, last e t w)) x)) (lt-or-le e b))
-            (λ s. ⊎-elim (λ t. absurd (M .clear (at b) e z t (omega (arith, last d s v)) x)) (λ t. omega arith) (lt-or-le e b)) (lt-or-le d b);
+        few = omega (arith, M .few, in-use-one (at b));
+        counted = counted-more (child48 f o) b used (at b) (le 4 f (o + node48Children + 4 * (at b - 1))) l (child-none f o (at b)) (child-some f o (at b)) (M .counted);
+        noPlace = ⊎-elim (λ e. mark-same 0 i e ∙ sym e) (λ n. mark-other 0 n ∙ M .noPlace) (same-or-not 0 (at b));
         clear = λ p d g v q h.
-            ⊎-elim (λ e. omega (arith, getD-set-same seen (at b) 1 0 inside, ap (λ (k : ℕ). getD (set seen (at b) 1) k 0) e))
-            (λ n. ⊎-elim (λ s. M .clear p d (sym (getD-set-other seen (at b) p 1 0 n) ∙ g) s q h) (λ s. n (omega (arith, last d s v))) (lt-or-le d b))
+            ⊎-elim (λ e. omega (arith, mark-same p i e))
+            (λ n. ⊎-elim (λ s. M .clear p d (sym (mark-other p n) ∙ g) s q h) (λ s. n (omega (arith, last d s v))) (lt-or-le d b))
             (same-or-not p (at b));
         named = λ p g.
             ⊎-elim (λ e. record { entry = b; below = omega arith; is = sym e })
             (λ n.
-            let N = M .named p (λ r. g (getD-set-other seen (at b) p 1 0 n ∙ r)) in
+            let N = M .named p (λ r. g (mark-other p n ∙ r)) in
             record { entry = N .entry; below = omega (arith, N .below); is = N .is }) (same-or-not p (at b));
+        once = λ z d e v w q h.
+            let old = or-left twice (mark (at b)) z in
+            let new = or-right twice (mark (at b)) z in
+            ⊎-elim
+            (λ s. ⊎-elim (λ t. M .once old d e s t q h) (λ t. let k = last e t w in absurd (M .clear (at b) d new s (omega arith) (omega arith))) (lt-or-le e b))
+            (λ s. let k = last d s v in ⊎-elim (λ t. absurd (M .clear (at b) e new t (omega arith) (omega arith))) (λ t. omega arith) (lt-or-le e b)) (lt-or-le d b);
+        again = λ g.
+            ⊎-elim (λ z. marked-again (λ y. g (or-zero twice (mark (at b)) z y)))
+            (λ n. let T = M .again n in record { later = T .later; first = T .first; below = omega (arith, T .below); place = T .place })
+            (same-or-not twice 0);
       }
 
-  module _ (n : ℕ) where
-    -- one that is no place
-    pub marked-far : b < 256 → 48 < at b → IndexedHere f o n → ⊥
-    marked-far l h H = omega (arith, H .place b l)
+  module _ (n : ℕ) (all : b ≡ 256) where
+    -- two entries name one place
+    pub marked-twice : (twice ≡ 0 → ⊥) → IndexedHere f o n → ⊥
+    marked-twice g H =
+        let T = M .again g in
+        let F = T .first in
+        let e = H .once (F .entry) (T .later) (omega (arith, F .below, T .below)) (omega (arith, T .below)) (F .is) (omega (arith, F .is, T .place)) in
+        omega (arith, F .below)
 
-    -- one that names a place again
-    pub marked-twice : b < 256 → 1 ≤ at b → (getD seen (at b) 0 ≡ 0 → ⊥) → IndexedHere f o n → ⊥
-    marked-twice l x z H =
-        let N = M .named (at b) z in
-        let e = H .once (N .entry) b (omega (arith, N .below)) l (N .is) (omega (arith, N .is)) in
-        omega (arith, N .below)
+    -- another number of entries than the count
+    pub marked-count : (used ≡ n → ⊥) → IndexedHere f o n → ⊥
+    marked-count h H = h (counted-end (child48 f o) b used all (M .counted) ∙ H .counted)
 
-    -- all entries, and another number of them than the count
-    pub marked-count : b ≡ 256 → (used ≡ n → ⊥) → IndexedHere f o n → ⊥
-    marked-count e h H = h (counted-end (child48 f o) b used e (M .counted) ∙ H .counted)
+    -- an entry is no place
+    pub marked-far : (Blank seen 49 256 → ⊥) → IndexedHere f o n → ⊥
+    marked-far g H =
+        g
+        (λ p x y.
+        ⊎-elim (λ z. z) (λ z. let N = M .named p z in absurd (omega (arith, N .is, H .place (N .entry) (omega (arith, N .below)))))
+        (same-or-not (mark p) 0))
 
-    pub marked-end : {r : Bool} → b ≡ 256 → used ≡ n → Decides (Unmarked f (o + node48Children) seen) r → Decides (IndexedHere f o n) r
-    marked-end e q D =
+    pub marked-end : {r : Bool} → Bytes f → twice ≡ 0 → used ≡ n → Blank seen 49 256 → Decides (Unmarked f (o + node48Children) seen) r → Decides (IndexedHere f o n) r
+    marked-end bytes z q above D =
         handed D
         (λ U. record {
-          place = λ d l. M .place d (omega arith);
-          once = λ d c x y. M .once d c (omega arith) (omega arith);
+          place = λ d l.
+              ⊎-elim (λ x. absurd (M .clear (at d) d (above (at d) x (bytes (o + node48Index + d))) (omega arith) refl (omega arith))) (λ x. omega arith)
+              (lt-or-le 48 (at d));
+          once = λ d c x y. M .once z d c (omega arith) (omega arith);
           unused = λ p l N.
-              ⊎-elim (λ z. U p l z)
-              (λ z.
-              let B = M .named (p + 1) z in
-              absurd (N (record { entry = B .entry; below = omega (arith, B .below); is = B .is }))) (same-or-not (getD seen (p + 1) 0) 0);
-          counted = sym (counted-end (child48 f o) b used e (M .counted)) ∙ q;
+              ⊎-elim (λ e. U p l e)
+              (λ e.
+              let B = M .named (p + 1) e in
+              absurd (N (record { entry = B .entry; below = omega (arith, B .below); is = B .is }))) (same-or-not (mark (p + 1)) 0);
+          counted = sym (counted-end (child48 f o) b used all (M .counted)) ∙ q;
         })
         (λ H p l g. H .unused p l (λ N. M .clear (p + 1) (N .entry) g (omega (arith, N .below)) (N .is) (omega arith)))

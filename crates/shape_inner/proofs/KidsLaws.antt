@@ -13,7 +13,7 @@ use lib.ListN.{length}
 use Rattle.layout.specs.Number.{le}
 use Rattle.layout.specs.Place.{node256Children}
 use Rattle.model.specs.Body.{Asc, lookKid, slotOrNone}
-use Rattle.shape_inner.specs.Inner.{prepend, kidsFrom, child256}
+use Rattle.shape_inner.specs.Inner.{prepend, kidsFrom, inUse, child256}
 
 -- ---- one look-up
 
@@ -112,11 +112,11 @@ module _ (child : ℕ → Option ℕ) where
   unfolding kidsFrom prepend
   count-some b n m x e c = rw (e, add-one m, add-one b, c) (omega arith)
 
-  pub counted-none : (b used : ℕ) → b < 256 → child b ≡ none → Counted b used → Counted (b + 1) used
-  counted-none b used l c h = omega (arith, count-none b (256 - b) (256 - (b + 1)) (omega arith) c)
-
-  pub counted-some : (b used x : ℕ) → b < 256 → child b ≡ some x → Counted b used → Counted (b + 1) (used + 1)
-  counted-some b used x l c h = omega (arith, count-some b (256 - b) (256 - (b + 1)) x (omega arith) c)
+  -- one byte more: its child is x, or named by x, and there is none where x is 0
+  pub counted-more : (b used x c : ℕ) → b < 256 → (x ≡ 0 → child b ≡ none) → ((x ≡ 0 → ⊥) → child b ≡ some c) → Counted b used → Counted (b + 1) (used + inUse x)
+  unfolding inUse
+  counted-more b used zero c l n s h = omega (arith, count-none b (256 - b) (256 - (b + 1)) (omega arith) (n refl))
+  counted-more b used (suc x) c l n s h = omega (arith, count-some b (256 - b) (256 - (b + 1)) c (omega arith) (s (λ e. omega arith)))
 
   kids-end : (b n : ℕ) → n ≡ 0 → length (kidsFrom child b n) ≡ 0
   unfolding kidsFrom
@@ -124,6 +124,22 @@ module _ (child : ℕ → Option ℕ) where
 
   pub counted-end : (b used : ℕ) → b ≡ 256 → Counted b used → used ≡ length (kidsFrom child 0 256)
   counted-end b used e h = omega (arith, kids-end b (256 - b) (omega arith))
+
+-- ---- a child or an entry in use
+
+pub in-use-zero : (x : ℕ) → x ≡ 0 → 0 ≡ inUse x
+unfolding inUse
+in-use-zero x e = rw e refl
+
+pub in-use-other : (x : ℕ) → (x ≡ 0 → ⊥) → 1 ≡ inUse x
+unfolding inUse
+in-use-other zero n = absurd (n refl)
+in-use-other (suc x) n = refl
+
+pub in-use-one : (x : ℕ) → inUse x ≤ 1
+unfolding inUse
+in-use-one zero = omega arith
+in-use-one (suc x) = omega arith
 
 -- ---- a Node256, child by child
 
@@ -136,9 +152,7 @@ unfolding slotOrNone
 slot-some zero n = absurd (n refl)
 slot-some (suc s) n = refl
 
-module _ (f : List ℕ) (o b used : ℕ) (l : b < 256) where
-  pub direct-skip : le 4 f (o + node256Children + 4 * b) ≡ 0 → Counted (child256 f o) b used → Counted (child256 f o) (b + 1) used
-  direct-skip z = counted-none (child256 f o) b used l (slot-none (le 4 f (o + node256Children + 4 * b)) z)
-
-  pub direct-more : (le 4 f (o + node256Children + 4 * b) ≡ 0 → ⊥) → Counted (child256 f o) b used → Counted (child256 f o) (b + 1) (used + 1)
-  direct-more n = counted-some (child256 f o) b used (le 4 f (o + node256Children + 4 * b)) l (slot-some (le 4 f (o + node256Children + 4 * b)) n)
+pub direct-more : (f : List ℕ) (o b used : ℕ) → b < 256 → Counted (child256 f o) b used → Counted (child256 f o) (b + 1) (used + inUse (le 4 f (o + node256Children + 4 * b)))
+direct-more f o b used l =
+    let s = le 4 f (o + node256Children + 4 * b) in
+    counted-more (child256 f o) b used s s l (slot-none s) (slot-some s)

@@ -39,6 +39,11 @@ pub record SortedHere (f : List ℕ) (at cap n : ℕ) : Type 0 where
 
 -- ---- Node48 and Node256
 
+-- 1 for a child or an entry that is in use, which is one that is not 0
+unfoldable pub inUse : ℕ → ℕ
+inUse zero = 0
+inUse (suc x) = 1
+
 -- a byte with its child, if it has one, before others
 unfoldable pub prepend : ℕ → Option ℕ → List (ℕ × ℕ) → List (ℕ × ℕ)
 prepend b none ks = ks

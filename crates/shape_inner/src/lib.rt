@@ -13,7 +13,7 @@ ghost use lib.ListN.{length};
 ghost use Rattle.layout.specs.Kind.{bodySize};
 ghost use Rattle.model.specs.Body.{Asc};
 ghost use Rattle.pieces.specs.Decides.{Decides};
-ghost use Rattle.shape_inner.specs.Inner.{CountFits, InnerHere, sortedKids, Unused, SortedHere, Unmarked, IndexedHere, kids256};
+ghost use Rattle.shape_inner.specs.Inner.{CountFits, InnerHere, sortedKids, Unused, SortedHere, inUse, Unmarked, IndexedHere, kids256};
 
 // Bytes of a child.
 const CHILD_SIZE: usize = 4;
@@ -22,6 +22,12 @@ const CHILD_SIZE: usize = 4;
 const ZERO: usize = 2;
 
 const ZERO_MORE: usize = 4;
+
+// The entries of a Node48's index, and the children of a Node256: one for each byte.
+const ENTRIES: usize = 256;
+
+// The places of a Node48's children, which the entries number from 1.
+const PLACES: usize = 48;
 
 // ---- Node4 and Node16
 
@@ -73,15 +79,24 @@ fn sorted_good(f: &[u8], at: usize, cap: usize, n: usize) -> bool
     unused(f, at, cap, n)
 }
 
+// ---- Node48 and Node256
+
+// 1 for a child or an entry that is in use, 0 for one that is 0. A loop that counts so goes one way, whatever the bytes are.
+fn in_use(x: usize) -> usize
+    ensures { λ r. ⌜ (r ≡ inUse x) × (r ≤ 1) ⌝ }
+{
+    if x == 0 { 0 } else { 1 }
+}
+
 // ---- Node48
 
 // The children at the places that are not marked are zero.
 fn unmarked(f: &[u8], at: usize, seen: &[u8]) -> bool
-    requires { ⌜ (at + 192 ≤ length (now f)) × (length (now seen) ≡ 49) ⌝ }
+    requires { ⌜ (at + 192 ≤ length (now f)) × (length (now seen) ≡ 256) ⌝ }
     ensures { λ r. ⌜ Decides (Unmarked (now (f .entry)) at (now (seen .entry))) r ⌝ }
 {
     let mut p = 0;
-    while p < 48 {
+    while p < PLACES {
         if seen[p + 1] != 0 {
             p += 1;
             continue;
@@ -99,27 +114,28 @@ fn indexed_good(f: &[u8], o: usize, n: usize) -> bool
     requires { ⌜ o + 456 ≤ length (now f) ⌝ }
     ensures { λ r. ⌜ Decides (IndexedHere (now (f .entry)) o n) r ⌝ }
 {
-    // the places that have been named, from 1
-    let mut seen: [u8; 49] = [0; 49];
-    let mut used = 0;
+    let index = o + Node48::INDEX;
+    // for each number that an entry can hold as a place: the number itself once it has been named
+    let mut seen: [u8; ENTRIES] = [0; ENTRIES];
+    // not 0 once a place has been named again
+    let mut twice: u8 = 0;
+    let mut used: usize = 0;
     let mut b = 0;
-    while b < 256 {
-        let p = number::read1(f, o + Node48::INDEX + b);
-        if p == 0 {
-            b += 1;
-            continue;
-        }
-        if p > 48 {
-            return false;
-        }
-        if seen[p] != 0 {
-            return false;
-        }
-        seen[p] = 1;
-        used += 1;
+    while b < ENTRIES {
+        let p = f[index + b];
+        twice = twice | seen[p as usize];
+        seen[p as usize] = p;
+        used += in_use(p as usize);
         b += 1;
     }
+    if twice != 0 {
+        return false;
+    }
     if used != n {
+        return false;
+    }
+    // no entry is above the last place
+    if !pieces::all_zero(&seen, PLACES + 1, ENTRIES) {
         return false;
     }
     unmarked(f, o + Node48::CHILDREN, &seen)
@@ -134,12 +150,8 @@ fn direct_good(f: &[u8], o: usize, n: usize) -> bool
 {
     let mut used: usize = 0;
     let mut b = 0;
-    while b < 256 {
-        if number::read4(f, o + Node256::CHILDREN + CHILD_SIZE * b) == 0 {
-            b += 1;
-            continue;
-        }
-        used += 1;
+    while b < ENTRIES {
+        used += in_use(number::read4(f, o + Node256::CHILDREN + CHILD_SIZE * b));
         b += 1;
     }
     used == n

@@ -1,11 +1,11 @@
 -- `direct_good` decides how many children a Node256 has. Assumes nothing.
 use Prim.Native.Nat.{_-_, _≤_}
-use mathlib.Core.Path.{sym, _∙_}
+use mathlib.Core.Path.{sym, ap, _∙_}
 use native.Mathlib.Omega.{arith}
 use borrow.Author.Needs.{needs}
 use Rattle.pieces.proofs.DecideLaws.{by-eq}
-use Rattle.shape_inner.specs.Inner.{child256}
-use Rattle.shape_inner.proofs.KidsLaws.{Counted, counted-end, direct-skip, direct-more}
+use Rattle.shape_inner.specs.Inner.{inUse, child256}
+use Rattle.shape_inner.proofs.KidsLaws.{Counted, counted-end, direct-more}
 use Rattle.shape_inner.proofs.direct_good.Statement.{statement}
 use Rattle.shape_inner.proofs.direct_good.Tie as tie
 
@@ -30,6 +30,12 @@ add-read4-2 c = search needs
 read4-requires : tie.Need-read4-requires Inv-loop μ-loop
 read4-requires c κs = search needs
 
+in-use-requires : tie.Need-in-use-requires Inv-loop μ-loop
+in-use-requires c κs = search needs
+
+add-used : tie.Need-add-used Inv-loop μ-loop
+add-used c = search needs
+
 add-b : tie.Need-add-b Inv-loop μ-loop
 add-b c = search needs
 
@@ -39,21 +45,8 @@ loop-less c = search needs
 loop-again : tie.Need-loop-again Inv-loop μ-loop
 loop-again c = let l = c .before .before .before in
     let a = l .before .before .args in
-    (omega arith, omega arith, direct-skip (a .f .now) (a .o) (l .loop .b) (l .loop .used) (omega arith) (omega arith) (l .loop .inv .2))
-
-add-used : tie.Need-add-used Inv-loop μ-loop
-add-used c = search needs
-
-add-b-2 : tie.Need-add-b-2 Inv-loop μ-loop
-add-b-2 c = search needs
-
-loop-less-2 : tie.Need-loop-less-2 Inv-loop μ-loop
-loop-less-2 c = search needs
-
-loop-again-2 : tie.Need-loop-again-2 Inv-loop μ-loop
-loop-again-2 c = let l = c .before .before .before in
-    let a = l .before .before .args in
-    (omega arith, omega arith, direct-more (a .f .now) (a .o) (l .loop .b) (l .loop .used) (omega arith) (λ e. c .if1 .left (omega arith)) (l .loop .inv .2))
+    let e = c .in-use .ensures .0 ∙ ap inUse (c .before .read4 .ensures .0) in
+    (omega arith, omega arith, rw e (direct-more (a .f .now) (a .o) (l .loop .b) (l .loop .used) (omega arith) (l .loop .inv .2)))
 
 returns : tie.Need-returns Inv-loop μ-loop
 returns c = let l = c .before in
@@ -72,11 +65,9 @@ direct-good-spec =
     mul-read4
     add-read4-2
     read4-requires
+    in-use-requires
+    add-used
     add-b
     loop-less
     loop-again
-    add-used
-    add-b-2
-    loop-less-2
-    loop-again-2
     returns)

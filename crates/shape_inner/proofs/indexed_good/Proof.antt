@@ -1,40 +1,61 @@
 -- `indexed_good` decides the body of a Node48; the loop's invariant is `Marked`, with IndexedLaws at each exit. Assumes nothing.
-use Prim.Native.Nat.{_+_, _-_, _≤_}
-use mathlib.Core.Path.{sym, _∙_, _≡_}
+use Prim.Native.Nat.{_+_, _-_, _<_, _≤_}
+use mathlib.Core.Path.{sym}
 use native.Mathlib.Omega.{arith}
 use borrow.Author.Needs.{needs}
-use Rattle.layout.proofs.NumberLaws.{le1}
+use Rattle.layout.specs.Number.{byteAt, Bytes}
 use Rattle.layout.specs.Place.{node48Index}
-use Rattle.layout.specs.Number.{byteAt}
-use Rattle.pieces.proofs.DecideLaws.{denied}
-use Rattle.shape_inner.proofs.IndexedLaws.{Marked, marked-none, marked-skip, marked-more, marked-far, marked-twice, marked-count, marked-end}
+use Rattle.pieces.proofs.DecideLaws.{denied, refuted, passed}
+use Rattle.shape_inner.proofs.IndexedLaws.{Marked, marked-none, marked-more, marked-far, marked-twice, marked-count, marked-end}
 use Rattle.shape_inner.proofs.indexed_good.Statement.{statement}
 use Rattle.shape_inner.proofs.indexed_good.Tie as tie
 
 abbrev Inv-loop : tie.InvT-loop
-Inv-loop f o n seen₀ used₀ b₀ seen used b = (b ≤ 256) × Marked f o b seen used
+Inv-loop f o n index seen₀ twice₀ used₀ b₀ seen twice used b = (b ≤ 256) × Marked f o b seen twice used
 
 abbrev μ-loop : tie.MeasureT-loop
-μ-loop f o n seen₀ used₀ b₀ seen used b = 256 - b
+μ-loop f o n index seen₀ twice₀ used₀ b₀ seen twice used b = 256 - b
 
--- what the entry that was read holds
-entry : (m : tie.After-read1 Inv-loop μ-loop)
-    → m .read1 .result ≡ byteAt (m .before .before .before .before .args .f .now) (m .before .before .before .before .args .o + node48Index + m .before .before .loop .b)
-entry m =
-    let a = m .before .before .before .before .args in
-    m .read1 .ensures .0 ∙ le1 (a .f .now) (a .o + node48Index + m .before .before .loop .b)
+add-index : tie.Need-add-index Inv-loop μ-loop
+add-index c = search needs
+
+-- what is lent is bytes
+bytes : (s : tie.After-shared-slice-known Inv-loop μ-loop) → Bytes (s .before .args .f .now)
+bytes s a = s .shared-slice-known .given a .fits
+
+-- so is the entry that is read
+entry : (l : tie.At-loop Inv-loop μ-loop) → byteAt (l .before .before .args .f .now) (l .before .before .args .o + node48Index + l .loop .b) < 256
+entry l = bytes (l .before) (l .before .before .args .o + node48Index + l .loop .b)
 
 loop-holds : tie.Need-loop-holds Inv-loop μ-loop
 loop-holds c = let a = c .before .args in (omega arith, marked-none (a .f .now) (a .o))
 
-add-read1 : tie.Need-add-read1 Inv-loop μ-loop
-add-read1 c = search needs
+add-p : tie.Need-add-p Inv-loop μ-loop
+add-p c = search needs
 
-add-read1-2 : tie.Need-add-read1-2 Inv-loop μ-loop
-add-read1-2 c = search needs
+shared-slice-read-p : tie.Need-shared-slice-read-p Inv-loop μ-loop
+shared-slice-read-p c = search needs
 
-read1-requires : tie.Need-read1-requires Inv-loop μ-loop
-read1-requires c κs = search needs
+cast-twice : tie.Need-cast-twice Inv-loop μ-loop
+cast-twice c = let small = entry (c .before .before) in omega arith
+
+array-read-twice : tie.Need-array-read-twice Inv-loop μ-loop
+array-read-twice c = entry (c .before .before)
+
+cast-seen : tie.Need-cast-seen Inv-loop μ-loop
+cast-seen c = let small = entry (c .before .before) in omega arith
+
+array-write-seen : tie.Need-array-write-seen Inv-loop μ-loop
+array-write-seen c = entry (c .before .before)
+
+cast-in-use : tie.Need-cast-in-use Inv-loop μ-loop
+cast-in-use c = let small = entry (c .before .before) in omega arith
+
+in-use-requires : tie.Need-in-use-requires Inv-loop μ-loop
+in-use-requires c κs = search needs
+
+add-used : tie.Need-add-used Inv-loop μ-loop
+add-used c = let l = c .before .before .before in omega (arith, l .loop .inv .1 .few)
 
 add-b : tie.Need-add-b Inv-loop μ-loop
 add-b c = search needs
@@ -43,66 +64,48 @@ loop-less : tie.Need-loop-less Inv-loop μ-loop
 loop-less c = search needs
 
 loop-again : tie.Need-loop-again Inv-loop μ-loop
-loop-again c = let m = c .before in
-    let l = m .before .before in
+loop-again c = let l = c .before .before .before in
     let a = l .before .before .args in
-    let e = entry m in
-    (omega arith, marked-skip (a .f .now) (a .o) (l .loop .b) (l .loop .seen) (l .loop .used) (l .loop .inv .1) (omega arith) (omega arith))
+    (omega arith, rw (c .in-use .ensures .0) (marked-more (a .f .now) (a .o) (l .loop .b) (l .loop .seen) (l .loop .twice) (l .loop .used) (l .loop .inv .1) (bytes (l .before)) (omega arith)))
 
 returns : tie.Need-returns Inv-loop μ-loop
-returns c = let m = c .before .before in
-    let l = m .before .before in
+returns c = let l = c .before .before in
     let a = l .before .before .args in
-    let e = entry m in
-    denied (marked-far (a .f .now) (a .o) (l .loop .b) (l .loop .seen) (l .loop .used) (l .loop .inv .1) (a .n) (omega arith) (omega arith))
-
-array-read-if3 : tie.Need-array-read-if3 Inv-loop μ-loop
-array-read-if3 c = let l = c .before .before .before .before in omega (arith, l .loop .inv .1 .sized)
+    denied (marked-twice (a .f .now) (a .o) (l .loop .b) (l .loop .seen) (l .loop .twice) (l .loop .used) (l .loop .inv .1) (a .n) (omega arith) (c .if1 .taken))
 
 returns-2 : tie.Need-returns-2 Inv-loop μ-loop
-returns-2 c = let m = c .before .before .before in
-    let l = m .before .before in
+returns-2 c = let l = c .before .before .before in
     let a = l .before .before .args in
-    let e = entry m in
-    denied (marked-twice (a .f .now) (a .o) (l .loop .b) (l .loop .seen) (l .loop .used) (l .loop .inv .1) (a .n) (omega arith) (omega arith) (λ z. c .if3 .taken (rw e z)))
+    denied (marked-count (a .f .now) (a .o) (l .loop .b) (l .loop .seen) (l .loop .twice) (l .loop .used) (l .loop .inv .1) (a .n) (omega arith) (c .if2 .taken))
 
-array-write-seen : tie.Need-array-write-seen Inv-loop μ-loop
-array-write-seen c = let l = c .before .before .before .before .before in omega (arith, l .loop .inv .1 .sized)
+slice-aggregate-all-zero : tie.Need-slice-aggregate-all-zero Inv-loop μ-loop
+slice-aggregate-all-zero c = sym (c .before .before .before .before .loop .inv .1 .sized)
 
-add-used : tie.Need-add-used Inv-loop μ-loop
-add-used c = let l = c .before .before .before .before .before in omega (arith, l .loop .inv .1 .few)
+add-all-zero : tie.Need-add-all-zero Inv-loop μ-loop
+add-all-zero c = search needs
 
-add-b-2 : tie.Need-add-b-2 Inv-loop μ-loop
-add-b-2 c = search needs
-
-loop-less-2 : tie.Need-loop-less-2 Inv-loop μ-loop
-loop-less-2 c = search needs
-
-loop-again-2 : tie.Need-loop-again-2 Inv-loop μ-loop
-loop-again-2 c = let m = c .before .before .before in
-    let l = m .before .before in
-    let a = l .before .before .args in
-    let e = entry m in
-    (omega arith, rw e (marked-more (a .f .now) (a .o) (l .loop .b) (l .loop .seen) (l .loop .used) (l .loop .inv .1) (omega arith) (omega arith) (omega arith) (rw e at (c .if3 .left))))
+all-zero-requires : tie.Need-all-zero-requires Inv-loop μ-loop
+all-zero-requires c κs = let l = c .before .before .before .before in (omega arith, omega (arith, l .loop .inv .1 .sized))
 
 returns-3 : tie.Need-returns-3 Inv-loop μ-loop
-returns-3 c = let l = c .before .before in
+returns-3 c = let l = c .before .before .before .before .before .before in
     let a = l .before .before .args in
-    denied (marked-count (a .f .now) (a .o) (l .loop .b) (l .loop .seen) (l .loop .used) (l .loop .inv .1) (a .n) (omega arith) (c .if4 .taken))
+    denied (marked-far (a .f .now) (a .o) (l .loop .b) (l .loop .seen) (l .loop .twice) (l .loop .used) (l .loop .inv .1) (a .n) (omega arith) (refuted (c .before .all-zero .ensures) (c .if3 .taken)))
 
 add-unmarked : tie.Need-add-unmarked Inv-loop μ-loop
 add-unmarked c = search needs
 
 slice-aggregate-unmarked : tie.Need-slice-aggregate-unmarked Inv-loop μ-loop
-slice-aggregate-unmarked c = sym (c .before .before .before .loop .inv .1 .sized)
+slice-aggregate-unmarked c = sym (c .before .before .before .before .before .before .before .loop .inv .1 .sized)
 
 unmarked-requires : tie.Need-unmarked-requires Inv-loop μ-loop
-unmarked-requires c κs = let l = c .before .before .before in (omega arith, l .loop .inv .1 .sized)
+unmarked-requires c κs = let l = c .before .before .before .before .before .before .before in (omega arith, l .loop .inv .1 .sized)
 
 returns-4 : tie.Need-returns-4 Inv-loop μ-loop
-returns-4 c = let l = c .before .before .before .before in
+returns-4 c = let l = c .before .before .before .before .before .before .before .before in
     let a = l .before .before .args in
-    marked-end (a .f .now) (a .o) (l .loop .b) (l .loop .seen) (l .loop .used) (l .loop .inv .1) (a .n) (omega arith) (c .before .before .if4 .left) (c .unmarked .ensures)
+    let good = c .before .before in
+    marked-end (a .f .now) (a .o) (l .loop .b) (l .loop .seen) (l .loop .twice) (l .loop .used) (l .loop .inv .1) (a .n) (omega arith) (bytes (l .before)) (good .before .before .before .before .if1 .left) (good .before .before .before .if2 .left) (passed (good .before .all-zero .ensures) (good .if3 .left)) (c .unmarked .ensures)
 
 pub indexed-good-spec : {M : Type 1} → statement M
 indexed-good-spec =
@@ -110,21 +113,25 @@ indexed-good-spec =
     (tie.spec
     Inv-loop
     μ-loop
+    add-index
     loop-holds
-    add-read1
-    add-read1-2
-    read1-requires
+    add-p
+    shared-slice-read-p
+    cast-twice
+    array-read-twice
+    cast-seen
+    array-write-seen
+    cast-in-use
+    in-use-requires
+    add-used
     add-b
     loop-less
     loop-again
     returns
-    array-read-if3
     returns-2
-    array-write-seen
-    add-used
-    add-b-2
-    loop-less-2
-    loop-again-2
+    slice-aggregate-all-zero
+    add-all-zero
+    all-zero-requires
     returns-3
     add-unmarked
     slice-aggregate-unmarked
