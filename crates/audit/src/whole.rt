@@ -109,11 +109,22 @@ fn over(f: &[u8], map: &mut [u64], free: &mut [usize; Kind::TABLE]) -> bool
     closes(f, l.slots, l.bytes, r.leaves)
 }
 
+// Words of the map, 64 units each, and the longest frames that the smaller maps are for.
+const SMALLEST_MAP: usize = 8;
+
+const SMALL_MAP: usize = 32;
+
+const LARGE_MAP: usize = 1024;
+
+const SMALLEST_FRAME: usize = 4096;
+
+const SMALL_FRAME: usize = 16384;
+
 fn smallest(f: &[u8], free: &mut [usize; Kind::TABLE]) -> bool
     requires { ⌜ HeaderFits (now f) × (length (now f) ≤ 4096) × (length (now free) ≡ 9) ⌝ }
     ensures { λ r. ⌜ WholeTold (now (f .entry)) r (now (free .exit)) ⌝ }
 {
-    let mut map: [u64; 8] = [0; 8];
+    let mut map: [u64; SMALLEST_MAP] = [0; SMALLEST_MAP];
     over(f, &mut map, free)
 }
 
@@ -121,7 +132,7 @@ fn small(f: &[u8], free: &mut [usize; Kind::TABLE]) -> bool
     requires { ⌜ HeaderFits (now f) × (length (now f) ≤ 16384) × (length (now free) ≡ 9) ⌝ }
     ensures { λ r. ⌜ WholeTold (now (f .entry)) r (now (free .exit)) ⌝ }
 {
-    let mut map: [u64; 32] = [0; 32];
+    let mut map: [u64; SMALL_MAP] = [0; SMALL_MAP];
     over(f, &mut map, free)
 }
 
@@ -129,7 +140,7 @@ fn large(f: &[u8], free: &mut [usize; Kind::TABLE]) -> bool
     requires { ⌜ HeaderFits (now f) × (length (now free) ≡ 9) ⌝ }
     ensures { λ r. ⌜ WholeTold (now (f .entry)) r (now (free .exit)) ⌝ }
 {
-    let mut map: [u64; 1024] = [0; 1024];
+    let mut map: [u64; LARGE_MAP] = [0; LARGE_MAP];
     over(f, &mut map, free)
 }
 
@@ -138,10 +149,10 @@ pub fn all(f: &[u8], free: &mut [usize; Kind::TABLE]) -> bool
     requires { ⌜ HeaderFits (now f) × (length (now free) ≡ 9) ⌝ }
     ensures { λ r. ⌜ WholeTold (now (f .entry)) r (now (free .exit)) ⌝ }
 {
-    if f.len() <= 4096 {
+    if f.len() <= SMALLEST_FRAME {
         return smallest(f, free);
     }
-    if f.len() <= 16384 {
+    if f.len() <= SMALL_FRAME {
         return small(f, free);
     }
     large(f, free)

@@ -6,12 +6,15 @@ ghost use Prim.Native.Nat.{_+_, _*_, _%_, _^_, _<_, _≤_};
 ghost use lib.ListN.{length};
 ghost use Rattle.claims.specs.Units.{Mask, Run, Claimed, Taken};
 
+// Units in a word of the map.
+const WORD: usize = 64;
+
 // The bits lo to lo + n - 1 of a word.
 fn mask(lo: usize, n: usize) -> u64
     requires { ⌜ (1 ≤ n) × (lo + n ≤ 64) ⌝ }
     ensures { λ r. ⌜ Mask lo n r ⌝ }
 {
-    (0xffff_ffff_ffff_ffff >> (64 - n)) << lo
+    (0xffff_ffff_ffff_ffff >> (WORD - n)) << lo
 }
 
 // How many units from at on stand in at's word, left at most.
@@ -19,7 +22,7 @@ fn within(at: usize, left: usize) -> usize
     requires { ⌜ 1 ≤ left ⌝ }
     ensures { λ r. ⌜ Run at left r ⌝ }
 {
-    let room = 64 - at % 64;
+    let room = WORD - at % WORD;
     if left < room { left } else { room }
 }
 
@@ -28,8 +31,8 @@ fn claim_word(map: &mut [u64], from: usize, count: usize) -> bool
     requires { ⌜ (1 ≤ count) × (from % 64 + count ≤ 64) × (from + count ≤ 64 * length (now map)) ⌝ }
     ensures { λ r. ⌜ (r ≡ true → Claimed from count (now (map .entry)) (now (map .exit))) × (r ≡ false → Taken from count (now (map .entry))) ⌝ }
 {
-    let bits = mask(from % 64, count);
-    let word = from / 64;
+    let bits = mask(from % WORD, count);
+    let word = from / WORD;
     let old = map[word];
     if old & bits != 0 {
         return false;
@@ -47,8 +50,8 @@ fn claim_across(map: &mut [u64], from: usize, count: usize) -> bool
     let mut left = count;
     while left > 0 {
         let n = within(at, left);
-        let bits = mask(at % 64, n);
-        let word = at / 64;
+        let bits = mask(at % WORD, n);
+        let word = at / WORD;
         let old = map[word];
         if old & bits != 0 {
             return false;
@@ -68,7 +71,7 @@ pub fn claim(map: &mut [u64], from: usize, count: usize) -> bool
     if count == 0 {
         return true;
     }
-    if from % 64 + count <= 64 {
+    if from % WORD + count <= WORD {
         return claim_word(map, from, count);
     }
     claim_across(map, from, count)

@@ -8,6 +8,11 @@ pub enum Number {
     None,
 }
 
+// the digits 0 and 9
+const ZERO: usize = 48;
+
+const NINE: usize = 57;
+
 fn wide(x: u8) -> usize
     ensures { λ r. ⌜ (r ≡ x) × (r < 256) ⌝ }
 {
@@ -28,13 +33,13 @@ pub fn read(s: &[u8]) -> Number
     let mut i = 0;
     while i < s.len() {
         let b = wide(s[i]);
-        if b < 48 {
+        if b < ZERO {
             return Number::None;
         }
-        if b > 57 {
+        if b > NINE {
             return Number::None;
         }
-        n = 10 * n + (b - 48);
+        n = 10 * n + (b - ZERO);
         i += 1;
     }
     Number::Is(n)

@@ -5,6 +5,9 @@ pub mod sorted;
 // Bytes of a child.
 pub const CHILD_SIZE: usize = 4;
 
+// How many bytes there are.
+pub const BYTES: usize = 256;
+
 // A child with its byte; where a search finds none, byte 256 and slot 0.
 pub struct Child {
     pub byte: usize,

@@ -1,5 +1,6 @@
 // Node4 and Node16. A body at o has cap places, its bytes start at o + bytes and its children right after them; the first places
 // are in use, as many as the count, with bytes ascending.
+use crate::BYTES;
 use crate::CHILD_SIZE;
 use crate::Child;
 use crate::Seat;
@@ -93,7 +94,10 @@ pub fn next(f: &[u8], o: usize, cap: usize, bytes: usize, from: usize) -> Child
         }
         i += 1;
     }
-    Child { byte: 256, slot: 0 }
+    Child {
+        byte: BYTES,
+        slot: 0,
+    }
 }
 
 // A child more: the bytes and the children above it move up.

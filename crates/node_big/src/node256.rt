@@ -1,6 +1,7 @@
 // Node256: the child of a byte stands at the byte's place, 0 where there is none.
 use fields::body::Node;
 use fields::body::Node256;
+use node::BYTES;
 use node::CHILD_SIZE;
 use node::Child;
 use node::Seat;
@@ -35,14 +36,17 @@ pub fn next(f: &[u8], o: usize, from: usize) -> Child
     ensures { λ r. ⌜ ((ks : List (ℕ × ℕ)) → Node256At (now (f .entry)) o ks → (r .byte ≡ nextKid from ks .0) × (r .slot ≡ nextKid from ks .1)) ⌝ }
 {
     let mut b = from;
-    while b < 256 {
+    while b < BYTES {
         let s = Node::child(f, o + Node256::CHILDREN + CHILD_SIZE * b);
         if 0 < s {
             return Child { byte: b, slot: s };
         }
         b += 1;
     }
-    Child { byte: 256, slot: 0 }
+    Child {
+        byte: BYTES,
+        slot: 0,
+    }
 }
 
 // The child of byte b is slot, and n children are in use.

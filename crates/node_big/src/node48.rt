@@ -2,6 +2,7 @@
 use fields::body::Node;
 use fields::body::Node48;
 use layout::number;
+use node::BYTES;
 use node::CHILD_SIZE;
 use node::Child;
 use node::Seat;
@@ -16,6 +17,9 @@ ghost use Rattle.model.specs.Body.{Node48At, lookKid};
 ghost use Rattle.node.specs.Kids.{orZero, insertKid, removeKid, nextKid};
 ghost use Rattle.node.specs.Moved.{Only};
 ghost use Rattle.node_big.specs.Indexed.{Lowest, In48, Open48, Has48, Wrote48};
+
+// The number after the last place, which is 48.
+const PAST: u8 = 49;
 
 // The child of byte b, 0 where there is none, and where it stands.
 pub fn seat(f: &[u8], o: usize, b: u8) -> Seat
@@ -45,7 +49,7 @@ pub fn next(f: &[u8], o: usize, from: usize) -> Child
     ensures { λ r. ⌜ ((ks : List (ℕ × ℕ)) → Node48At (now (f .entry)) o ks → (r .byte ≡ nextKid from ks .0) × (r .slot ≡ nextKid from ks .1)) ⌝ }
 {
     let mut b = from;
-    while b < 256 {
+    while b < BYTES {
         let p = number::read1(f, o + Node48::INDEX + b);
         if 0 < p {
             let s = Node::child(f, o + Node48::CHILDREN + CHILD_SIZE * (p - 1));
@@ -53,7 +57,10 @@ pub fn next(f: &[u8], o: usize, from: usize) -> Child
         }
         b += 1;
     }
-    Child { byte: 256, slot: 0 }
+    Child {
+        byte: BYTES,
+        slot: 0,
+    }
 }
 
 // The lowest place from 1 that no entry of the index at `at` names, or 49.
@@ -63,10 +70,10 @@ pub fn lowest(f: &[u8], at: usize) -> usize
 {
     let mut place: u8 = 1;
     let found = 'places: loop {
-        if 49 <= place {
+        if PAST <= place {
             break 'places place;
         }
-        for i in 0..256 {
+        for i in 0..BYTES {
             if f[at + i] == place {
                 place += 1;
                 continue 'places;

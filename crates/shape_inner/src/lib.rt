@@ -29,6 +29,11 @@ const ENTRIES: usize = 256;
 // The places of a Node48's children, which the entries number from 1.
 const PLACES: usize = 48;
 
+// The places of a Node4 and of a Node16.
+const NODE4_PLACES: usize = 4;
+
+const NODE16_PLACES: usize = 16;
+
 // ---- Node4 and Node16
 
 // The n bytes at a place ascend.
@@ -183,7 +188,7 @@ pub fn inner_good(f: &[u8], o: usize, kind: usize) -> bool
         if !count_fits(Kind::NODE4, n) {
             return false;
         }
-        return sorted_good(f, o + Node4::BYTES, 4, n);
+        return sorted_good(f, o + Node4::BYTES, NODE4_PLACES, n);
     }
     if number::read4(f, o + ZERO_MORE) != 0 {
         return false;
@@ -192,7 +197,7 @@ pub fn inner_good(f: &[u8], o: usize, kind: usize) -> bool
         if !count_fits(Kind::NODE16, n) {
             return false;
         }
-        return sorted_good(f, o + Node16::BYTES, 16, n);
+        return sorted_good(f, o + Node16::BYTES, NODE16_PLACES, n);
     }
     if kind == Kind::NODE48 {
         if !count_fits(Kind::NODE48, n) {
