@@ -1,4 +1,4 @@
-// The header of a frame: its fields lie at the places below, each is read or written by itself, and all by value.
+// The header of a frame: its fields lie at the places below, each is read or written by itself, and all are written by value.
 use layout::number;
 ghost use mathlib.Core.Path.{_≡_};
 ghost use Prim.Native.Nat.{_≤_, _<_};

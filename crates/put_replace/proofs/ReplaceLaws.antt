@@ -1,12 +1,10 @@
 -- Put of a key that is there: the Leaf in the hole gets another value. Assumes nothing.
-use Prim.Native.Nat.{ℕ, _+_, _-_, _*_, _/_, _%_, _<_, _≤_}
+use Prim.Native.Nat.{ℕ, _+_, _<_, _≤_}
 use mathlib.Core.Path.{_≡_, refl, sym, ap, subst, _∙_}
 use mathlib.Core.List.{List, [], _∷_, _++_}
 use mathlib.Core.Bool.{false}
 use native.Mathlib.Omega.{arith}
-use native.Mathlib.Decide.{decLt}
-use lib.ListN.{length, getD, length-append, List·getD-append}
-use lib.Seq.{getD-append-add}
+use lib.ListN.{length, length-append, List·getD-append}
 use borrow.Author.Tests.{eq-eqb, ne-eqb}
 use Rattle.layout.specs.Number.{byteAt, le, Bytes}
 use Rattle.layout.proofs.NumberLaws.{le-lt}
@@ -39,7 +37,7 @@ use Rattle.between.proofs.TreeLaws.{sum-none, leaf-sum, body-kept}
 use Rattle.between.proofs.HoleLaws.{suits-any, plug-sum}
 use Rattle.between.proofs.LeadLaws.{leaf-look}
 use Rattle.between.proofs.WorkLaws.{standsView, stands-sum, work-close, work-extend, work-turn, work-write, work-paste, work-retire, first-owns, any-write, make-leaf, leafy-leaf}
-use Rattle.between.proofs.EditLaws.{leaf-written}
+use Rattle.between.proofs.EditLaws.{leaf-written, text-of, up8-is}
 use Rattle.between.proofs.ChangeLaws.{changed-only}
 use Rattle.between.proofs.SinceLaws.{stepped-start, since-start, since-also, since-extend, since-write, since-retire}
 use Rattle.between.proofs.OutsideLaws.{among-here}
@@ -48,21 +46,6 @@ use Rattle.leaf_new.specs.Put.{PutStep}
 use Rattle.leaf_new.proofs.OpenLaws.{leaf-opened, leaf-loose, leaf-room}
 use Rattle.leaf_new.proofs.DoneLaws.{any-root, any-room, Edited, change-is, room-is, put-done}
 use Rattle.put_replace.specs.Put.{Present}
-
--- ---- key, then value
-
-text-of : (g : List ℕ) (e : ℕ) (k v : List ℕ) → ((a i : ℕ) → i < length k → a ≡ e + i → byteAt g a ≡ getD k i 0) → ((a i : ℕ) → i < length v → a ≡ e + length k + i → byteAt g a ≡ getD v i 0)
-    → (i : ℕ) → i < length (k ++ v) → byteAt g (e + i) ≡ getD (k ++ v) i 0
-text-of g e k v KK VV i h = elim (decLt i (length k)) [
-  | yes p ↦ KK (e + i) i p refl ∙ sym (List·getD-append k v 0 i p)
-  | no p ↦
-      let j = i - length k in
-      let ej : i ≡ length k + j = omega arith in
-      VV (e + i) j (omega (arith, length-append k v)) (omega arith) ∙ sym (ap (λ m. getD (k ++ v) m 0) ej ∙ getD-append-add k v j 0)
-]
-
-up8-is : (n : ℕ) → (n ≤ (n + 7) / 8 * 8) × ((n + 7) / 8 * 8 % 8 ≡ 0)
-up8-is n = (omega arith, omega arith)
 
 -- ---- what put makes of the Leaf
 
