@@ -1,11 +1,13 @@
 // The bodies of the kinds: a type for each carries its field places, counted from the body's start, and reads or writes its
 // fields. In what follows o is the place of a body, and f the frame or a part of it.
+use layout::kind;
+use layout::kind::Kind;
 use layout::number;
 ghost use mathlib.Core.Path.{_≡_};
-ghost use Prim.Native.Nat.{_+_, _≤_, _<_};
-ghost use lib.ListN.{length};
-ghost use Rattle.layout.specs.Number.{le, put};
-ghost use Rattle.layout.specs.Place.{leafExtent, leafKey, leafValue, prefixChild, prefixLength, nodeCount};
+ghost use Prim.Native.Nat.{_+_, _*_, _≤_, _<_};
+ghost use lib.ListN.{length, set};
+ghost use Rattle.layout.specs.Number.{byteAt, le, put};
+ghost use Rattle.layout.specs.Place.{leafExtent, leafKey, leafValue, prefixChild, prefixLength, nodeCount, nodeZero, node48Index, node48Children, node256Children};
 ghost use Rattle.fields.specs.Body.{putLeafBody};
 
 pub struct Leaf;
@@ -19,7 +21,7 @@ impl Leaf {
     // eight zero bytes
     pub const ZERO: usize = 8;
 
-    pub const SIZE: usize = 16;
+    pub const SIZE: usize = kind::BODY_SIZES[Kind::LEAF];
 
     // Where the extent lies, counted from the frame's start.
     pub fn extent(f: &[u8], o: usize) -> usize
@@ -69,7 +71,7 @@ impl Prefix {
     // the most bytes that a Prefix holds
     pub const MOST: usize = 112;
 
-    pub const SIZE: usize = 128;
+    pub const SIZE: usize = kind::BODY_SIZES[Kind::PREFIX];
 
     pub fn child(f: &[u8], o: usize) -> usize
         requires { ⌜ o + 128 ≤ length (now f) ⌝ }
@@ -100,11 +102,19 @@ impl Prefix {
     }
 }
 
-// What the four inner kinds share: the count, and children of four bytes each.
+// What the four inner kinds share: the count, zeros behind it, and children of four bytes each.
 pub struct Node;
 
 impl Node {
     pub const COUNT: usize = 0;
+    // two zero bytes, and in every kind but Node4 four more
+    pub const ZERO: usize = 2;
+
+    pub const ZERO_MORE: usize = 4;
+    // bytes of a child
+    pub const CHILD_SIZE: usize = 4;
+    // how many values a byte has: a Node48 has an entry for each of them, a Node256 a child
+    pub const BYTE_VALUES: usize = 256;
 
     pub fn count(f: &[u8], o: usize) -> usize
         requires { ⌜ o + 2 ≤ length (now f) ⌝ }
@@ -118,6 +128,22 @@ impl Node {
         ensures { λ _. ⌜ now (f .exit) ≡ put 2 (now (f .entry)) (o + nodeCount) n ⌝ }
     {
         number::write2(f, o + Node::COUNT, n);
+    }
+
+    // The bytes behind the count that are to be zero.
+    pub fn zero(f: &[u8], o: usize) -> usize
+        requires { ⌜ o + 4 ≤ length (now f) ⌝ }
+        ensures { λ r. ⌜ (r ≡ le 2 (now (f .entry)) (o + nodeZero)) × (r < 65536) ⌝ }
+    {
+        number::read2(f, o + Node::ZERO)
+    }
+
+    // And those behind them, in every kind but Node4.
+    pub fn zero_more(f: &[u8], o: usize) -> usize
+        requires { ⌜ o + 8 ≤ length (now f) ⌝ }
+        ensures { λ r. ⌜ (r ≡ le 4 (now (f .entry)) (o + (nodeZero + 2))) × (r < 4294967296) ⌝ }
+    {
+        number::read4(f, o + Node::ZERO_MORE)
     }
 
     // The child at a place of the frame.
@@ -142,6 +168,8 @@ impl Node4 {
     pub const BYTES: usize = 4;
 
     pub const CHILDREN: usize = 8;
+
+    pub const PLACES: usize = kind::MOST_CHILDREN[Kind::NODE4];
 }
 
 pub struct Node16;
@@ -150,6 +178,44 @@ impl Node16 {
     pub const BYTES: usize = 8;
 
     pub const CHILDREN: usize = 24;
+
+    pub const PLACES: usize = kind::MOST_CHILDREN[Kind::NODE16];
+}
+
+// What Node4 and Node16 share: a row of bytes and a row of children. The type of the kind says where in the body each of them starts (BYTES,
+// CHILDREN); in what follows `at` is that place in the frame, and i counts from 0.
+pub struct Rows;
+
+impl Rows {
+    // Of the bytes that start at a place, the i-th.
+    pub fn byte(f: &[u8], at: usize, i: usize) -> usize
+        requires { ⌜ at + i < length (now f) ⌝ }
+        ensures { λ r. ⌜ (r ≡ byteAt (now (f .entry)) (at + i)) × (r < 256) ⌝ }
+    {
+        number::read1(f, at + i)
+    }
+
+    pub fn set_byte(f: &mut [u8], at: usize, i: usize, b: u8)
+        requires { ⌜ at + i < length (now f) ⌝ }
+        ensures { λ _. ⌜ now (f .exit) ≡ set (now (f .entry)) (at + i) b ⌝ }
+    {
+        number::write1(f, at + i, b);
+    }
+
+    // Of the children that start at a place, the i-th.
+    pub fn child(f: &[u8], at: usize, i: usize) -> usize
+        requires { ⌜ at + 4 * i + 4 ≤ length (now f) ⌝ }
+        ensures { λ r. ⌜ (r ≡ le 4 (now (f .entry)) (at + 4 * i)) × (r < 4294967296) ⌝ }
+    {
+        Node::child(f, at + Node::CHILD_SIZE * i)
+    }
+
+    pub fn set_child(f: &mut [u8], at: usize, i: usize, slot: usize)
+        requires { ⌜ at + 4 * i + 4 ≤ length (now f) ⌝ }
+        ensures { λ _. ⌜ now (f .exit) ≡ put 4 (now (f .entry)) (at + 4 * i) slot ⌝ }
+    {
+        Node::set_child(f, at + Node::CHILD_SIZE * i, slot);
+    }
 }
 
 pub struct Node48;
@@ -158,10 +224,64 @@ impl Node48 {
     pub const INDEX: usize = 8;
 
     pub const CHILDREN: usize = 264;
+    // the entries name them by 1 to 48
+    pub const PLACES: usize = kind::MOST_CHILDREN[Kind::NODE48];
+
+    // The index entry of a byte.
+    pub fn entry(f: &[u8], o: usize, b: usize) -> usize
+        requires { ⌜ (o + 456 ≤ length (now f)) × (b < 256) ⌝ }
+        ensures { λ r. ⌜ (r ≡ byteAt (now (f .entry)) (o + node48Index + b)) × (r < 256) ⌝ }
+    {
+        number::read1(f, o + Node48::INDEX + b)
+    }
+
+    pub fn set_entry(f: &mut [u8], o: usize, b: usize, place: u8)
+        requires { ⌜ (o + 456 ≤ length (now f)) × (b < 256) ⌝ }
+        ensures { λ _. ⌜ now (f .exit) ≡ set (now (f .entry)) (o + node48Index + b) place ⌝ }
+    {
+        number::write1(f, o + Node48::INDEX + b, place);
+    }
+
+    // The i-th child from 0, which an entry names by i + 1.
+    pub fn child(f: &[u8], o: usize, i: usize) -> usize
+        requires { ⌜ (o + 456 ≤ length (now f)) × (i < 48) ⌝ }
+        ensures { λ r. ⌜ (r ≡ le 4 (now (f .entry)) (o + node48Children + 4 * i)) × (r < 4294967296) ⌝ }
+    {
+        Node::child(f, o + Node48::CHILDREN + Node::CHILD_SIZE * i)
+    }
+
+    pub fn set_child(f: &mut [u8], o: usize, i: usize, slot: usize)
+        requires { ⌜ (o + 456 ≤ length (now f)) × (i < 48) ⌝ }
+        ensures { λ _. ⌜ now (f .exit) ≡ put 4 (now (f .entry)) (o + node48Children + 4 * i) slot ⌝ }
+    {
+        Node::set_child(f, o + Node48::CHILDREN + Node::CHILD_SIZE * i, slot);
+    }
 }
 
 pub struct Node256;
 
 impl Node256 {
     pub const CHILDREN: usize = 8;
+
+    // The child of a byte.
+    pub fn child(f: &[u8], o: usize, b: usize) -> usize
+        requires { ⌜ (o + 1032 ≤ length (now f)) × (b < 256) ⌝ }
+        ensures { λ r. ⌜ (r ≡ le 4 (now (f .entry)) (o + node256Children + 4 * b)) × (r < 4294967296) ⌝ }
+    {
+        Node::child(f, o + Node256::CHILDREN + Node::CHILD_SIZE * b)
+    }
+
+    pub fn set_child(f: &mut [u8], o: usize, b: usize, slot: usize)
+        requires { ⌜ (o + 1032 ≤ length (now f)) × (b < 256) ⌝ }
+        ensures { λ _. ⌜ now (f .exit) ≡ put 4 (now (f .entry)) (o + node256Children + 4 * b) slot ⌝ }
+    {
+        Node::set_child(f, o + Node256::CHILDREN + Node::CHILD_SIZE * b, slot);
+    }
+}
+
+// Nothing but zeros.
+pub struct EmptyRoot;
+
+impl EmptyRoot {
+    pub const SIZE: usize = kind::BODY_SIZES[Kind::EMPTY_ROOT];
 }

@@ -1,10 +1,11 @@
 // The header of a frame: its fields lie at the places below, each is read or written by itself, and all are written by value.
+use layout::entry::Entry;
 use layout::number;
 ghost use mathlib.Core.Path.{_≡_};
 ghost use Prim.Native.Nat.{_≤_, _<_};
 ghost use lib.ListN.{length};
 ghost use Rattle.layout.specs.Number.{le, put};
-ghost use Rattle.layout.specs.Place.{atEdition, atF, atN, atD, atB, atU, atR, atX, atRoot, atHead};
+ghost use Rattle.layout.specs.Place.{atEdition, atF, atN, atD, atB, atU, atR, atX, atRoot, atHead, dataStart};
 ghost use Rattle.fields.specs.Header.{putHeader};
 
 pub struct Header {
@@ -49,9 +50,26 @@ impl Header {
     // zero from here to the end
     pub const AT_SPARE: usize = 50;
 
-    pub const SIZE: usize = 64;
+    // the entries begin behind it
+    pub const SIZE: usize = Entry::FIRST;
     // what the edition field of such a frame holds
     pub const EDITION: usize = 1;
+    // F is a multiple of 8 between these
+    pub const LEAST_LENGTH: usize = 1024;
+
+    pub const MOST_LENGTH: usize = 524288;
+    // N is even, and between these
+    pub const LEAST_SLOTS: usize = 8;
+
+    pub const MOST_SLOTS: usize = 10240;
+
+    // D of a frame that has n slots.
+    pub fn data_start_of(n: usize) -> usize
+        requires { ⌜ n ≤ 10240 ⌝ }
+        ensures { λ r. ⌜ r ≡ dataStart n ⌝ }
+    {
+        Header::SIZE + Entry::SIZE * n
+    }
 
     // ---- one field read
 

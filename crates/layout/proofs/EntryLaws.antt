@@ -1,14 +1,13 @@
--- A packed entry gives its parts back, the parts determine the entry, and an entry that was written is read. Assumes nothing.
+-- A packed entry gives its parts back, and an entry that was written is read. Assumes nothing.
 use Prim.Native.Nat.{ℕ, _+_, _%_, _<_, _≤_}
 use mathlib.Core.Path.{_≡_}
 use mathlib.Core.List.{List}
-use mathlib.Core.Logic.{⊎-elim, inl, inr}
 use native.Mathlib.Omega.{arith}
 use lib.ListN.{length}
 use Rattle.layout.specs.Number.{le, put}
 use Rattle.layout.specs.Place.{entryAt}
 use Rattle.layout.specs.Entry.{entryOf, entryPlace, entryHigh, placeOf, highOf}
-use Rattle.layout.proofs.NumberLaws.{lt-or-le, le-put, le-put-off}
+use Rattle.layout.proofs.NumberLaws.{le-put}
 
 -- ---- packed, then taken apart
 
@@ -21,23 +20,13 @@ place-of-entry high place h e = omega arith
 pub entry-lt : (high place : ℕ) → high < 32768 → place < 1048576 → entryOf high place < 4294967296
 entry-lt high place h k = omega arith
 
-pub entry-inj : (high place high' place' : ℕ) → place < 1048576 → place' < 1048576 → place % 8 ≡ 0 → place' % 8 ≡ 0
-    → entryOf high place ≡ entryOf high' place' → (high ≡ high') × (place ≡ place')
-entry-inj high place high' place' h h' m m' e = (omega arith, omega arith)
-
--- ---- taken apart, then packed
-
-pub entry-again : (e : ℕ) → entryOf (entryHigh e) (entryPlace e) ≡ e
-entry-again e = omega arith
+-- ---- taken apart
 
 pub place-eighth : (e : ℕ) → entryPlace e % 8 ≡ 0
 place-eighth e = omega arith
 
 pub place-lt : (e : ℕ) → entryPlace e < 1048576
 place-lt e = omega arith
-
-pub high-lt : (e : ℕ) → e < 4294967296 → entryHigh e < 32768
-high-lt e h = omega arith
 
 -- ---- written, then read
 
@@ -50,8 +39,3 @@ module _ (f : List ℕ) (s high place : ℕ) (inside : entryAt s + 4 ≤ length 
 
   pub place-own : place % 8 ≡ 0 → placeOf (put 4 f (entryAt s) (entryOf high place)) s ≡ place
   place-own e = rw entry-own (place-of-entry high place p e)
-
--- another slot's entry stays, and so do its parts
-pub entry-other : (f : List ℕ) (s t v : ℕ) → (s ≡ t → ⊥) → le 4 (put 4 f (entryAt s) v) (entryAt t) ≡ le 4 f (entryAt t)
-entry-other f s t v n =
-    le-put-off 4 4 f (entryAt s) v (entryAt t) (⊎-elim (λ l. inr (omega arith)) (λ l. inl (omega arith)) (lt-or-le s t))

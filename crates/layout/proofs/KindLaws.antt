@@ -8,7 +8,7 @@ use native.Mathlib.Omega.{arith}
 use native.Mathlib.Nat.{eq-or-lt-of-le}
 use lib.Dec.{T, eqb, eqb→eq, leb, leb→le}
 use Rattle.layout.specs.Place.{leafZero, prefixBytes, prefixMost, node4Bytes, node16Bytes, node48Index, node48Children, node256Children}
-use Rattle.layout.specs.Kind.{Leaf, Prefix, Node4, Node16, Node48, Node256, bodySize, fewest, most, shrinkMark, kindUp, kindDown, Inner}
+use Rattle.layout.specs.Kind.{Leaf, Prefix, Node4, Node16, Node48, Node256, bodySize, fewest, most, shrinkMark, kindDown, Inner}
 use Rattle.layout.specs.Kind.Inner.{node4, node16, node48, node256}
 
 -- ---- a test of every kind from one on
@@ -74,21 +74,7 @@ sizes-hold = (refl, refl, refl, refl, refl, refl, refl)
 pub fewest-mark : (k : ℕ) → 4 ≤ k → k ≤ 7 → fewest k ≡ shrinkMark k + 1
 fewest-mark = equal fewest (λ (k : ℕ). shrinkMark k + 1) 4 7 tt
 
--- up and down are each other's inverse
-pub down-up : (k : ℕ) → 4 ≤ k → k ≤ 6 → kindDown (kindUp k) ≡ k
-down-up = equal (λ (k : ℕ). kindDown (kindUp k)) (λ (k : ℕ). k) 4 6 tt
-
-pub up-down : (k : ℕ) → 5 ≤ k → k ≤ 7 → kindUp (kindDown k) ≡ k
-up-down = equal (λ (k : ℕ). kindUp (kindDown k)) (λ (k : ℕ). k) 5 7 tt
-
--- a full node with one more child is a legal one of the next kind up
-pub grown-enough : (k : ℕ) → 4 ≤ k → k ≤ 6 → fewest (kindUp k) ≤ most k + 1
-grown-enough = within (λ (k : ℕ). fewest (kindUp k)) (λ (k : ℕ). most k + 1) 4 6 tt
-
-pub grown-fits : (k : ℕ) → 4 ≤ k → k ≤ 6 → most k + 1 ≤ most (kindUp k)
-grown-fits = within (λ (k : ℕ). most k + 1) (λ (k : ℕ). most (kindUp k)) 4 6 tt
-
--- and a node at its mark a legal one of the next kind down
+-- a node at its mark is a legal one of the next kind down
 pub shrunk-enough : (k : ℕ) → 5 ≤ k → k ≤ 7 → fewest (kindDown k) ≤ shrinkMark k
 shrunk-enough = within (λ (k : ℕ). fewest (kindDown k)) shrinkMark 5 7 tt
 

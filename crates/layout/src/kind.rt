@@ -1,4 +1,5 @@
-// The kinds of body and the tables over them, by kind: place 0 is no kind.
+// The kinds of body and the tables over them, by kind: place 0 is no kind. Every size, limit and mark of a kind stands here once; a type of
+// `fields` takes its own from here.
 ghost use mathlib.Core.Path.{_≡_};
 ghost use Prim.Native.Nat.{_<_};
 ghost use lib.ListN.{getD};
@@ -26,11 +27,11 @@ impl Kind {
     pub const TABLE: usize = 9;
 }
 
-const BODY_SIZES: [usize; Kind::TABLE] = [0, 16, 128, 128, 24, 88, 456, 1032, 8];
+pub const BODY_SIZES: [usize; Kind::TABLE] = [0, 16, 128, 128, 24, 88, 456, 1032, 8];
 
 const FEWEST_CHILDREN: [usize; Kind::TABLE] = [0, 0, 0, 0, 2, 4, 13, 38, 0];
 
-const MOST_CHILDREN: [usize; Kind::TABLE] = [0, 0, 0, 0, 4, 16, 48, 256, 0];
+pub const MOST_CHILDREN: [usize; Kind::TABLE] = [0, 0, 0, 0, 4, 16, 48, 256, 0];
 
 const SHRINK_MARKS: [usize; Kind::TABLE] = [0, 0, 0, 0, 1, 3, 12, 37, 0];
 
