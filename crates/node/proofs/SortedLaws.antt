@@ -10,7 +10,7 @@ use lib.ListN.{length, getD, set, length-set, List·getD-eq-default}
 use lib.Seq.{getD-set-same, getD-set-other, ext-getD}
 use Rattle.layout.specs.Number.{byteAt, le, put}
 use Rattle.layout.specs.Place.{nodeCount}
-use Rattle.layout.proofs.NumberLaws.{le1, le-moved, le-put, le-zero}
+use Rattle.layout.proofs.NumberLaws.{le-moved, le-put, le-zero}
 use Rattle.model.specs.Body.{byteIn, childIn, Asc, lookKid, SortedAt}
 use Rattle.node.specs.Kids.{orZero, insertKid, removeKid, setKid, placeOf, rankOf, nextKid}
 use Rattle.node.specs.Moved.{Only, Keeps, Opened, Closed}
@@ -55,11 +55,11 @@ pub seat-out : (b i : ℕ) (ks : List (ℕ × ℕ)) → i ≡ placeOf b ks → l
 seat-out b i ks e h = rw (look-out b ks (omega arith)) refl
 
 module _ {f : List ℕ} {o cap bytes : ℕ} {from : ℕ} (i : ℕ) (ks : List (ℕ × ℕ)) (N : SortedAt f o cap bytes ks) where
-  pub next-in : {x y : ℕ} → i < length ks → ((k : ℕ) → k < i → byteAt f (o + bytes + k) < from) → from ≤ x → x ≡ le 1 f (o + bytes + i) → y ≡ le 4 f (o + bytes + cap + 4 * i)
+  pub next-in : {x y : ℕ} → i < length ks → ((k : ℕ) → k < i → byteAt f (o + bytes + k) < from) → from ≤ x → x ≡ byteAt f (o + bytes + i) → y ≡ le 4 f (o + bytes + cap + 4 * i)
       → (x ≡ nextKid from ks .0) × (y ≡ nextKid from ks .1)
   next-in {x} {y} h below l ex ey =
       let few = N .few in
-      let eb : x ≡ byteIn ks i = ex ∙ le1 f (o + bytes + i) ∙ N .bytesAre i (omega arith) in
+      let eb : x ≡ byteIn ks i = ex ∙ N .bytesAre i (omega arith) in
       let e = next-is from ks i h (λ k u. omega (arith, below k u, N .bytesAre k (omega arith))) (omega arith) in
       rw e (eb, ey ∙ N .children i (omega arith))
 

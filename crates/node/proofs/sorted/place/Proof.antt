@@ -1,5 +1,5 @@
 -- No byte passed is b. Assumes nothing.
-use mathlib.Core.Path.{_≡_}
+use mathlib.Core.Path.{_≡_, _∙_, sym}
 use borrow.Author.Count.{below-more}
 use Rattle.layout.specs.Number.{byteAt}
 use Rattle.node.proofs.SortedLaws.{place-row}
@@ -18,14 +18,11 @@ abbrev μ-loop : tie.MeasureT-loop
 loop-holds : tie.Need-loop-holds Inv-loop μ-loop
 loop-holds c = search needs
 
-add-if1 : tie.Need-add-if1 Inv-loop μ-loop
-add-if1 c = search needs
-
-shared-slice-read-if1 : tie.Need-shared-slice-read-if1 Inv-loop μ-loop
-shared-slice-read-if1 c = search needs
+byte-requires : tie.Need-byte-requires Inv-loop μ-loop
+byte-requires c κs = search needs
 
 returns : tie.Need-returns Inv-loop μ-loop
-returns c = (search needs, λ ks R e. place-row ks R e (search needs) (c .before .before .before .loop .inv .1) (λ l. c .if1 .taken))
+returns c = (search needs, λ ks R e. place-row ks R e (search needs) (c .before .before .before .loop .inv .1) (λ l. sym (c .before .byte .ensures .0) ∙ c .if1 .taken))
 
 add-i : tie.Need-add-i Inv-loop μ-loop
 add-i c = search needs
@@ -34,7 +31,7 @@ loop-less : tie.Need-loop-less Inv-loop μ-loop
 loop-less c = search needs
 
 loop-again : tie.Need-loop-again Inv-loop μ-loop
-loop-again c = (search needs, below-more _ _ (c .before .before .before .loop .inv .1) (c .if1 .left))
+loop-again c = (search needs, below-more _ _ (c .before .before .before .loop .inv .1) (λ e. c .if1 .left (c .before .byte .ensures .0 ∙ e)))
 
 returns-2 : tie.Need-returns-2 Inv-loop μ-loop
 returns-2 c = (search needs, λ ks R e. place-row ks R e (search needs) (c .before .loop .inv .1) (λ l. absurd (omega arith)))
@@ -46,8 +43,7 @@ place-spec =
     Inv-loop
     μ-loop
     loop-holds
-    add-if1
-    shared-slice-read-if1
+    byte-requires
     returns
     add-i
     loop-less
