@@ -11,7 +11,7 @@ use lib.Seq.{getD-set-same, getD-set-other}
 use borrow.Author.Tests.{eq-eqb, ne-eqb}
 use Rattle.layout.specs.Number.{byteAt, le, put}
 use Rattle.layout.specs.Place.{nodeCount, node48Index, node48Children}
-use Rattle.layout.proofs.NumberLaws.{le1, le-put, le-zero}
+use Rattle.layout.proofs.NumberLaws.{le-put, le-zero}
 use Rattle.model.specs.Body.{byteIn, Asc, lookKid, Named, namedChild, Node48At}
 use Rattle.node.specs.Kids.{orZero, insertKid, removeKid, setKid, placeOf, nextKid}
 use Rattle.node.specs.Moved.{Only, Keeps}
@@ -57,29 +57,29 @@ module _ {f : List ℕ} {o : ℕ} (b : ℕ) (ks : List (ℕ × ℕ)) (N : Node48
   pub look48-out : byteAt f (o + node48Index + b) ≡ 0 → lookKid b ks ≡ none
   look48-out e = sym (N .look b b8) ∙ named-zero f o (byteAt f (o + node48Index + b)) e
 
-  pub seat48-in : {p r : ℕ} → p ≡ le 1 f (o + node48Index + b) → (p ≡ 0 → ⊥) → r ≡ le 4 f (o + node48Children + 4 * (p - 1)) → r ≡ orZero (lookKid b ks)
+  pub seat48-in : {p r : ℕ} → p ≡ byteAt f (o + node48Index + b) → (p ≡ 0 → ⊥) → r ≡ le 4 f (o + node48Children + 4 * (p - 1)) → r ≡ orZero (lookKid b ks)
   seat48-in {p} e h q =
-      let e' : byteAt f (o + node48Index + b) ≡ p = sym (le1 f (o + node48Index + b)) ∙ sym e in
+      let e' : byteAt f (o + node48Index + b) ≡ p = sym e in
       let l : lookKid b ks ≡ some (le 4 f (o + node48Children + 4 * (p - 1))) = rw e' at (look48-in (omega arith)) in
       rw l q
 
-  pub seat48-out : {p : ℕ} → p ≡ le 1 f (o + node48Index + b) → p ≡ 0 → 0 ≡ orZero (lookKid b ks)
-  seat48-out e h = rw (look48-out (sym (le1 f (o + node48Index + b)) ∙ sym e ∙ h)) refl
+  pub seat48-out : {p : ℕ} → p ≡ byteAt f (o + node48Index + b) → p ≡ 0 → 0 ≡ orZero (lookKid b ks)
+  seat48-out e h = rw (look48-out (sym e ∙ h)) refl
 
-  pub place48 : {p : ℕ} → p ≡ le 1 f (o + node48Index + b) → p ≤ 48
-  place48 e = omega (arith, N .place b b8, le1 f (o + node48Index + b))
+  pub place48 : {p : ℕ} → p ≡ byteAt f (o + node48Index + b) → p ≤ 48
+  place48 e = omega (arith, N .place b b8)
 
-  pub some48 : {p s : ℕ} → p ≡ le 1 f (o + node48Index + b) → lookKid b ks ≡ some s → (1 ≤ p) × (p ≤ 48)
+  pub some48 : {p s : ℕ} → p ≡ byteAt f (o + node48Index + b) → lookKid b ks ≡ some s → (1 ≤ p) × (p ≤ 48)
   some48 e h =
       let x = named-some f o (byteAt f (o + node48Index + b)) (N .look b b8 ∙ h) in
       let y = N .place b b8 in
-      omega (arith, le1 f (o + node48Index + b))
+      omega arith
 
 module _ {f : List ℕ} {o from : ℕ} (ks : List (ℕ × ℕ)) (N : Node48At f o ks) where
-  pub next48-in : {b p s : ℕ} → b < 256 → from ≤ b → ((d : ℕ) → d < b → from ≤ d → byteAt f (o + node48Index + d) ≡ 0) → p ≡ le 1 f (o + node48Index + b) → 0 < p → s ≡ le 4 f (o + node48Children + 4 * (p - 1))
+  pub next48-in : {b p s : ℕ} → b < 256 → from ≤ b → ((d : ℕ) → d < b → from ≤ d → byteAt f (o + node48Index + d) ≡ 0) → p ≡ byteAt f (o + node48Index + b) → 0 < p → s ≡ le 4 f (o + node48Children + 4 * (p - 1))
       → (b ≡ nextKid from ks .0) × (s ≡ nextKid from ks .1)
   next48-in {b} {p} {s} b8 l before e h q =
-      let e' : byteAt f (o + node48Index + b) ≡ p = sym (le1 f (o + node48Index + b)) ∙ sym e in
+      let e' : byteAt f (o + node48Index + b) ≡ p = sym e in
       let look : lookKid b ks ≡ some s = rw q (rw e' at (look48-in b ks N b8 (omega arith))) in
       rw (next-look 0 from b s ks (N .asc) l (λ d u v. look48-out d ks N (omega arith) (before d u v)) look) (refl, refl)
 

@@ -1,8 +1,6 @@
 // Node256: the child of a byte stands at the byte's place, 0 where there is none.
 use fields::body::Node;
 use fields::body::Node256;
-use node::BYTES;
-use node::CHILD_SIZE;
 use node::Child;
 use node::Seat;
 ghost use mathlib.Core.Path.{_≡_};
@@ -22,7 +20,7 @@ pub fn seat(f: &[u8], o: usize, b: u8) -> Seat
     requires { ⌜ In256 (now f) o ⌝ }
     ensures { λ r. ⌜ ((ks : List (ℕ × ℕ)) → Node256At (now (f .entry)) o ks → r .slot ≡ orZero (lookKid b ks)) × (r .link ≡ o + node256Children + 4 * b) ⌝ }
 {
-    let link = o + Node256::CHILDREN + CHILD_SIZE * b as usize;
+    let link = o + Node256::CHILDREN + Node::CHILD_SIZE * b as usize;
     let s = Node::child(f, link);
     Seat {
         slot: s,
@@ -36,15 +34,15 @@ pub fn next(f: &[u8], o: usize, from: usize) -> Child
     ensures { λ r. ⌜ ((ks : List (ℕ × ℕ)) → Node256At (now (f .entry)) o ks → (r .byte ≡ nextKid from ks .0) × (r .slot ≡ nextKid from ks .1)) ⌝ }
 {
     let mut b = from;
-    while b < BYTES {
-        let s = Node::child(f, o + Node256::CHILDREN + CHILD_SIZE * b);
+    while b < Node::BYTE_VALUES {
+        let s = Node256::child(f, o, b);
         if 0 < s {
             return Child { byte: b, slot: s };
         }
         b += 1;
     }
     Child {
-        byte: BYTES,
+        byte: Node::BYTE_VALUES,
         slot: 0,
     }
 }
@@ -54,7 +52,7 @@ fn write(f: &mut [u8], o: usize, b: u8, slot: usize, n: usize)
     requires { ⌜ (o + 1032 ≤ length (now f)) × (slot < 4294967296) × (n < 65536) ⌝ }
     ensures { λ _. ⌜ Wrote256 (now (f .entry)) (now (f .exit)) o b slot n ⌝ }
 {
-    Node::set_child(f, o + Node256::CHILDREN + CHILD_SIZE * b as usize, slot);
+    Node256::set_child(f, o, b as usize, slot);
     Node::set_count(f, o, n);
 }
 
@@ -83,5 +81,5 @@ pub fn append(f: &mut [u8], o: usize, b: u8, slot: usize)
     requires { ⌜ o + 1032 ≤ length (now f) ⌝ }
     ensures { λ _. ⌜ now (f .exit) ≡ put 4 (now (f .entry)) (o + node256Children + 4 * b) slot ⌝ }
 {
-    Node::set_child(f, o + Node256::CHILDREN + CHILD_SIZE * b as usize, slot);
+    Node256::set_child(f, o, b as usize, slot);
 }

@@ -1,9 +1,6 @@
 // Node48: the index entry of a byte names the place of its child, 1 to 48, or is 0.
 use fields::body::Node;
 use fields::body::Node48;
-use layout::number;
-use node::BYTES;
-use node::CHILD_SIZE;
 use node::Child;
 use node::Seat;
 ghost use mathlib.Core.Path.{_≡_};
@@ -19,7 +16,7 @@ ghost use Rattle.node.specs.Moved.{Only};
 ghost use Rattle.node_big.specs.Indexed.{Lowest, In48, Open48, Has48, Wrote48};
 
 // The number after the last place, which is 48.
-const PAST: u8 = 49;
+const PAST: u8 = Node48::PLACES as u8 + 1;
 
 // The child of byte b, 0 where there is none, and where it stands.
 pub fn seat(f: &[u8], o: usize, b: u8) -> Seat
@@ -27,7 +24,7 @@ pub fn seat(f: &[u8], o: usize, b: u8) -> Seat
     ensures { λ r. ⌜ ((ks : List (ℕ × ℕ)) → Node48At (now (f .entry)) o ks → r .slot ≡ orZero (lookKid b ks))
         × (r .link ≡ o + node48Children + 4 * (byteAt (now (f .entry)) (o + node48Index + b) - 1)) ⌝ }
 {
-    let p = number::read1(f, o + Node48::INDEX + b as usize);
+    let p = Node48::entry(f, o, b as usize);
     let children = o + Node48::CHILDREN;
     if p == 0 {
         return Seat {
@@ -35,7 +32,7 @@ pub fn seat(f: &[u8], o: usize, b: u8) -> Seat
             link: children,
         };
     }
-    let link = children + CHILD_SIZE * (p - 1);
+    let link = children + Node::CHILD_SIZE * (p - 1);
     let s = Node::child(f, link);
     Seat {
         slot: s,
@@ -49,32 +46,32 @@ pub fn next(f: &[u8], o: usize, from: usize) -> Child
     ensures { λ r. ⌜ ((ks : List (ℕ × ℕ)) → Node48At (now (f .entry)) o ks → (r .byte ≡ nextKid from ks .0) × (r .slot ≡ nextKid from ks .1)) ⌝ }
 {
     let mut b = from;
-    while b < BYTES {
-        let p = number::read1(f, o + Node48::INDEX + b);
+    while b < Node::BYTE_VALUES {
+        let p = Node48::entry(f, o, b);
         if 0 < p {
-            let s = Node::child(f, o + Node48::CHILDREN + CHILD_SIZE * (p - 1));
+            let s = Node48::child(f, o, p - 1);
             return Child { byte: b, slot: s };
         }
         b += 1;
     }
     Child {
-        byte: BYTES,
+        byte: Node::BYTE_VALUES,
         slot: 0,
     }
 }
 
-// The lowest place from 1 that no entry of the index at `at` names, or 49.
-pub fn lowest(f: &[u8], at: usize) -> usize
-    requires { ⌜ at + 256 ≤ length (now f) ⌝ }
-    ensures { λ r. ⌜ Lowest (now (f .entry)) at r ⌝ }
+// The lowest place from 1 that no entry names, or 49.
+fn lowest(f: &[u8], o: usize) -> usize
+    requires { ⌜ o + 456 ≤ length (now f) ⌝ }
+    ensures { λ r. ⌜ Lowest (now (f .entry)) (o + node48Index) r ⌝ }
 {
     let mut place: u8 = 1;
     let found = 'places: loop {
         if PAST <= place {
             break 'places place;
         }
-        for i in 0..BYTES {
-            if f[at + i] == place {
+        for b in 0..Node::BYTE_VALUES {
+            if Node48::entry(f, o, b) == place as usize {
                 place += 1;
                 continue 'places;
             }
@@ -89,8 +86,8 @@ fn write(f: &mut [u8], o: usize, b: u8, x: u8, p: usize, slot: usize, n: usize)
     requires { ⌜ (o + 456 ≤ length (now f)) × (1 ≤ p) × (p ≤ 48) × (slot < 4294967296) × (n < 65536) ⌝ }
     ensures { λ _. ⌜ Wrote48 (now (f .entry)) (now (f .exit)) o b x p slot n ⌝ }
 {
-    number::write1(f, o + Node48::INDEX + b as usize, x);
-    Node::set_child(f, o + Node48::CHILDREN + CHILD_SIZE * (p - 1), slot);
+    Node48::set_entry(f, o, b as usize, x);
+    Node48::set_child(f, o, p - 1, slot);
     Node::set_count(f, o, n);
 }
 
@@ -103,7 +100,7 @@ pub fn add(f: &mut [u8], o: usize, b: u8, slot: usize)
         × ((d : ℕ) → d < 256 → (d ≡ b → ⊥) → byteAt (now (f .exit)) (o + node48Index + d) ≡ byteAt (now (f .entry)) (o + node48Index + d)) ⌝ }
 {
     let n = Node::count(f, o);
-    let p = lowest(f, o + Node48::INDEX);
+    let p = lowest(f, o);
     write(f, o, b, p as u8, p, slot, n + 1);
 }
 
@@ -115,7 +112,7 @@ pub fn remove(f: &mut [u8], o: usize, b: u8)
         × ((d : ℕ) → d < 256 → (d ≡ b → ⊥) → byteAt (now (f .exit)) (o + node48Index + d) ≡ byteAt (now (f .entry)) (o + node48Index + d)) ⌝ }
 {
     let n = Node::count(f, o);
-    let p = number::read1(f, o + Node48::INDEX + b as usize);
+    let p = Node48::entry(f, o, b as usize);
     write(f, o, b, 0, p, 0, n - 1);
 }
 
@@ -124,6 +121,6 @@ pub fn append(f: &mut [u8], o: usize, i: usize, b: u8, slot: usize)
     requires { ⌜ (o + 456 ≤ length (now f)) × (i < 48) ⌝ }
     ensures { λ _. ⌜ now (f .exit) ≡ put 4 (set (now (f .entry)) (o + node48Index + b) (i + 1)) (o + node48Children + 4 * i) slot ⌝ }
 {
-    number::write1(f, o + Node48::INDEX + b as usize, (i + 1) as u8);
-    Node::set_child(f, o + Node48::CHILDREN + CHILD_SIZE * i, slot);
+    Node48::set_entry(f, o, b as usize, (i + 1) as u8);
+    Node48::set_child(f, o, i, slot);
 }

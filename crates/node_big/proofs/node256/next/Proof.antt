@@ -19,15 +19,6 @@ abbrev μ-loop : tie.MeasureT-loop
 loop-holds : tie.Need-loop-holds Inv-loop μ-loop
 loop-holds c = (omega arith, omega arith, λ d u v. absurd (omega arith))
 
-add-child : tie.Need-add-child Inv-loop μ-loop
-add-child c = search needs
-
-mul-child : tie.Need-mul-child Inv-loop μ-loop
-mul-child c = search needs
-
-add-child-2 : tie.Need-add-child-2 Inv-loop μ-loop
-add-child-2 c = search needs
-
 child-requires : tie.Need-child-requires Inv-loop μ-loop
 child-requires c κs = search needs
 
@@ -60,9 +51,6 @@ next-spec =
     Inv-loop
     μ-loop
     loop-holds
-    add-child
-    mul-child
-    add-child-2
     child-requires
     returns
     add-b

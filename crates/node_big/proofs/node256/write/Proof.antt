@@ -6,15 +6,6 @@ use borrow.Author.Needs.{needs}
 use Rattle.node_big.proofs.node256.write.Statement.{statement}
 use Rattle.node_big.proofs.node256.write.Tie as tie
 
-add-set-child : tie.Need-add-set-child
-add-set-child c = search needs
-
-mul-set-child : tie.Need-mul-set-child
-mul-set-child c = search needs
-
-add-set-child-2 : tie.Need-add-set-child-2
-add-set-child-2 c = search needs
-
 set-child-requires : tie.Need-set-child-requires
 set-child-requires c κs = search needs
 
@@ -31,9 +22,6 @@ pub write-spec : {M : Type 1} → statement M
 write-spec =
     tie.close
     (tie.spec
-    add-set-child
-    mul-set-child
-    add-set-child-2
     set-child-requires
     set-count-requires
     same-length

@@ -10,9 +10,6 @@ use Rattle.node_big.proofs.node48.add.Tie as tie
 count-requires : tie.Need-count-requires
 count-requires c κs = search needs
 
-add-lowest : tie.Need-add-lowest
-add-lowest c = search needs
-
 lowest-requires : tie.Need-lowest-requires
 lowest-requires c κs = search needs
 
@@ -49,7 +46,6 @@ add-spec =
     tie.close
     (tie.spec
     count-requires
-    add-lowest
     lowest-requires
     cast-write
     add-write

@@ -1,8 +1,9 @@
 -- Every place passed is named by an entry; no entry passed names the place that is tried. Assumes nothing.
-use mathlib.Core.Path.{_≡_, _∙_}
+use mathlib.Core.Path.{_≡_, _∙_, sym}
 use mathlib.Core.Logic.{⊎-elim}
 use borrow.Author.Count.{below-more}
 use Rattle.layout.specs.Number.{byteAt}
+use Rattle.layout.specs.Place.{node48Index}
 use Rattle.model.specs.Body.{Named}
 use Prim.Native.Nat.{ℕ, _+_, _-_, _<_, _≤_}
 use native.Mathlib.Omega.{arith}
@@ -11,16 +12,16 @@ use Rattle.node_big.proofs.node48.lowest.Statement.{statement}
 use Rattle.node_big.proofs.node48.lowest.Tie as tie
 
 abbrev Inv-loop : tie.InvT-loop
-Inv-loop f at place₀ i₀ place i = (place ≡ place₀) × (i ≤ 256) × ((j : ℕ) → j < i → byteAt f (at + j) ≡ place → ⊥)
+Inv-loop f o place₀ b₀ place b = (place ≡ place₀) × (b ≤ 256) × ((d : ℕ) → d < b → byteAt f (o + node48Index + d) ≡ place → ⊥)
 
 abbrev μ-loop : tie.MeasureT-loop
-μ-loop f at place₀ i₀ place i = 256 - i
+μ-loop f o place₀ b₀ place b = 256 - b
 
 abbrev Inv-places : tie.InvT-places
-Inv-places f at place₀ place = (1 ≤ place) × (place ≤ 49) × ((p : ℕ) → p < place → 1 ≤ p → Named f at p)
+Inv-places f o place₀ place = (1 ≤ place) × (place ≤ 49) × ((p : ℕ) → p < place → 1 ≤ p → Named f (o + node48Index) p)
 
 abbrev μ-places : tie.MeasureT-places
-μ-places f at place₀ place = 49 - place
+μ-places f o place₀ place = 49 - place
 
 places-holds : tie.Need-places-holds Inv-loop μ-loop Inv-places μ-places
 places-holds c = (search needs, search needs, λ p l f. absurd (omega arith))
@@ -28,11 +29,11 @@ places-holds c = (search needs, search needs, λ p l f. absurd (omega arith))
 loop-holds : tie.Need-loop-holds Inv-loop μ-loop Inv-places μ-places
 loop-holds c = (search needs, search needs, λ j l e. omega arith)
 
-add-if2 : tie.Need-add-if2 Inv-loop μ-loop Inv-places μ-places
-add-if2 c = search needs
+entry-requires : tie.Need-entry-requires Inv-loop μ-loop Inv-places μ-places
+entry-requires c κs = search needs
 
-shared-slice-read-if2 : tie.Need-shared-slice-read-if2 Inv-loop μ-loop Inv-places μ-places
-shared-slice-read-if2 c = search needs
+cast-if2 : tie.Need-cast-if2 Inv-loop μ-loop Inv-places μ-places
+cast-if2 c = search needs
 
 add-place : tie.Need-add-place Inv-loop μ-loop Inv-places μ-places
 add-place c = search needs
@@ -45,17 +46,17 @@ places-again c =
     let e = c .before .before .before in (
       search needs,
       search needs,
-      below-more _ _ (λ p l. e .before .before .places .inv .2 p (omega arith)) (λ f. record { entry = e .loop .i; below = omega arith; is = c .if2 .taken }),
+      below-more _ _ (λ p l. e .before .before .places .inv .2 p (omega arith)) (λ f. record { entry = e .loop .b; below = omega arith; is = sym (c .before .entry .ensures .0) ∙ c .if2 .taken }),
     )
 
-add-i : tie.Need-add-i Inv-loop μ-loop Inv-places μ-places
-add-i c = search needs
+add-b : tie.Need-add-b Inv-loop μ-loop Inv-places μ-places
+add-b c = search needs
 
 loop-less : tie.Need-loop-less Inv-loop μ-loop Inv-places μ-places
 loop-less c = search needs
 
 loop-again : tie.Need-loop-again Inv-loop μ-loop Inv-places μ-places
-loop-again c = (search needs, search needs, below-more _ _ (c .before .before .before .loop .inv .2) (c .if2 .left))
+loop-again c = (search needs, search needs, below-more _ _ (c .before .before .before .loop .inv .2) (λ q. c .if2 .left (c .before .entry .ensures .0 ∙ q)))
 
 returns : tie.Need-returns Inv-loop μ-loop Inv-places μ-places
 returns c =
@@ -75,12 +76,12 @@ lowest-spec =
     μ-places
     places-holds
     loop-holds
-    add-if2
-    shared-slice-read-if2
+    entry-requires
+    cast-if2
     add-place
     places-less
     places-again
-    add-i
+    add-b
     loop-less
     loop-again
     returns)

@@ -3,7 +3,6 @@ use mathlib.Core.Path.{_∙_, sym, _≡_}
 use borrow.Author.Count.{below-more}
 use Rattle.layout.specs.Number.{byteAt}
 use Rattle.layout.specs.Place.{node48Index}
-use Rattle.layout.proofs.NumberLaws.{le1}
 use Rattle.node_big.proofs.Laws48.{next48-in, next48-out, place48}
 use Prim.Native.Nat.{ℕ, _+_, _-_, _<_, _≤_}
 use native.Mathlib.Omega.{arith}
@@ -20,37 +19,22 @@ abbrev μ-loop : tie.MeasureT-loop
 loop-holds : tie.Need-loop-holds Inv-loop μ-loop
 loop-holds c = (omega arith, omega arith, λ d u v. absurd (omega arith))
 
-add-read1 : tie.Need-add-read1 Inv-loop μ-loop
-add-read1 c = search needs
-
-add-read1-2 : tie.Need-add-read1-2 Inv-loop μ-loop
-add-read1-2 c = search needs
-
-read1-requires : tie.Need-read1-requires Inv-loop μ-loop
-read1-requires c κs = search needs
-
-add-child : tie.Need-add-child Inv-loop μ-loop
-add-child c = search needs
+entry-requires : tie.Need-entry-requires Inv-loop μ-loop
+entry-requires c κs = search needs
 
 sub-child : tie.Need-sub-child Inv-loop μ-loop
 sub-child c = search needs
 
-mul-child : tie.Need-mul-child Inv-loop μ-loop
-mul-child c = search needs
-
-add-child-2 : tie.Need-add-child-2 Inv-loop μ-loop
-add-child-2 c = search needs
-
 child-requires : tie.Need-child-requires Inv-loop μ-loop
 child-requires c κs =
     let s = c .before .before .before .before .before in
-    let q = place48 (c .before .before .before .loop .b) (s .pre .0 .kids) (s .pre .0 .node) (omega arith) (c .before .read1 .ensures .0) in
-    omega arith
+    let q = place48 (c .before .before .before .loop .b) (s .pre .0 .kids) (s .pre .0 .node) (omega arith) (c .before .entry .ensures .0) in
+    (omega arith, omega arith)
 
 returns : tie.Need-returns Inv-loop μ-loop
 returns c =
     let l = c .before .before .before .before .loop in
-    λ ks N. next48-in ks N (c .before .before .before .loop-test .taken) (l .inv .0) (l .inv .2) (c .before .before .read1 .ensures .0) (c .before .if1 .taken) (c .child .ensures .0)
+    λ ks N. next48-in ks N (c .before .before .before .loop-test .taken) (l .inv .0) (l .inv .2) (c .before .before .entry .ensures .0) (c .before .if1 .taken) (c .child .ensures .0)
 
 add-b : tie.Need-add-b Inv-loop μ-loop
 add-b c = search needs
@@ -61,7 +45,7 @@ loop-less c = search needs
 loop-again : tie.Need-loop-again Inv-loop μ-loop
 loop-again c =
     let l = c .before .before .before .loop in
-    (omega arith, omega arith, below-more _ _ (l .inv .2) (λ v. sym (le1 _ _) ∙ sym (c .before .read1 .ensures .0) ∙ omega arith))
+    (omega arith, omega arith, below-more _ _ (l .inv .2) (λ v. sym (c .before .entry .ensures .0) ∙ omega arith))
 
 returns-2 : tie.Need-returns-2 Inv-loop μ-loop
 returns-2 c =
@@ -76,13 +60,8 @@ next-spec =
     Inv-loop
     μ-loop
     loop-holds
-    add-read1
-    add-read1-2
-    read1-requires
-    add-child
+    entry-requires
     sub-child
-    mul-child
-    add-child-2
     child-requires
     returns
     add-b

@@ -1,7 +1,5 @@
 -- The byte's entry and its child are 0 after it. Assumes nothing.
 use native.Mathlib.Omega.{arith}
-use mathlib.Core.Path.{_∙_}
-use Rattle.layout.proofs.NumberLaws.{le1}
 use Rattle.node.proofs.KidsLaws.{length-remove}
 use Rattle.node_big.proofs.Laws48.{some48, remove48}
 use borrow.Author.Needs.{needs}
@@ -11,14 +9,8 @@ use Rattle.node_big.proofs.node48.remove.Tie as tie
 count-requires : tie.Need-count-requires
 count-requires c κs = search needs
 
-add-read1 : tie.Need-add-read1
-add-read1 c = search needs
-
-add-read1-2 : tie.Need-add-read1-2
-add-read1-2 c = search needs
-
-read1-requires : tie.Need-read1-requires
-read1-requires c κs = search needs
+entry-requires : tie.Need-entry-requires
+entry-requires c κs = search needs
 
 sub-write : tie.Need-sub-write
 sub-write c =
@@ -29,7 +21,7 @@ sub-write c =
 write-requires : tie.Need-write-requires
 write-requires c κs =
     let s = c .before .before .before .before .before .before in
-    let q = some48 (s .args .b) (s .pre .kids) (s .pre .node) (omega arith) (c .before .read1 .ensures .0) (s .pre .has) in
+    let q = some48 (s .args .b) (s .pre .kids) (s .pre .node) (omega arith) (c .before .entry .ensures .0) (s .pre .has) in
     (omega arith, q .0, q .1, omega arith, omega arith)
 
 same-length : tie.Need-same-length
@@ -39,18 +31,16 @@ returns : tie.Need-returns
 returns c =
     let W = c .before .before .write .ensures in
     let s = c .before .before .before .before .before .before .before .before .before in
-    let q = some48 (s .args .b) (s .pre .kids) (s .pre .node) (omega arith) (c .before .before .before .before .read1 .ensures .0) (s .pre .has) in
+    let q = some48 (s .args .b) (s .pre .kids) (s .pre .node) (omega arith) (c .before .before .before .before .entry .ensures .0) (s .pre .has) in
     let l = length-remove (s .args .b) (s .pre .kids) (s .pre .has) in
-    (W .only, λ ks N. remove48 ks N (omega arith) W (c .before .before .before .before .read1 .ensures .0 ∙ le1 _ _) (q .0) (omega (arith, s .pre .node .count)), W .other)
+    (W .only, λ ks N. remove48 ks N (omega arith) W (c .before .before .before .before .entry .ensures .0) (q .0) (omega (arith, s .pre .node .count)), W .other)
 
 pub remove-spec : {M : Type 1} → statement M
 remove-spec =
     tie.close
     (tie.spec
     count-requires
-    add-read1
-    add-read1-2
-    read1-requires
+    entry-requires
     sub-write
     write-requires
     same-length

@@ -1,28 +1,19 @@
 -- The entry of the byte says whether there is a child, and where. Assumes nothing.
 use native.Mathlib.Omega.{arith}
-use mathlib.Core.Path.{_∙_}
-use Rattle.layout.proofs.NumberLaws.{le1}
 use Rattle.node_big.proofs.Laws48.{seat48-in, seat48-out, place48}
 use borrow.Author.Needs.{needs}
 use Rattle.node_big.proofs.node48.seat.Statement.{statement}
 use Rattle.node_big.proofs.node48.seat.Tie as tie
 
-add-read1 : tie.Need-add-read1
-add-read1 c = search needs
-
-add-read1-2 : tie.Need-add-read1-2
-add-read1-2 c = search needs
-
-read1-requires : tie.Need-read1-requires
-read1-requires c κs = search needs
+entry-requires : tie.Need-entry-requires
+entry-requires c κs = search needs
 
 add-children : tie.Need-add-children
 add-children c = search needs
 
 returns : tie.Need-returns
 returns c =
-    let r = c .before .read1 .ensures .0 in
-    let e = r ∙ le1 _ _ in
+    let r = c .before .entry .ensures .0 in
     (λ ks N. seat48-out (c .before .before .before .args .b) ks N (omega arith) r (c .if1 .taken), omega arith)
 
 sub-link : tie.Need-sub-link
@@ -37,22 +28,19 @@ add-link c = search needs
 child-requires : tie.Need-child-requires
 child-requires c κs =
     let s = c .before .before .before in
-    let q = place48 (s .args .b) (s .pre .kids) (s .pre .node) (omega arith) (c .before .read1 .ensures .0) in
+    let q = place48 (s .args .b) (s .pre .kids) (s .pre .node) (omega arith) (c .before .entry .ensures .0) in
     omega arith
 
 returns-2 : tie.Need-returns-2
 returns-2 c =
-    let r = c .before .before .read1 .ensures .0 in
-    let e = r ∙ le1 _ _ in
+    let r = c .before .before .entry .ensures .0 in
     (λ ks N. seat48-in (c .before .before .before .before .args .b) ks N (omega arith) r (c .before .if1 .left) (c .child .ensures .0), omega arith)
 
 pub seat-spec : {M : Type 1} → statement M
 seat-spec =
     tie.close
     (tie.spec
-    add-read1
-    add-read1-2
-    read1-requires
+    entry-requires
     add-children
     returns
     sub-link
