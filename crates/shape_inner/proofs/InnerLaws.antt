@@ -18,7 +18,7 @@ use Rattle.pieces.proofs.DecideLaws.{handed}
 use Rattle.pieces.proofs.ZeroLaws.{blank-le, le-blank}
 use Rattle.shape_inner.specs.Inner.{CountFits, InnerHere, sortedKids, SortedHere, child48, child256, kids48, kids256, IndexedHere}
 use Rattle.shape_inner.proofs.KidsLaws.{Small, kids-asc, kids-look, kids-only}
-use Rattle.shape_inner.proofs.SortedLaws.{sorted-long, sorted-only, sorted-here, here-sorted}
+use Rattle.shape_inner.proofs.SortedLaws.{sorted-long, sorted-here, here-sorted}
 
 -- ---- what every inner node has
 
@@ -184,12 +184,3 @@ module _ (f : List ℕ) (o kind n : ℕ) (A : Head f o n) {r : Bool} where
           fits = rw (e, q) fits;
         })
         (λ H. let N = H .is .seven e in ap length (sym (direct-only f o (H .kids) N)) ∙ sym (N .count) ∙ sym (A .count))
-
--- the bytes of a node give one list of children
-pub inner-only : (f : List ℕ) (o kind : ℕ) (ks ls : List (ℕ × ℕ)) → InnerAt f o kind ks → InnerAt f o kind ls → ks ≡ ls
-inner-only f o kind ks ls K L =
-    by-kind (ks ≡ ls) kind (K .range .0) (K .range .1)
-    (λ e. sorted-only f o 4 node4Bytes (length ks) ks (K .four e) refl ∙ sym (sorted-only f o 4 node4Bytes (length ks) ls (L .four e) (sym (K .four e .count) ∙ L .four e .count)))
-    (λ e. sorted-only f o 16 node16Bytes (length ks) ks (K .five e) refl ∙ sym (sorted-only f o 16 node16Bytes (length ks) ls (L .five e) (sym (K .five e .count) ∙ L .five e .count)))
-    (λ e. indexed-only f o ks (K .six e) ∙ sym (indexed-only f o ls (L .six e)))
-    (λ e. direct-only f o ks (K .seven e) ∙ sym (direct-only f o ls (L .seven e)))

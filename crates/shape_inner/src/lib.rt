@@ -4,35 +4,17 @@ use fields::body::Node4;
 use fields::body::Node16;
 use fields::body::Node48;
 use fields::body::Node256;
+use fields::body::Rows;
 use layout::kind;
 use layout::kind::Kind;
-use layout::number;
 ghost use Prim.Native.Nat.{_+_, _*_, _≤_, _<_};
 ghost use mathlib.Core.Path.{_≡_};
 ghost use lib.ListN.{length};
 ghost use Rattle.layout.specs.Kind.{bodySize};
+ghost use Rattle.layout.specs.Place.{node48Children};
 ghost use Rattle.model.specs.Body.{Asc};
 ghost use Rattle.pieces.specs.Decides.{Decides};
 ghost use Rattle.shape_inner.specs.Inner.{CountFits, InnerHere, sortedKids, Unused, SortedHere, inUse, Unmarked, IndexedHere, kids256};
-
-// Bytes of a child.
-const CHILD_SIZE: usize = 4;
-
-// what follows the count is zero: two bytes, and four more in every kind but Node4
-const ZERO: usize = 2;
-
-const ZERO_MORE: usize = 4;
-
-// The entries of a Node48's index, and the children of a Node256: one for each byte.
-const ENTRIES: usize = 256;
-
-// The places of a Node48's children, which the entries number from 1.
-const PLACES: usize = 48;
-
-// The places of a Node4 and of a Node16.
-const NODE4_PLACES: usize = 4;
-
-const NODE16_PLACES: usize = 16;
 
 // ---- Node4 and Node16
 
@@ -45,7 +27,7 @@ fn rising(f: &[u8], at: usize, cap: usize, n: usize) -> bool
     let mut low = 0;
     let mut i = 0;
     while i < n {
-        let b = number::read1(f, at + i);
+        let b = Rows::byte(f, at, i);
         if b < low {
             return false;
         }
@@ -62,10 +44,10 @@ fn unused(f: &[u8], at: usize, cap: usize, n: usize) -> bool
 {
     let mut i = n;
     while i < cap {
-        if number::read1(f, at + i) != 0 {
+        if Rows::byte(f, at, i) != 0 {
             return false;
         }
-        if number::read4(f, at + cap + CHILD_SIZE * i) != 0 {
+        if Rows::child(f, at + cap, i) != 0 {
             return false;
         }
         i += 1;
@@ -96,17 +78,17 @@ fn in_use(x: usize) -> usize
 // ---- Node48
 
 // The children at the places that are not marked are zero.
-fn unmarked(f: &[u8], at: usize, seen: &[u8]) -> bool
-    requires { ⌜ (at + 192 ≤ length (now f)) × (length (now seen) ≡ 256) ⌝ }
-    ensures { λ r. ⌜ Decides (Unmarked (now (f .entry)) at (now (seen .entry))) r ⌝ }
+fn unmarked(f: &[u8], o: usize, seen: &[u8]) -> bool
+    requires { ⌜ (o + 456 ≤ length (now f)) × (length (now seen) ≡ 256) ⌝ }
+    ensures { λ r. ⌜ Decides (Unmarked (now (f .entry)) (o + node48Children) (now (seen .entry))) r ⌝ }
 {
     let mut p = 0;
-    while p < PLACES {
+    while p < Node48::PLACES {
         if seen[p + 1] != 0 {
             p += 1;
             continue;
         }
-        if number::read4(f, at + CHILD_SIZE * p) != 0 {
+        if Node48::child(f, o, p) != 0 {
             return false;
         }
         p += 1;
@@ -119,18 +101,17 @@ fn indexed_good(f: &[u8], o: usize, n: usize) -> bool
     requires { ⌜ o + 456 ≤ length (now f) ⌝ }
     ensures { λ r. ⌜ Decides (IndexedHere (now (f .entry)) o n) r ⌝ }
 {
-    let index = o + Node48::INDEX;
     // for each number that an entry can hold as a place: the number itself once it has been named
-    let mut seen: [u8; ENTRIES] = [0; ENTRIES];
+    let mut seen: [u8; Node::BYTE_VALUES] = [0; Node::BYTE_VALUES];
     // not 0 once a place has been named again
     let mut twice: u8 = 0;
     let mut used: usize = 0;
     let mut b = 0;
-    while b < ENTRIES {
-        let p = f[index + b];
-        twice = twice | seen[p as usize];
-        seen[p as usize] = p;
-        used += in_use(p as usize);
+    while b < Node::BYTE_VALUES {
+        let p = Node48::entry(f, o, b);
+        twice = twice | seen[p];
+        seen[p] = p as u8;
+        used += in_use(p);
         b += 1;
     }
     if twice != 0 {
@@ -140,10 +121,10 @@ fn indexed_good(f: &[u8], o: usize, n: usize) -> bool
         return false;
     }
     // no entry is above the last place
-    if !pieces::all_zero(&seen, PLACES + 1, ENTRIES) {
+    if !pieces::all_zero(&seen, Node48::PLACES + 1, Node::BYTE_VALUES) {
         return false;
     }
-    unmarked(f, o + Node48::CHILDREN, &seen)
+    unmarked(f, o, &seen)
 }
 
 // ---- Node256
@@ -155,8 +136,8 @@ fn direct_good(f: &[u8], o: usize, n: usize) -> bool
 {
     let mut used: usize = 0;
     let mut b = 0;
-    while b < ENTRIES {
-        used += in_use(number::read4(f, o + Node256::CHILDREN + CHILD_SIZE * b));
+    while b < Node::BYTE_VALUES {
+        used += in_use(Node256::child(f, o, b));
         b += 1;
     }
     used == n
@@ -181,23 +162,23 @@ pub fn inner_good(f: &[u8], o: usize, kind: usize) -> bool
     ensures { λ r. ⌜ Decides (InnerHere (now (f .entry)) o kind) r ⌝ }
 {
     let n = Node::count(f, o);
-    if number::read2(f, o + ZERO) != 0 {
+    if Node::zero(f, o) != 0 {
         return false;
     }
     if kind == Kind::NODE4 {
         if !count_fits(Kind::NODE4, n) {
             return false;
         }
-        return sorted_good(f, o + Node4::BYTES, NODE4_PLACES, n);
+        return sorted_good(f, o + Node4::BYTES, Node4::PLACES, n);
     }
-    if number::read4(f, o + ZERO_MORE) != 0 {
+    if Node::zero_more(f, o) != 0 {
         return false;
     }
     if kind == Kind::NODE16 {
         if !count_fits(Kind::NODE16, n) {
             return false;
         }
-        return sorted_good(f, o + Node16::BYTES, NODE16_PLACES, n);
+        return sorted_good(f, o + Node16::BYTES, Node16::PLACES, n);
     }
     if kind == Kind::NODE48 {
         if !count_fits(Kind::NODE48, n) {

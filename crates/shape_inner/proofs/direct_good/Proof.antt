@@ -18,17 +18,8 @@ abbrev μ-loop : tie.MeasureT-loop
 loop-holds : tie.Need-loop-holds Inv-loop μ-loop
 loop-holds c = search needs
 
-add-read4 : tie.Need-add-read4 Inv-loop μ-loop
-add-read4 c = search needs
-
-mul-read4 : tie.Need-mul-read4 Inv-loop μ-loop
-mul-read4 c = search needs
-
-add-read4-2 : tie.Need-add-read4-2 Inv-loop μ-loop
-add-read4-2 c = search needs
-
-read4-requires : tie.Need-read4-requires Inv-loop μ-loop
-read4-requires c κs = search needs
+child-requires : tie.Need-child-requires Inv-loop μ-loop
+child-requires c κs = search needs
 
 in-use-requires : tie.Need-in-use-requires Inv-loop μ-loop
 in-use-requires c κs = search needs
@@ -45,7 +36,7 @@ loop-less c = search needs
 loop-again : tie.Need-loop-again Inv-loop μ-loop
 loop-again c = let l = c .before .before .before in
     let a = l .before .before .args in
-    let e = c .in-use .ensures .0 ∙ ap inUse (c .before .read4 .ensures .0) in
+    let e = c .in-use .ensures .0 ∙ ap inUse (c .before .child .ensures .0) in
     (omega arith, omega arith, rw e (direct-more (a .f .now) (a .o) (l .loop .b) (l .loop .used) (omega arith) (l .loop .inv .2)))
 
 returns : tie.Need-returns Inv-loop μ-loop
@@ -61,10 +52,7 @@ direct-good-spec =
     Inv-loop
     μ-loop
     loop-holds
-    add-read4
-    mul-read4
-    add-read4-2
-    read4-requires
+    child-requires
     in-use-requires
     add-used
     add-b

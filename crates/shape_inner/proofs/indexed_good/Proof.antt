@@ -1,55 +1,38 @@
 -- `indexed_good` decides the body of a Node48; the loop's invariant is `Marked`, with IndexedLaws at each exit. Assumes nothing.
-use Prim.Native.Nat.{_+_, _-_, _<_, _≤_}
+use Prim.Native.Nat.{_-_, _≤_}
 use mathlib.Core.Path.{sym}
 use native.Mathlib.Omega.{arith}
 use borrow.Author.Needs.{needs}
-use Rattle.layout.specs.Number.{byteAt, Bytes}
-use Rattle.layout.specs.Place.{node48Index}
+use Rattle.layout.specs.Number.{Bytes}
 use Rattle.pieces.proofs.DecideLaws.{denied, refuted, passed}
 use Rattle.shape_inner.proofs.IndexedLaws.{Marked, marked-none, marked-more, marked-far, marked-twice, marked-count, marked-end}
 use Rattle.shape_inner.proofs.indexed_good.Statement.{statement}
 use Rattle.shape_inner.proofs.indexed_good.Tie as tie
 
 abbrev Inv-loop : tie.InvT-loop
-Inv-loop f o n index seen₀ twice₀ used₀ b₀ seen twice used b = (b ≤ 256) × Marked f o b seen twice used
+Inv-loop f o n seen₀ twice₀ used₀ b₀ seen twice used b = (b ≤ 256) × Marked f o b seen twice used
 
 abbrev μ-loop : tie.MeasureT-loop
-μ-loop f o n index seen₀ twice₀ used₀ b₀ seen twice used b = 256 - b
-
-add-index : tie.Need-add-index Inv-loop μ-loop
-add-index c = search needs
+μ-loop f o n seen₀ twice₀ used₀ b₀ seen twice used b = 256 - b
 
 -- what is lent is bytes
 bytes : (s : tie.After-shared-slice-known Inv-loop μ-loop) → Bytes (s .before .args .f .now)
 bytes s a = s .shared-slice-known .given a .fits
 
--- so is the entry that is read
-entry : (l : tie.At-loop Inv-loop μ-loop) → byteAt (l .before .before .args .f .now) (l .before .before .args .o + node48Index + l .loop .b) < 256
-entry l = bytes (l .before) (l .before .before .args .o + node48Index + l .loop .b)
-
 loop-holds : tie.Need-loop-holds Inv-loop μ-loop
 loop-holds c = let a = c .before .args in (omega arith, marked-none (a .f .now) (a .o))
 
-add-p : tie.Need-add-p Inv-loop μ-loop
-add-p c = search needs
-
-shared-slice-read-p : tie.Need-shared-slice-read-p Inv-loop μ-loop
-shared-slice-read-p c = search needs
-
-cast-twice : tie.Need-cast-twice Inv-loop μ-loop
-cast-twice c = let small = entry (c .before .before) in omega arith
+entry-requires : tie.Need-entry-requires Inv-loop μ-loop
+entry-requires c κs = search needs
 
 array-read-twice : tie.Need-array-read-twice Inv-loop μ-loop
-array-read-twice c = entry (c .before .before)
+array-read-twice c = search needs
 
 cast-seen : tie.Need-cast-seen Inv-loop μ-loop
-cast-seen c = let small = entry (c .before .before) in omega arith
+cast-seen c = search needs
 
 array-write-seen : tie.Need-array-write-seen Inv-loop μ-loop
-array-write-seen c = entry (c .before .before)
-
-cast-in-use : tie.Need-cast-in-use Inv-loop μ-loop
-cast-in-use c = let small = entry (c .before .before) in omega arith
+array-write-seen c = search needs
 
 in-use-requires : tie.Need-in-use-requires Inv-loop μ-loop
 in-use-requires c κs = search needs
@@ -66,7 +49,7 @@ loop-less c = search needs
 loop-again : tie.Need-loop-again Inv-loop μ-loop
 loop-again c = let l = c .before .before .before in
     let a = l .before .before .args in
-    (omega arith, rw (c .in-use .ensures .0) (marked-more (a .f .now) (a .o) (l .loop .b) (l .loop .seen) (l .loop .twice) (l .loop .used) (l .loop .inv .1) (bytes (l .before)) (omega arith)))
+    (omega arith, rw (c .in-use .ensures .0, c .before .entry .ensures .0) (marked-more (a .f .now) (a .o) (l .loop .b) (l .loop .seen) (l .loop .twice) (l .loop .used) (l .loop .inv .1) (bytes (l .before)) (omega arith)))
 
 returns : tie.Need-returns Inv-loop μ-loop
 returns c = let l = c .before .before in
@@ -92,9 +75,6 @@ returns-3 c = let l = c .before .before .before .before .before .before in
     let a = l .before .before .args in
     denied (marked-far (a .f .now) (a .o) (l .loop .b) (l .loop .seen) (l .loop .twice) (l .loop .used) (l .loop .inv .1) (a .n) (omega arith) (refuted (c .before .all-zero .ensures) (c .if3 .taken)))
 
-add-unmarked : tie.Need-add-unmarked Inv-loop μ-loop
-add-unmarked c = search needs
-
 slice-aggregate-unmarked : tie.Need-slice-aggregate-unmarked Inv-loop μ-loop
 slice-aggregate-unmarked c = sym (c .before .before .before .before .before .before .before .loop .inv .1 .sized)
 
@@ -113,15 +93,11 @@ indexed-good-spec =
     (tie.spec
     Inv-loop
     μ-loop
-    add-index
     loop-holds
-    add-p
-    shared-slice-read-p
-    cast-twice
+    entry-requires
     array-read-twice
     cast-seen
     array-write-seen
-    cast-in-use
     in-use-requires
     add-used
     add-b
@@ -133,7 +109,6 @@ indexed-good-spec =
     add-all-zero
     all-zero-requires
     returns-3
-    add-unmarked
     slice-aggregate-unmarked
     unmarked-requires
     returns-4)

@@ -12,28 +12,25 @@ use Rattle.shape_inner.proofs.inner_good.Tie as tie
 
 -- what has been passed before the kinds part
 head : (m : tie.Else1) → Head (m .before .before .before .before .args .f .now) (m .before .before .before .before .args .o) (m .before .before .count .result)
-head m = record { count = m .before .before .count .ensures .0; two = omega (arith, m .before .read2 .ensures .0, m .if1 .left) }
+head m = record { count = m .before .before .count .ensures .0; two = omega (arith, m .before .zero .ensures .0, m .if1 .left) }
 
 -- and, in every kind but Node4, after that
 four : (m : tie.Else4) → le 4 (m .before .before .before .before .before .before .before .args .f .now) (m .before .before .before .before .before .before .before .args .o + 4) ≡ 0
-four m = omega (arith, m .before .read4 .ensures .0, m .if4 .left)
+four m = omega (arith, m .before .zero-more .ensures .0, m .if4 .left)
 
 count-requires : tie.Need-count-requires
 count-requires c κs = let s = c .before in
     let z = size-least (s .args .kind) (omega arith) (omega arith) in
     omega (arith, s .pre .2)
 
-add-read2 : tie.Need-add-read2
-add-read2 c = search needs
-
-read2-requires : tie.Need-read2-requires
-read2-requires c κs = let s = c .before .before in
+zero-requires : tie.Need-zero-requires
+zero-requires c κs = let s = c .before .before in
     let z = size-least (s .args .kind) (omega arith) (omega arith) in
     omega (arith, s .pre .2)
 
 returns : tie.Need-returns
 returns c = let s = c .before .before .before .before .args in
-    denied (λ H. c .if1 .taken (omega (arith, c .before .read2 .ensures .0, inner-two (s .f .now) (s .o) (s .kind) (H .kids) (H .is))))
+    denied (λ H. c .if1 .taken (omega (arith, c .before .zero .ensures .0, inner-two (s .f .now) (s .o) (s .kind) (H .kids) (H .is))))
 
 count-fits-requires : tie.Need-count-fits-requires
 count-fits-requires c κs = search needs
@@ -56,17 +53,14 @@ returns-3 c = let s = c .before .before .before .before .before .before .before 
     let m = c .before .before .before .before in
     node4-end (s .args .f .now) (s .args .o) (s .args .kind) (m .before .before .count .result) (head m) (c .before .before .before .if2 .taken) (passed (c .before .before .count-fits .ensures) (c .before .if3 .left)) (s .pre .2) (c .sorted-good .ensures)
 
-add-read4 : tie.Need-add-read4
-add-read4 c = search needs
-
-read4-requires : tie.Need-read4-requires
-read4-requires c κs = let s = c .before .before .before .before .before in
+zero-more-requires : tie.Need-zero-more-requires
+zero-more-requires c κs = let s = c .before .before .before .before .before in
     let z = size-least (s .args .kind) (omega arith) (omega arith) in
     omega (arith, s .pre .2)
 
 returns-4 : tie.Need-returns-4
 returns-4 c = let s = c .before .before .before .before .before .before .before .args in
-    denied (λ H. c .if4 .taken (omega (arith, c .before .read4 .ensures .0, inner-four (s .f .now) (s .o) (s .kind) (H .kids) (H .is) (c .before .before .if2 .left))))
+    denied (λ H. c .if4 .taken (omega (arith, c .before .zero-more .ensures .0, inner-four (s .f .now) (s .o) (s .kind) (H .kids) (H .is) (c .before .before .if2 .left))))
 
 count-fits-requires-2 : tie.Need-count-fits-requires-2
 count-fits-requires-2 c κs = search needs
@@ -129,16 +123,14 @@ inner-good-spec =
     tie.close
     (tie.spec
     count-requires
-    add-read2
-    read2-requires
+    zero-requires
     returns
     count-fits-requires
     returns-2
     add-sorted-good
     sorted-good-requires
     returns-3
-    add-read4
-    read4-requires
+    zero-more-requires
     returns-4
     count-fits-requires-2
     returns-5

@@ -1,10 +1,7 @@
 -- `rising` decides that the bytes ascend: those that are left do, from `low` on, exactly if all do. Assumes nothing.
-use Prim.Native.Nat.{_+_, _-_, _≤_}
-use mathlib.Core.Path.{_∙_, _≡_}
+use Prim.Native.Nat.{_-_, _≤_}
 use native.Mathlib.Omega.{arith}
 use borrow.Author.Needs.{needs}
-use Rattle.layout.proofs.NumberLaws.{le1}
-use Rattle.layout.specs.Number.{byteAt}
 use Rattle.pieces.proofs.DecideLaws.{granted, denied}
 use Rattle.shape_inner.proofs.SortedLaws.{Left, left-all, left-more, left-low, left-end}
 use Rattle.shape_inner.proofs.rising.Statement.{statement}
@@ -19,16 +16,13 @@ abbrev μ-loop : tie.MeasureT-loop
 loop-holds : tie.Need-loop-holds Inv-loop μ-loop
 loop-holds c = let a = c .before .args in (omega arith, omega arith, left-all (a .f .now) (a .at) (a .cap) (a .n))
 
-add-read1 : tie.Need-add-read1 Inv-loop μ-loop
-add-read1 c = search needs
-
-read1-requires : tie.Need-read1-requires Inv-loop μ-loop
-read1-requires c κs = search needs
+byte-requires : tie.Need-byte-requires Inv-loop μ-loop
+byte-requires c κs = search needs
 
 returns : tie.Need-returns Inv-loop μ-loop
 returns c = let l = c .before .before .before in
     let a = l .before .before .args in
-    denied (left-low (a .f .now) (a .at) (a .cap) (a .n) (l .loop .i) (l .loop .low) (omega arith) (l .loop .inv .2) (omega (arith, le1 (a .f .now) (a .at + l .loop .i))))
+    denied (left-low (a .f .now) (a .at) (a .cap) (a .n) (l .loop .i) (l .loop .low) (omega arith) (l .loop .inv .2) (omega arith))
 
 add-low : tie.Need-add-low Inv-loop μ-loop
 add-low c = search needs
@@ -41,11 +35,10 @@ loop-less c = search needs
 
 loop-again : tie.Need-loop-again Inv-loop μ-loop
 loop-again c = let l = c .before .before .before in
-    let a = l .before .before .args in
-    let b : c .before .read1 .result ≡ byteAt (a .f .now) (a .at + l .loop .i) = c .before .read1 .ensures .0 ∙ le1 (a .f .now) (a .at + l .loop .i) in (
+    let a = l .before .before .args in (
       omega arith,
       omega arith,
-      rw b (left-more (a .f .now) (a .at) (a .cap) (a .n) (l .loop .i) (l .loop .low) (λ k. l .before .shared-slice-known .given k .fits) (omega arith) (omega arith) (l .loop .inv .2)),
+      rw (c .before .byte .ensures .0) (left-more (a .f .now) (a .at) (a .cap) (a .n) (l .loop .i) (l .loop .low) (λ k. l .before .shared-slice-known .given k .fits) (omega arith) (omega arith) (l .loop .inv .2)),
     )
 
 returns-2 : tie.Need-returns-2 Inv-loop μ-loop
@@ -60,8 +53,7 @@ rising-spec =
     Inv-loop
     μ-loop
     loop-holds
-    add-read1
-    read1-requires
+    byte-requires
     returns
     add-low
     add-i

@@ -6,15 +6,16 @@ use borrow.Author.Count.{below-more}
 use borrow.Author.Needs.{needs}
 use lib.ListN.{getD}
 use Rattle.layout.specs.Number.{le}
+use Rattle.layout.specs.Place.{node48Children}
 use Rattle.pieces.proofs.DecideLaws.{granted, denied}
 use Rattle.shape_inner.proofs.unmarked.Statement.{statement}
 use Rattle.shape_inner.proofs.unmarked.Tie as tie
 
 abbrev Inv-loop : tie.InvT-loop
-Inv-loop f at seen p₀ p = (p ≤ 48) × ((q : ℕ) → q < p → getD seen (q + 1) 0 ≡ 0 → le 4 f (at + 4 * q) ≡ 0)
+Inv-loop f o seen p₀ p = (p ≤ 48) × ((q : ℕ) → q < p → getD seen (q + 1) 0 ≡ 0 → le 4 f (o + node48Children + 4 * q) ≡ 0)
 
 abbrev μ-loop : tie.MeasureT-loop
-μ-loop f at seen p₀ p = 48 - p
+μ-loop f o seen p₀ p = 48 - p
 
 loop-holds : tie.Need-loop-holds Inv-loop μ-loop
 loop-holds c = (omega arith, λ q l. absurd (omega arith))
@@ -34,16 +35,10 @@ loop-less c = search needs
 loop-again : tie.Need-loop-again Inv-loop μ-loop
 loop-again c = let l = c .before .before .before in
     let a = l .before .before .before .args in
-    (omega arith, below-more (λ (q : ℕ). getD (a .seen .now) (q + 1) 0 ≡ 0 → le 4 (a .f .now) (a .at + 4 * q) ≡ 0) (l .loop .p) (l .loop .inv .1) (λ z. absurd (c .if1 .taken z)))
+    (omega arith, below-more (λ (q : ℕ). getD (a .seen .now) (q + 1) 0 ≡ 0 → le 4 (a .f .now) (a .o + node48Children + 4 * q) ≡ 0) (l .loop .p) (l .loop .inv .1) (λ z. absurd (c .if1 .taken z)))
 
-mul-read4 : tie.Need-mul-read4 Inv-loop μ-loop
-mul-read4 c = search needs
-
-add-read4 : tie.Need-add-read4 Inv-loop μ-loop
-add-read4 c = search needs
-
-read4-requires : tie.Need-read4-requires Inv-loop μ-loop
-read4-requires c κs = search needs
+child-requires : tie.Need-child-requires Inv-loop μ-loop
+child-requires c κs = search needs
 
 returns : tie.Need-returns Inv-loop μ-loop
 returns c = let l = c .before .before .before .before .before in
@@ -58,7 +53,7 @@ loop-less-2 c = search needs
 loop-again-2 : tie.Need-loop-again-2 Inv-loop μ-loop
 loop-again-2 c = let l = c .before .before .before .before .before in
     let a = l .before .before .before .args in
-    (omega arith, below-more (λ (q : ℕ). getD (a .seen .now) (q + 1) 0 ≡ 0 → le 4 (a .f .now) (a .at + 4 * q) ≡ 0) (l .loop .p) (l .loop .inv .1) (λ z. omega arith))
+    (omega arith, below-more (λ (q : ℕ). getD (a .seen .now) (q + 1) 0 ≡ 0 → le 4 (a .f .now) (a .o + node48Children + 4 * q) ≡ 0) (l .loop .p) (l .loop .inv .1) (λ z. omega arith))
 
 returns-2 : tie.Need-returns-2 Inv-loop μ-loop
 returns-2 c = let l = c .before in
@@ -76,9 +71,7 @@ unmarked-spec =
     add-p
     loop-less
     loop-again
-    mul-read4
-    add-read4
-    read4-requires
+    child-requires
     returns
     add-p-2
     loop-less-2

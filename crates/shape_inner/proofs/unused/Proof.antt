@@ -1,9 +1,8 @@
 -- `unused` decides that the places from n on are zero. Assumes nothing.
-use Prim.Native.Nat.{_+_, _-_, _≤_}
+use Prim.Native.Nat.{_-_, _≤_}
 use mathlib.Core.Path.{_≡_}
 use native.Mathlib.Omega.{arith}
 use borrow.Author.Needs.{needs}
-use Rattle.layout.proofs.NumberLaws.{le1}
 use Rattle.pieces.proofs.DecideLaws.{granted, denied}
 use Rattle.shape_inner.specs.Inner.{Unused}
 use Rattle.shape_inner.proofs.SortedLaws.{unused-none, unused-more}
@@ -19,28 +18,19 @@ abbrev μ-loop : tie.MeasureT-loop
 loop-holds : tie.Need-loop-holds Inv-loop μ-loop
 loop-holds c = let a = c .before .args in (omega arith, omega arith, unused-none (a .f .now) (a .at) (a .cap) (a .n))
 
-add-read1 : tie.Need-add-read1 Inv-loop μ-loop
-add-read1 c = search needs
-
-read1-requires : tie.Need-read1-requires Inv-loop μ-loop
-read1-requires c κs = search needs
+byte-requires : tie.Need-byte-requires Inv-loop μ-loop
+byte-requires c κs = search needs
 
 returns : tie.Need-returns Inv-loop μ-loop
 returns c = let l = c .before .before .before in
     let a = l .before .before .args in
-    denied (λ U. c .if1 .taken (omega (arith, le1 (a .f .now) (a .at + l .loop .i), U .bytes (l .loop .i) (omega arith) (omega arith))))
+    denied (λ U. c .if1 .taken (omega (arith, U .bytes (l .loop .i) (omega arith) (omega arith))))
 
-add-read4 : tie.Need-add-read4 Inv-loop μ-loop
-add-read4 c = search needs
+add-child : tie.Need-add-child Inv-loop μ-loop
+add-child c = search needs
 
-mul-read4 : tie.Need-mul-read4 Inv-loop μ-loop
-mul-read4 c = search needs
-
-add-read4-2 : tie.Need-add-read4-2 Inv-loop μ-loop
-add-read4-2 c = search needs
-
-read4-requires : tie.Need-read4-requires Inv-loop μ-loop
-read4-requires c κs = search needs
+child-requires : tie.Need-child-requires Inv-loop μ-loop
+child-requires c κs = search needs
 
 returns-2 : tie.Need-returns-2 Inv-loop μ-loop
 returns-2 c = let l = c .before .before .before .before .before in
@@ -58,7 +48,7 @@ loop-again c = let l = c .before .before .before .before .before in
     let a = l .before .before .args in (
       omega arith,
       omega arith,
-      unused-more (a .f .now) (a .at) (a .cap) (a .n) (l .loop .i) (l .loop .inv .2) (omega (arith, le1 (a .f .now) (a .at + l .loop .i))) (omega arith),
+      unused-more (a .f .now) (a .at) (a .cap) (a .n) (l .loop .i) (l .loop .inv .2) (omega arith) (omega arith),
     )
 
 returns-3 : tie.Need-returns-3 Inv-loop μ-loop
@@ -73,13 +63,10 @@ unused-spec =
     Inv-loop
     μ-loop
     loop-holds
-    add-read1
-    read1-requires
+    byte-requires
     returns
-    add-read4
-    mul-read4
-    add-read4-2
-    read4-requires
+    add-child
+    child-requires
     returns-2
     add-i
     loop-less
