@@ -1,7 +1,7 @@
 -- Each operation by kind: what its parts ask, and what they give back. Assumes nothing.
-use Prim.Native.Nat.{ℕ, _+_, _*_, _<_, _≤_}
+use Prim.Native.Nat.{ℕ, _+_, _*_, _-_, _<_, _≤_}
 use mathlib.Core.Path.{_≡_, refl, _∙_, ap, sym}
-use mathlib.Core.List.{List, [], _∷_}
+use mathlib.Core.List.{List}
 use mathlib.Core.Option.{none}
 use native.Mathlib.Omega.{arith}
 use lib.ListN.{length, set}
@@ -22,6 +22,12 @@ use Rattle.inner.specs.Inner.{sortedBytes, placeAt, appended, NodeSome, 
 use Rattle.inner.proofs.InnerLaws.{size-sorted, most-sorted, as-sorted, of-sorted, of-48, of-256, inner-count, inner-asc}
 
 -- ---- Node4 and Node16, at the numbers that the tables gave
+
+pub places-sorted : {bytes children : ℕ} (kind : ℕ) → bytes ≡ sortedBytes kind → children ≡ sortedBytes kind + most kind → children - bytes ≡ most kind
+places-sorted kind eb ek = omega arith
+
+pub children-sorted : {children : ℕ} (o kind i : ℕ) → children ≡ sortedBytes kind + most kind → o + children + 4 * i ≡ o + sortedBytes kind + most kind + 4 * i
+children-sorted o kind i ek = omega arith
 
 few-sorted : {cap bytes : ℕ} (o kind : ℕ) → kind ≤ 5 → cap ≡ most kind → bytes ≡ sortedBytes kind → 4 ≤ kind → (cap ≤ 256) × (o + bytes + 5 * cap ≡ o + bodySize kind)
 few-sorted o kind h ec eb a = let m = most-sorted kind a h in let s = size-sorted kind a h in (omega arith, omega arith)
@@ -137,11 +143,6 @@ visited {f} {o} {kind} {i} {at} {x} {y} W I =
     let e = Q (W .kids) (W .node) (W .reached) .0 in
     (omega (arith, asc-byte 0 (W .kids) i (inner-asc (W .kids) (W .node)) (W .inside)), Q)
 
-pub only-list : {x y : ℕ} (ks : List (ℕ × ℕ)) → length ks ≡ 1 → x ≡ byteIn ks 0 → y ≡ childIn ks 0 → ks ≡ (x, y) ∷ []
-only-list [] l p q = absurd (omega arith)
-only-list (k ∷ []) l p q = λ i. (sym p i, sym q i) ∷ []
-only-list (k ∷ k' ∷ ks) l p q = absurd (omega arith)
-
 -- ---- a child behind the others
 
 pub is-sorted : (f : List ℕ) (o kind i b s : ℕ) → kind ≤ 5 → appended f o kind i b s ≡ put 4 (set f (o + sortedBytes kind + i) b) (o + sortedBytes kind + most kind + 4 * i) s
@@ -157,8 +158,8 @@ unfolding appended
 is-256 f o kind i b s e = rw e refl
 
 -- with the numbers that the tables gave
-pub append-sorted : (f : List ℕ) {g : List ℕ} {cap bytes : ℕ} (o kind i b s : ℕ) → kind ≤ 5 → cap ≡ most kind → bytes ≡ sortedBytes kind → g ≡ put 4 (set f (o + bytes + i) b) (o + bytes + cap + 4 * i) s → g ≡ appended f o kind i b s
-append-sorted f o kind i b s h ec eb E = (rw (ec, eb) at E) ∙ sym (is-sorted f o kind i b s h)
+pub append-sorted : (f : List ℕ) {g : List ℕ} {bytes children : ℕ} (o kind i b s : ℕ) → kind ≤ 5 → bytes ≡ sortedBytes kind → children ≡ sortedBytes kind + most kind → g ≡ put 4 (set f (o + bytes + i) b) (o + children + 4 * i) s → g ≡ appended f o kind i b s
+append-sorted f o kind i b s h eb ek E = (rw (children-sorted o kind i ek, eb) at E) ∙ sym (is-sorted f o kind i b s h)
 
 pub append-48 : (f : List ℕ) {g : List ℕ} (o kind i b s : ℕ) → kind ≡ 6 → g ≡ put 4 (set f (o + node48Index + b) (i + 1)) (o + node48Children + 4 * i) s → g ≡ appended f o kind i b s
 append-48 f o kind i b s e E = E ∙ sym (is-48 f o kind i b s e)

@@ -57,12 +57,6 @@ pub record NodeHas (f : List ℕ) (o kind b : ℕ) : Type 0 where
   pub child : ℕ
   pub has : lookKid b kids ≡ some child
 
--- a Node4 of one child
-pub record NodeOne (f : List ℕ) (o : ℕ) : Type 0 where
-  pub kids : List (ℕ × ℕ)
-  pub node : InnerAt f o 4 kids
-  pub one : length kids ≡ 1
-
 -- a walk through the children stands before the i-th
 pub record Visit (f : List ℕ) (o kind i at : ℕ) : Type 0 where
   pub kids : List (ℕ × ℕ)

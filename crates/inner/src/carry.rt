@@ -2,7 +2,6 @@
 use crate::look;
 use crate::visit;
 use fields::body::Node;
-use layout::kind;
 use layout::kind::Kind;
 use node::sorted;
 use node_big::node48;
@@ -22,8 +21,8 @@ pub fn append(f: &mut [u8], o: usize, kind: usize, i: usize, b: u8, slot: usize)
         sorted::append(
             f,
             o,
-            kind::most_children(kind),
             look::sorted_bytes(kind),
+            look::sorted_children(kind),
             i,
             b,
             slot,

@@ -28,8 +28,8 @@ pub fn add(f: &mut [u8], o: usize, kind: usize, b: u8, slot: usize)
         sorted::add(
             f,
             o,
-            kind::most_children(kind),
             look::sorted_bytes(kind),
+            look::sorted_children(kind),
             b,
             slot,
         );
@@ -48,7 +48,13 @@ pub fn remove(f: &mut [u8], o: usize, kind: usize, b: u8)
     ensures { λ _. ⌜ Removed (now (f .entry)) (now (f .exit)) o kind b ⌝ }
 {
     if kind <= Kind::NODE16 {
-        sorted::remove(f, o, kind::most_children(kind), look::sorted_bytes(kind), b);
+        sorted::remove(
+            f,
+            o,
+            look::sorted_bytes(kind),
+            look::sorted_children(kind),
+            b,
+        );
         return;
     }
     if kind == Kind::NODE48 {

@@ -1,25 +1,30 @@
 // The children of an inner body of any kind, in byte order.
 use crate::look;
-use layout::kind;
 use layout::kind::Kind;
 use node::Child;
 use node::sorted;
 use node_big::node48;
 use node_big::node256;
 ghost use mathlib.Core.Path.{_≡_};
-ghost use mathlib.Core.List.{List, [], _∷_};
+ghost use mathlib.Core.List.{List};
 ghost use Prim.Native.Nat.{ℕ, _≤_, _<_};
 ghost use Rattle.layout.specs.Kind.{most};
 ghost use Rattle.model.specs.Body.{InnerAt, byteIn, childIn};
 ghost use Rattle.node.specs.Kids.{nextKid, Reached};
-ghost use Rattle.inner.specs.Inner.{NodeSome, NodeOne, Visit};
+ghost use Rattle.inner.specs.Inner.{NodeSome, Visit};
 
 // The i-th child from 0 of a Node4 or Node16.
 fn sorted_child(f: &[u8], o: usize, kind: usize, i: usize) -> Child
     requires { ⌜ NodeSome (now f) o kind × (kind ≤ 5) × (i < most kind) ⌝ }
     ensures { λ r. ⌜ (r .byte < 256) × ((ks : List (ℕ × ℕ)) → InnerAt (now (f .entry)) o kind ks → (r .byte ≡ byteIn ks i) × (r .slot ≡ childIn ks i)) ⌝ }
 {
-    sorted::child_at(f, o, kind::most_children(kind), look::sorted_bytes(kind), i)
+    sorted::child_at(
+        f,
+        o,
+        look::sorted_bytes(kind),
+        look::sorted_children(kind),
+        i,
+    )
 }
 
 // The i-th child from 0, of a walk that is past the bytes below `from`: where the walk starts 0, then one more than the byte of the
@@ -47,8 +52,8 @@ pub fn next_child(f: &[u8], o: usize, kind: usize, from: usize) -> Child
         return sorted::next(
             f,
             o,
-            kind::most_children(kind),
             look::sorted_bytes(kind),
+            look::sorted_children(kind),
             from,
         );
     }
@@ -56,12 +61,4 @@ pub fn next_child(f: &[u8], o: usize, kind: usize, from: usize) -> Child
         return node48::next(f, o, from);
     }
     node256::next(f, o, from)
-}
-
-// The child of a Node4 that has one.
-pub fn only_child(f: &[u8], o: usize) -> Child
-    requires { ⌜ NodeOne (now f) o ⌝ }
-    ensures { λ r. ⌜ (r .byte < 256) × ((ks : List (ℕ × ℕ)) → InnerAt (now (f .entry)) o 4 ks → ks ≡ (r .byte, r .slot) ∷ []) ⌝ }
-{
-    child_at(f, o, Kind::NODE4, 0, 0)
 }

@@ -2,22 +2,22 @@
 use native.Mathlib.Omega.{arith}
 use mathlib.Core.Path.{_≡_}
 use Rattle.inner.proofs.InnerLaws.{size-sorted}
-use Rattle.inner.proofs.DispatchLaws.{append-sorted, append-48, append-256}
+use Rattle.inner.proofs.DispatchLaws.{places-sorted, append-sorted, append-48, append-256}
 use borrow.Author.Needs.{needs}
 use Rattle.inner.proofs.carry.append.Statement.{statement}
 use Rattle.inner.proofs.carry.append.Tie as tie
 
-most-children-requires : tie.Need-most-children-requires
-most-children-requires c κs = search needs
-
 sorted-bytes-requires : tie.Need-sorted-bytes-requires
 sorted-bytes-requires c κs = search needs
+
+sorted-children-requires : tie.Need-sorted-children-requires
+sorted-children-requires c κs = search needs
 
 append-requires : tie.Need-append-requires
 append-requires c κs =
     let P = c .before .before .before .before .before .pre in
-    let ec = c .before .most-children .ensures in
-    let eb = c .sorted-bytes .ensures in
+    let eb = c .before .sorted-bytes .ensures in
+    let ec = places-sorted (c .before .before .before .before .before .args .kind) eb (c .sorted-children .ensures) in
     let e = size-sorted (c .before .before .before .before .before .args .kind) (P .0) (c .before .before .before .if1 .taken) in
     (omega arith, omega arith)
 
@@ -27,7 +27,7 @@ same-length c = search needs
 returns : tie.Need-returns
 returns c =
     let a = c .before .before .before .before .before .before .before .before .args in
-    append-sorted _ (a .o) (a .kind) (a .i) (a .b) (a .slot) (c .before .before .before .before .before .before .if1 .taken) (c .before .before .before .before .most-children .ensures) (c .before .before .before .sorted-bytes .ensures) (c .before .before .append .ensures)
+    append-sorted _ (a .o) (a .kind) (a .i) (a .b) (a .slot) (c .before .before .before .before .before .before .if1 .taken) (c .before .before .before .before .sorted-bytes .ensures) (c .before .before .before .sorted-children .ensures) (c .before .before .append .ensures)
 
 append-requires-2 : tie.Need-append-requires-2
 append-requires-2 c κs = let P = c .before .before .before .before .pre in let e = c .before .if2 .taken in (rw e at (P .2), rw e at (P .3))
@@ -58,8 +58,8 @@ pub append-spec : {M : Type 1} → statement M
 append-spec =
     tie.close
     (tie.spec
-    most-children-requires
     sorted-bytes-requires
+    sorted-children-requires
     append-requires
     same-length
     returns

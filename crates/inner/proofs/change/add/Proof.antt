@@ -1,18 +1,20 @@
 -- By kind. Assumes nothing.
 use Rattle.inner.proofs.InnerLaws.{last-kind}
-use Rattle.inner.proofs.DispatchLaws.{open-sorted, open-48, open-256, added-sorted, added-48, added-256}
+use Rattle.inner.proofs.DispatchLaws.{places-sorted, open-sorted, open-48, open-256, added-sorted, added-48, added-256}
 use borrow.Author.Needs.{needs}
 use Rattle.inner.proofs.change.add.Statement.{statement}
 use Rattle.inner.proofs.change.add.Tie as tie
 
-most-children-requires : tie.Need-most-children-requires
-most-children-requires c κs = search needs
-
 sorted-bytes-requires : tie.Need-sorted-bytes-requires
 sorted-bytes-requires c κs = search needs
 
+sorted-children-requires : tie.Need-sorted-children-requires
+sorted-children-requires c κs = search needs
+
 add-requires : tie.Need-add-requires
-add-requires c κs = (open-sorted (c .before .before .before .if1 .taken) (c .before .most-children .ensures) (c .sorted-bytes .ensures) (c .before .before .before .before .before .pre .0), c .before .before .before .before .before .pre .2)
+add-requires c κs =
+    let eb = c .before .sorted-bytes .ensures in
+    (open-sorted (c .before .before .before .if1 .taken) (places-sorted (c .before .before .before .before .before .args .kind) eb (c .sorted-children .ensures)) eb (c .before .before .before .before .before .pre .0), c .before .before .before .before .before .pre .2)
 
 same-length : tie.Need-same-length
 same-length c = search needs
@@ -20,7 +22,8 @@ same-length c = search needs
 returns : tie.Need-returns
 returns c =
     let I = c .before .before .add .ensures in
-    added-sorted (c .before .before .before .before .before .before .if1 .taken) (c .before .before .before .before .most-children .ensures) (c .before .before .before .sorted-bytes .ensures) (c .before .before .before .before .before .before .before .before .pre .0 .node .range .0) (I .0) (I .1)
+    let eb = c .before .before .before .before .sorted-bytes .ensures in
+    added-sorted (c .before .before .before .before .before .before .if1 .taken) (places-sorted (c .before .before .before .before .before .before .before .before .args .kind) eb (c .before .before .before .sorted-children .ensures)) eb (c .before .before .before .before .before .before .before .before .pre .0 .node .range .0) (I .0) (I .1)
 
 add-requires-2 : tie.Need-add-requires-2
 add-requires-2 c κs = (open-48 (c .before .before .before .before .pre .0) (c .before .if2 .taken), c .before .before .before .before .pre .2)
@@ -44,8 +47,8 @@ pub add-spec : {M : Type 1} → statement M
 add-spec =
     tie.close
     (tie.spec
-    most-children-requires
     sorted-bytes-requires
+    sorted-children-requires
     add-requires
     same-length
     returns

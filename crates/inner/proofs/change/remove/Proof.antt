@@ -1,18 +1,20 @@
 -- By kind. Assumes nothing.
 use Rattle.inner.proofs.InnerLaws.{last-kind}
-use Rattle.inner.proofs.DispatchLaws.{has-sorted, has-48, has-256, removed-sorted, removed-48, removed-256}
+use Rattle.inner.proofs.DispatchLaws.{places-sorted, has-sorted, has-48, has-256, removed-sorted, removed-48, removed-256}
 use borrow.Author.Needs.{needs}
 use Rattle.inner.proofs.change.remove.Statement.{statement}
 use Rattle.inner.proofs.change.remove.Tie as tie
 
-most-children-requires : tie.Need-most-children-requires
-most-children-requires c κs = search needs
-
 sorted-bytes-requires : tie.Need-sorted-bytes-requires
 sorted-bytes-requires c κs = search needs
 
+sorted-children-requires : tie.Need-sorted-children-requires
+sorted-children-requires c κs = search needs
+
 remove-requires : tie.Need-remove-requires
-remove-requires c κs = has-sorted (c .before .before .before .if1 .taken) (c .before .most-children .ensures) (c .sorted-bytes .ensures) (c .before .before .before .before .before .pre)
+remove-requires c κs =
+    let eb = c .before .sorted-bytes .ensures in
+    has-sorted (c .before .before .before .if1 .taken) (places-sorted (c .before .before .before .before .before .args .kind) eb (c .sorted-children .ensures)) eb (c .before .before .before .before .before .pre)
 
 same-length : tie.Need-same-length
 same-length c = search needs
@@ -20,7 +22,8 @@ same-length c = search needs
 returns : tie.Need-returns
 returns c =
     let I = c .before .before .remove .ensures in
-    removed-sorted (c .before .before .before .before .before .before .if1 .taken) (c .before .before .before .before .most-children .ensures) (c .before .before .before .sorted-bytes .ensures) (c .before .before .before .before .before .before .before .before .pre .node .range .0) (I .0) (I .1)
+    let eb = c .before .before .before .before .sorted-bytes .ensures in
+    removed-sorted (c .before .before .before .before .before .before .if1 .taken) (places-sorted (c .before .before .before .before .before .before .before .before .args .kind) eb (c .before .before .before .sorted-children .ensures)) eb (c .before .before .before .before .before .before .before .before .pre .node .range .0) (I .0) (I .1)
 
 remove-requires-2 : tie.Need-remove-requires-2
 remove-requires-2 c κs = has-48 (c .before .before .before .before .pre) (c .before .if2 .taken)
@@ -44,8 +47,8 @@ pub remove-spec : {M : Type 1} → statement M
 remove-spec =
     tie.close
     (tie.spec
-    most-children-requires
     sorted-bytes-requires
+    sorted-children-requires
     remove-requires
     same-length
     returns

@@ -1,21 +1,25 @@
 -- By kind. Assumes nothing.
 use Rattle.inner.proofs.InnerLaws.{last-kind}
-use Rattle.inner.proofs.DispatchLaws.{at-sorted, some-sorted}
+use Rattle.inner.proofs.DispatchLaws.{places-sorted, at-sorted, some-sorted}
 use borrow.Author.Needs.{needs}
 use Rattle.inner.proofs.visit.next_child.Statement.{statement}
 use Rattle.inner.proofs.visit.next_child.Tie as tie
 
-most-children-requires : tie.Need-most-children-requires
-most-children-requires c κs = search needs
-
 sorted-bytes-requires : tie.Need-sorted-bytes-requires
 sorted-bytes-requires c κs = search needs
 
+sorted-children-requires : tie.Need-sorted-children-requires
+sorted-children-requires c κs = search needs
+
 next-requires : tie.Need-next-requires
-next-requires c κs = some-sorted (c .before .before .if1 .taken) (c .before .most-children .ensures) (c .sorted-bytes .ensures) (c .before .before .before .before .pre .0)
+next-requires c κs =
+    let eb = c .before .sorted-bytes .ensures in
+    some-sorted (c .before .before .if1 .taken) (places-sorted (c .before .before .before .before .args .kind) eb (c .sorted-children .ensures)) eb (c .before .before .before .before .pre .0)
 
 returns : tie.Need-returns
-returns c = λ ks N. c .next .ensures ks (at-sorted (c .before .before .before .if1 .taken) (c .before .before .most-children .ensures) (c .before .sorted-bytes .ensures) N)
+returns c =
+    let eb = c .before .before .sorted-bytes .ensures in
+    λ ks N. c .next .ensures ks (at-sorted (c .before .before .before .if1 .taken) (places-sorted (c .before .before .before .before .before .args .kind) eb (c .before .sorted-children .ensures)) eb N)
 
 next-requires-2 : tie.Need-next-requires-2
 next-requires-2 c κs = (record { kids = c .before .before .before .pre .0 .kids; node = c .before .before .before .pre .0 .node .six (c .if2 .taken) }, c .before .before .before .pre .1)
@@ -33,8 +37,8 @@ pub next-child-spec : {M : Type 1} → statement M
 next-child-spec =
     tie.close
     (tie.spec
-    most-children-requires
     sorted-bytes-requires
+    sorted-children-requires
     next-requires
     returns
     next-requires-2
