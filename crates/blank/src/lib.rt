@@ -1,4 +1,5 @@
 // The frame as format leaves it: "zeroes the frame, then sets slot 1 to an EmptyRoot at D".
+use fields::body::EmptyRoot;
 use fields::header::Header;
 use layout::entry::Entry;
 use layout::kind::Kind;
@@ -15,14 +16,14 @@ pub fn lay_out(frame: &mut [u8], capacity: usize)
     requires { ⌜ Limits (length (now frame)) capacity ⌝ }
     ensures { λ _. ⌜ now (frame .exit) ≡ image edition1 (length (now (frame .entry))) capacity [] ⌝ }
 {
-    let start = Header::SIZE + Entry::SIZE * capacity;
+    let start = Header::data_start_of(capacity);
     let bytes = frame.len();
     moves::clear(frame, 0, bytes);
     let header = Header {
         frame_length: bytes,
         slot_capacity: capacity,
         data_start: start,
-        next_byte: start + 8,
+        next_byte: start + EmptyRoot::SIZE,
         slots_given: 1,
         records: 0,
         dead_bytes: 0,

@@ -1,6 +1,6 @@
 -- The header's test, exit by exit: what a good header has passed, and that one that passed all is good. Assumes nothing.
 use Prim.Native.Nat.{ℕ, _+_, _*_}
-use mathlib.Core.Path.{_≡_, refl}
+use mathlib.Core.Path.{_≡_}
 use mathlib.Core.List.{List}
 use mathlib.Core.Bool.{Bool, false}
 use native.Mathlib.Omega.{arith}
@@ -10,7 +10,7 @@ use Rattle.layout.specs.Place.{atEdition, atN, atD, atB, atU, atSpare, headerSi
 use Rattle.model.specs.Frame.{Numbers, Header}
 use Rattle.pieces.specs.Decides.{Decides}
 use Rattle.pieces.specs.Range.{Blank}
-use Rattle.shape.specs.Shape.{LengthFits, NumbersFit, numbersOf, HeaderTold}
+use Rattle.shape.specs.Shape.{LengthFits, NumbersFit, HeaderTold}
 use Rattle.pieces.proofs.DecideLaws.{clash}
 
 -- the fields read
@@ -19,10 +19,6 @@ pub record HeaderRead (f : List ℕ) (n d b u : ℕ) : Type 0 where
   pub start : d ≡ le 4 f atD
   pub next : b ≡ le 4 f atB
   pub given : u ≡ le 4 f atU
-
--- a header has no numbers but those of its fields
-pub only-numbers : (f : List ℕ) (h : Numbers) → Header f h → h ≡ numbersOf f
-only-numbers f h H = rw (H .edition, H .stored, H .slotsAt, H .bumpAt, H .givenAt, H .recordsAt, H .deadAt, H .rootAt) refl
 
 module _ (f : List ℕ) where
   pub header-denied : ((h : Numbers) → Header f h → h .edition ≡ 1 → ⊥) → HeaderTold f false

@@ -1,28 +1,19 @@
 // The frame's length and its header.
+use fields::body::EmptyRoot;
 use fields::header::Header;
 use layout::entry::Entry;
 ghost use Rattle.pieces.specs.Decides.{Decides};
 ghost use Rattle.shape.specs.Shape.{LengthFits, NumbersFit, HeaderTold};
-
-// F, a multiple of 8
-const LEAST_LENGTH: usize = 1024;
-
-const MOST_LENGTH: usize = 524288;
-
-// N, even
-const LEAST_SLOTS: usize = 8;
-
-const MOST_SLOTS: usize = 10240;
 
 // The slice's length keeps the limits and is the stored F; if not, refusal 1. A short slice is not read.
 pub fn length_good(f: &[u8]) -> bool
     ensures { λ r. ⌜ Decides (LengthFits (now (f .entry))) r ⌝ }
 {
     let n = f.len();
-    if n < LEAST_LENGTH {
+    if n < Header::LEAST_LENGTH {
         return false;
     }
-    if n > MOST_LENGTH {
+    if n > Header::MOST_LENGTH {
         return false;
     }
     if n % 8 != 0 {
@@ -35,19 +26,19 @@ pub fn length_good(f: &[u8]) -> bool
 fn numbers_fit(length: usize, n: usize, d: usize, b: usize, u: usize) -> bool
     ensures { λ r. ⌜ Decides (NumbersFit length n d b u) r ⌝ }
 {
-    if n < LEAST_SLOTS {
+    if n < Header::LEAST_SLOTS {
         return false;
     }
-    if n > MOST_SLOTS {
+    if n > Header::MOST_SLOTS {
         return false;
     }
     if n % 2 != 0 {
         return false;
     }
-    if d != Header::SIZE + Entry::SIZE * n {
+    if d != Header::data_start_of(n) {
         return false;
     }
-    if b < d + 8 {
+    if b < d + EmptyRoot::SIZE {
         return false;
     }
     if b > length {

@@ -4,17 +4,14 @@ use borrow.Author.Needs.{needs}
 use Rattle.blank.proofs.lay_out.Statement.{statement}
 use Rattle.blank.proofs.lay_out.Tie as tie
 
-mul-start : tie.Need-mul-start
-mul-start c = search needs
-
-add-start : tie.Need-add-start
-add-start c = search needs
+data-start-of-requires : tie.Need-data-start-of-requires
+data-start-of-requires c κs = search needs
 
 clear-requires : tie.Need-clear-requires
 clear-requires c κs = search needs
 
-add-t6 : tie.Need-add-t6
-add-t6 c = search needs
+add-t9 : tie.Need-add-t9
+add-t9 c = search needs
 
 write-requires : tie.Need-write-requires
 write-requires c κs = search needs
@@ -29,17 +26,16 @@ returns : tie.Need-returns
 returns c =
     let wrote = c .before .before in
     let cleared = wrote .before .before .before .before .before .before .before .before in
-    let start = cleared .before .before .before in
+    let start = cleared .before .before .before .before in
     cc (laid-out _ _ _ (start .pre) (cleared .clear .ensures))
 
 pub lay-out-spec : {M : Type 1} → statement M
 lay-out-spec =
     tie.close
     (tie.spec
-    mul-start
-    add-start
+    data-start-of-requires
     clear-requires
-    add-t6
+    add-t9
     write-requires
     write-requires-2
     same-length

@@ -14,11 +14,8 @@ returns-2 c = denied (λ p. omega arith)
 returns-3 : tie.Need-returns-3
 returns-3 c = denied (λ p. omega arith)
 
-mul-if4 : tie.Need-mul-if4
-mul-if4 c = search needs
-
-add-if4 : tie.Need-add-if4
-add-if4 c = search needs
+data-start-of-requires : tie.Need-data-start-of-requires
+data-start-of-requires c κs = search needs
 
 returns-4 : tie.Need-returns-4
 returns-4 c = denied (λ p. omega arith)
@@ -39,7 +36,7 @@ returns-8 : tie.Need-returns-8
 returns-8 c = denied (λ p. omega arith)
 
 returns-9 : tie.Need-returns-9
-returns-9 c = let a = c .before .before .before .before .before .before .before .before .args in
+returns-9 c = let a = c .before .before .before .before .before .before .before .before .before .args in
     by-le (a .u) (a .n) (λ l. record { slotCap = omega arith; dataIs = omega arith; bumpIn = omega arith; givenIn = omega arith }) (λ p. omega arith)
 
 pub numbers-fit-spec : {M : Type 1} → statement M
@@ -49,8 +46,7 @@ numbers-fit-spec =
     returns
     returns-2
     returns-3
-    mul-if4
-    add-if4
+    data-start-of-requires
     returns-4
     add-if5
     returns-5
