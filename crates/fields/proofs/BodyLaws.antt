@@ -1,15 +1,20 @@
--- A Leaf's body that was written is read, and all around it stays. Assumes nothing.
+-- A Leaf's body that was written is read, and all around it stays; the zero field of a Prefix in two pieces. Assumes nothing.
 use Prim.Native.Nat.{ℕ, _+_, _^_, _<_, _≤_}
 use mathlib.Core.Path.{_≡_}
 use mathlib.Core.List.{List}
 use mathlib.Core.Logic.{⊎-elim, inl, inr}
-use mathlib.Core.Bool.{true}
+use mathlib.Core.Bool.{Bool, true}
 use native.Mathlib.Omega.{arith}
 use borrow.Author.Tests.{leb-true, le-leb}
 use lib.Dec.{leb}
 use lib.ListN.{length}
 use Rattle.layout.specs.Number.{byteAt, le, put}
-use Rattle.layout.specs.Place.{leafExtent, leafKey, leafValue, leafZero}
+use Rattle.layout.specs.Place.{leafExtent, leafKey, leafValue, leafZero, prefixZero, prefixBytes}
+use Rattle.pieces.specs.Decides.{Decides}
+use Rattle.pieces.specs.Range.{IsZero, Blank}
+use Rattle.pieces.proofs.DecideLaws.{handed}
+use Rattle.pieces.proofs.RangeLaws.{range-join}
+use Rattle.pieces.proofs.ZeroLaws.{blank-le, le-blank}
 use Rattle.fields.specs.Body.{putLeafBody}
 use Rattle.layout.proofs.NumberLaws.{lt-or-le, Off, getD-put-off, zero-le-bytes, le-laws, own-at}
 
@@ -60,3 +65,16 @@ module _ (f : List ℕ) (o extent key value : ℕ) where
         let g = putLeafBody f o extent key value in
         ⊎-elim (λ l. zero-le-bytes 4 g (o + leafZero) leaf-zero-low a x (omega arith))
         (λ l. zero-le-bytes 4 g (o + (leafZero + 4)) leaf-zero-high a l (omega arith)) (lt-or-le a (o + (leafZero + 4)))
+
+-- ---- the zero field of a Prefix, ten bytes: two, and eight
+
+pub ten-two : (f : List ℕ) (o : ℕ) → Blank f (o + prefixZero) (o + prefixBytes) → le 2 f (o + prefixZero) ≡ 0
+ten-two f o h = blank-le 2 f (o + prefixZero) (λ a x y. h a x (omega arith))
+
+pub ten-eight : (f : List ℕ) (o : ℕ) {r : Bool} → le 2 f (o + prefixZero) ≡ 0 → Decides (Blank f (o + (prefixZero + 2)) (o + (prefixZero + 2) + 8)) r
+    → Decides (Blank f (o + prefixZero) (o + prefixBytes)) r
+ten-eight f o two D =
+    handed D
+    (λ eight. range-join (IsZero f) (o + prefixZero) (o + (prefixZero + 2)) (o + prefixBytes)
+    (λ a x y. le-blank 2 f (o + prefixZero) two a x (omega arith)) (λ a x y. eight a x (omega arith)))
+    (λ h a x y. h a (omega arith) (omega arith))

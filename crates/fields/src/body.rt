@@ -4,10 +4,12 @@ use layout::kind;
 use layout::kind::Kind;
 use layout::number;
 ghost use mathlib.Core.Path.{_≡_};
-ghost use Prim.Native.Nat.{_+_, _*_, _≤_, _<_};
-ghost use lib.ListN.{length, set};
+ghost use Prim.Native.Nat.{_+_, _*_, _/_, _≤_, _<_};
+ghost use lib.ListN.{length, set, take, drop};
 ghost use Rattle.layout.specs.Number.{byteAt, le, put};
-ghost use Rattle.layout.specs.Place.{leafExtent, leafKey, leafValue, prefixChild, prefixLength, nodeCount, nodeZero, node48Index, node48Children, node256Children};
+ghost use Rattle.layout.specs.Place.{leafExtent, leafKey, leafValue, leafZero, prefixChild, prefixLength, prefixZero, prefixBytes, nodeCount, nodeZero, node48Index, node48Children, node256Children};
+ghost use Rattle.pieces.specs.Decides.{Decides};
+ghost use Rattle.pieces.specs.Range.{Blank};
 ghost use Rattle.fields.specs.Body.{putLeafBody};
 
 pub struct Leaf;
@@ -43,6 +45,22 @@ impl Leaf {
         ensures { λ r. ⌜ (r ≡ le 2 (now (f .entry)) (o + leafValue)) × (r < 65536) ⌝ }
     {
         number::read2(f, o + Leaf::VALUE)
+    }
+
+    // Its zero field is zero.
+    pub fn zeros_good(f: &[u8], o: usize) -> bool
+        requires { ⌜ o + 16 ≤ length (now f) ⌝ }
+        ensures { λ r. ⌜ Decides (Blank (now (f .entry)) (o + leafZero) (o + leafZero + 8)) r ⌝ }
+    {
+        pieces::zero_eight(f, o + Leaf::ZERO)
+    }
+
+    // The bytes that an extent of n bytes takes.
+    pub fn rounded(n: usize) -> usize
+        requires { ⌜ n < 4294967296 ⌝ }
+        ensures { λ r. ⌜ r ≡ (n + 7) / 8 * 8 ⌝ }
+    {
+        (n + 7) / 8 * 8
     }
 
     // The whole body, its zeros too.
@@ -87,6 +105,43 @@ impl Prefix {
         number::read2(f, o + Prefix::LENGTH)
     }
 
+    // The byte that i others stand before.
+    pub fn byte(f: &[u8], o: usize, i: usize) -> u8
+        requires { ⌜ (o + 128 ≤ length (now f)) × (i < 112) ⌝ }
+        ensures { λ r. ⌜ r ≡ byteAt (now (f .entry)) (o + prefixBytes + i) ⌝ }
+    {
+        f[o + Prefix::BYTES + i]
+    }
+
+    // The first n bytes.
+    pub fn bytes(f: &[u8], o: usize, n: usize) -> &[u8]
+        requires { ⌜ (o + 128 ≤ length (now f)) × (n ≤ 112) ⌝ }
+        ensures { λ r. ⌜ now r ≡ take n (drop (o + prefixBytes) (now (f .entry))) ⌝ }
+    {
+        let from = o + Prefix::BYTES;
+        let to = from + n;
+        &f[from..to]
+    }
+
+    // Its zero field is zero.
+    pub fn zeros_good(f: &[u8], o: usize) -> bool
+        requires { ⌜ o + 128 ≤ length (now f) ⌝ }
+        ensures { λ r. ⌜ Decides (Blank (now (f .entry)) (o + prefixZero) (o + prefixBytes)) r ⌝ }
+    {
+        if number::read2(f, o + Prefix::ZERO) != 0 {
+            return false;
+        }
+        pieces::zero_eight(f, o + (Prefix::ZERO + 2))
+    }
+
+    // What follows the first n bytes is zero.
+    pub fn rest_good(f: &[u8], o: usize, n: usize) -> bool
+        requires { ⌜ (o + 128 ≤ length (now f)) × (n ≤ 112) ⌝ }
+        ensures { λ r. ⌜ Decides (Blank (now (f .entry)) (o + prefixBytes + n) (o + 128)) r ⌝ }
+    {
+        pieces::all_zero(f, o + Prefix::BYTES + n, o + Prefix::SIZE)
+    }
+
     pub fn set_child(f: &mut [u8], o: usize, slot: usize)
         requires { ⌜ o + 128 ≤ length (now f) ⌝ }
         ensures { λ _. ⌜ now (f .exit) ≡ put 4 (now (f .entry)) (o + prefixChild) slot ⌝ }
@@ -99,6 +154,13 @@ impl Prefix {
         ensures { λ _. ⌜ now (f .exit) ≡ put 2 (now (f .entry)) (o + prefixLength) n ⌝ }
     {
         number::write2(f, o + Prefix::LENGTH, n);
+    }
+
+    pub fn set_byte(f: &mut [u8], o: usize, i: usize, b: u8)
+        requires { ⌜ (o + 128 ≤ length (now f)) × (i < 112) ⌝ }
+        ensures { λ _. ⌜ now (f .exit) ≡ set (now (f .entry)) (o + prefixBytes + i) b ⌝ }
+    {
+        number::write1(f, o + Prefix::BYTES + i, b);
     }
 }
 
