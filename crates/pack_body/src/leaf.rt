@@ -1,7 +1,6 @@
 // A Leaf: "a Leaf's extent right after its body".
 use fields::body::Leaf;
 use room::fill;
-use room::heap;
 ghost use Rattle.pack_body.specs.Part.{LeafCopies, LeafCopied};
 
 // The Leaf at o of the frame f is copied with its extent to the part, which starts at `at` of the output: how many bytes it takes.
@@ -15,5 +14,5 @@ pub fn copy(part: &mut [u8], at: usize, f: &[u8], o: usize) -> usize
     let to = from + (key_length + value_length);
     Leaf::write(part, 0, at + Leaf::SIZE, key_length, value_length);
     fill::paste(part, Leaf::SIZE, &f[from..to]);
-    Leaf::SIZE + heap::rounded(key_length + value_length)
+    Leaf::SIZE + Leaf::rounded(key_length + value_length)
 }

@@ -6,7 +6,6 @@ use inner::look;
 use layout::kind;
 use layout::kind::Kind;
 use room::fit::Needs;
-use room::heap;
 ghost use mathlib.Core.List.{List, []};
 ghost use Prim.Native.Nat.{ℕ, _<_};
 ghost use lib.Dec.{eqb};
@@ -74,7 +73,7 @@ pub fn put_needs(f: &[u8], key: &[u8], value: &[u8], spot: Spot) -> Needs
     requires { ⌜ PutFrom (now f) (now key) (now value) spot ⌝ }
     ensures { λ r. ⌜ PutPlan (now (f .entry)) (now (key .entry)) (now (value .entry)) spot r ⌝ }
 {
-    let extent = heap::rounded(key.len() + value.len());
+    let extent = Leaf::rounded(key.len() + value.len());
     let here = spot.here;
     if spot.end == Spot::FOUND {
         return replacing(value.len(), Leaf::value_length(f, here.place), extent);

@@ -24,5 +24,5 @@ pub fn replace(f: &mut [u8], key: &[u8], value: &[u8], spot: Spot)
     }
     let extent = heap::extend(f, key, value);
     Leaf::write(f, place, extent, k, n);
-    heap::retire(f, heap::rounded(k + old));
+    heap::retire(f, Leaf::rounded(k + old));
 }

@@ -1,6 +1,7 @@
-// The heap of a frame: bodies are taken and freed, extents given out and retired, R and the root slot set. Taking, freeing and
-// retiring are one function each, and nothing else changes a list, U, B or X.
+// The heap of a frame: bodies are taken and freed, extents given out and retired, R and the root slot set. Taking, freeing, giving
+// out and retiring are one function each, and nothing else changes a list, U, B or X.
 use crate::fill;
+use fields::body::Leaf;
 use fields::header::Header;
 use layout::entry::Entry;
 use layout::kind;
@@ -69,14 +70,6 @@ pub fn release(f: &mut [u8], s: usize, kind: usize)
     Header::set_list_head(f, kind, s);
 }
 
-// The bytes that an extent of key and value takes.
-pub fn rounded(n: usize) -> usize
-    requires { ⌜ n < 4294967296 ⌝ }
-    ensures { λ r. ⌜ r ≡ up8 n ⌝ }
-{
-    (n + 7) / 8 * 8
-}
-
 // An extent: key and value at B, which is its place.
 pub fn extend(f: &mut [u8], key: &[u8], value: &[u8]) -> usize
     requires { ⌜ Extends (now f) (length (now key) + length (now value)) ⌝ }
@@ -85,7 +78,7 @@ pub fn extend(f: &mut [u8], key: &[u8], value: &[u8]) -> usize
 {
     let place = Header::next_byte(f);
     let k = key.len();
-    let size = rounded(k + value.len());
+    let size = Leaf::rounded(k + value.len());
     fill::paste(f, place, key);
     fill::paste(f, place + k, value);
     Header::set_next_byte(f, place + size);

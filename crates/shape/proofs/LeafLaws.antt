@@ -38,11 +38,12 @@ key-lone f e k C = record { short = omega arith; clean = C; same = λ i x y. abs
 
 -- ---- the Leaf
 
--- its fields read
-pub record LeafRead (f : List ℕ) (o e k v : ℕ) : Type 0 where
+-- its fields read, and the size of its extent
+pub record LeafRead (f : List ℕ) (o e k v size : ℕ) : Type 0 where
   pub extent : e ≡ le 4 f (o + leafExtent)
   pub keyLength : k ≡ le 2 f (o + leafKey)
   pub valueLength : v ≡ le 2 f (o + leafValue)
+  pub rounded : size ≡ up8 (k + v)
 
 pub leaf-denied : {f path : List ℕ} {o d b extent size : ℕ} → ((e n : ℕ) → LeafHere f path o d b e n → ⊥) → LeafTold f path o d b false extent size
 leaf-denied n = record { holds = λ e. clash (cc); fails = λ e. n }
@@ -50,13 +51,13 @@ leaf-denied n = record { holds = λ e. clash (cc); fails = λ e. n }
 pub leaf-granted : {f path : List ℕ} {o d b extent size : ℕ} → LeafHere f path o d b extent size → LeafTold f path o d b true extent size
 leaf-granted l = record { holds = λ e. l; fails = λ e. clash e }
 
-module _ (f whole : List ℕ) (o d b depth e k v : ℕ) (deep : depth ≤ length whole) (R : LeafRead f o e k v) where
-  pub leaf-extent : (x n : ℕ) → LeafHere f (take depth whole) o d b x n → ExtentFits e k (up8 (k + v)) d b
+module _ (f whole : List ℕ) (o d b depth e k v size : ℕ) (deep : depth ≤ length whole) (R : LeafRead f o e k v size) where
+  pub leaf-extent : (x n : ℕ) → LeafHere f (take depth whole) o d b x n → ExtentFits e k size d b
   leaf-extent x n L =
       let at = L .is .at in
       let legal = key-passes (L .key) (L .is .legal) in
       let z : k + v ≡ length (L .key) + length (L .value) = omega arith in
-      let s : up8 (k + v) ≡ n = rw z (sym (L .long)) in
+      let s : size ≡ n = R .rounded ∙ rw z (sym (L .long)) in
       record { eights = omega (arith, L .is .eights); low = omega arith; high = omega arith; some = omega arith; most = omega arith }
 
   pub leaf-blank : (x n : ℕ) → LeafHere f (take depth whole) o d b x n → Blank f (o + leafZero) (o + leafZero + 8)
@@ -83,8 +84,8 @@ module _ (f whole : List ℕ) (o d b depth e k v : ℕ) (deep : depth ≤ length
         end = λ l. sym (W k l) ∙ List·getD-eq-default key 0 (omega arith);
       }
 
-  pub leaf-end : b ≤ length f → ExtentFits e k (up8 (k + v)) d b → Blank f (o + leafZero) (o + leafZero + 8) → KeyHere f e k whole depth
-      → LeafTold f (take depth whole) o d b true e (up8 (k + v))
+  pub leaf-end : b ≤ length f → ExtentFits e k size d b → Blank f (o + leafZero) (o + leafZero + 8) → KeyHere f e k whole depth
+      → LeafTold f (take depth whole) o d b true e size
   leaf-end room X Z K =
       let key = bytesFrom f e k in
       let value = bytesFrom f (e + k) v in
@@ -120,16 +121,7 @@ module _ (f whole : List ℕ) (o d b depth e k v : ℕ) (deep : depth ≤ length
           legal = key-taken key K';
           begins = at-begins (edition1 .walked key) (take depth whole) B;
         };
-        long = rw (m, w) refl;
+        long = R .rounded ∙ rw (m, w) refl;
         low = X .low;
         high = X .high;
       })
-
--- a Leaf's bytes give one extent
-pub leaf-only : (f path : List ℕ) (o d b e n x m : ℕ) → LeafHere f path o d b e n → LeafHere f path o d b x m → (e ≡ x) × (n ≡ m)
-leaf-only f path o d b e n x m L M =
-    let p = L .is .at in
-    let q = M .is .at in
-    let k : length (L .key) ≡ length (M .key) = cc in
-    let v : length (L .value) ≡ length (M .value) = cc in
-    (cc, L .long ∙ (rw (k, v) (sym (M .long))))

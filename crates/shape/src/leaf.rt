@@ -82,11 +82,11 @@ pub fn leaf_good(f: &[u8], o: usize, path: &[u8], depth: usize, d: usize, b: usi
     };
     let e = Leaf::extent(f, o);
     let k = Leaf::key_length(f, o);
-    let size = (k + Leaf::value_length(f, o) + 7) / 8 * 8;
+    let size = Leaf::rounded(k + Leaf::value_length(f, o));
     if !extent_fits(e, k, size, d, b) {
         return none;
     }
-    if !pieces::zero_eight(f, o + Leaf::ZERO) {
+    if !Leaf::zeros_good(f, o) {
         return none;
     }
     if !key_good(f, e, k, path, depth) {
@@ -111,11 +111,11 @@ pub fn lone_good(f: &[u8], o: usize, d: usize, b: usize) -> LeafFound
     };
     let e = Leaf::extent(f, o);
     let k = Leaf::key_length(f, o);
-    let size = (k + Leaf::value_length(f, o) + 7) / 8 * 8;
+    let size = Leaf::rounded(k + Leaf::value_length(f, o));
     if !extent_fits(e, k, size, d, b) {
         return none;
     }
-    if !pieces::zero_eight(f, o + Leaf::ZERO) {
+    if !Leaf::zeros_good(f, o) {
         return none;
     }
     if !pieces::no_zero(f, e, e + k) {

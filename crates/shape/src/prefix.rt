@@ -1,6 +1,5 @@
 // A Prefix's body.
 use fields::body::Prefix;
-use layout::number;
 ghost use Prim.Native.Nat.{_+_, _≤_};
 ghost use lib.ListN.{length};
 ghost use Rattle.pieces.specs.Decides.{Decides};
@@ -18,11 +17,8 @@ pub fn prefix_good(f: &[u8], o: usize) -> bool
     if n > Prefix::MOST {
         return false;
     }
-    if number::read2(f, o + Prefix::ZERO) != 0 {
+    if !Prefix::zeros_good(f, o) {
         return false;
     }
-    if !pieces::zero_eight(f, o + (Prefix::ZERO + 2)) {
-        return false;
-    }
-    pieces::all_zero(f, o + Prefix::BYTES + n, o + Prefix::SIZE)
+    Prefix::rest_good(f, o, n)
 }
