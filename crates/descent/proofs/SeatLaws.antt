@@ -8,7 +8,7 @@ use native.Mathlib.Omega.{arith}
 use lib.ListN.{length, take, drop, length-append, length-take, length-drop, List·getD-append}
 use lib.Seq.{ext-getD, getD-take, getD-drop, getD-append-add}
 use Rattle.layout.specs.Number.{le}
-use Rattle.layout.specs.Place.{entryAt, leafExtent, leafKey, prefixLength}
+use Rattle.layout.specs.Place.{entryAt, leafExtent, leafKey, prefixLength, prefixBytes}
 use Rattle.layout.specs.Kind.{Leaf, Prefix, bodySize}
 use Rattle.layout.specs.Entry.{placeOf, highOf}
 use Rattle.model.specs.Strings.{All}
@@ -224,8 +224,11 @@ leaf-part {f} A x n m p q r =
     let l : m ≡ length (A .key) = r ∙ q ∙ L .keyLength in
     rw (l, e) (text-part f (A .extent) (A .key) (omega (arith, L .room)) (text-left f (A .extent) (A .key) (A .value) (L .text)))
 
-pub prefix-part : {f k : List ℕ} {s : Spot} {o : ℕ} (A : AtPrefix f k s o) (n : ℕ) → n ≡ le 2 f (o + prefixLength) → take (o + 16 + n - (o + 16)) (drop (o + 16) f) ≡ A .bytes
+pub prefix-part : {f k : List ℕ} {s : Spot} {o : ℕ} (A : AtPrefix f k s o) (n : ℕ) → n ≡ le 2 f (o + prefixLength) → take n (drop (o + prefixBytes) f) ≡ A .bytes
 prefix-part {f} {k} {s} {o} A n q =
     let P = A .at in
-    let m : o + 16 + n - (o + 16) ≡ length (A .bytes) = omega (arith, q, P .long) in
-    rw m (text-part f (o + 16) (A .bytes) (omega (arith, P .room, P .most)) (P .text))
+    let m : n ≡ length (A .bytes) = q ∙ P .long in
+    rw m (text-part f (o + prefixBytes) (A .bytes) (omega (arith, P .room, P .most)) (P .text))
+
+pub prefix-few : {f k : List ℕ} {s : Spot} {o : ℕ} (A : AtPrefix f k s o) (n : ℕ) → n ≡ le 2 f (o + prefixLength) → (o + 128 ≤ length f) × (n ≤ 112)
+prefix-few A n q = (A .at .room, omega (arith, q, A .at .long, A .at .most))

@@ -33,10 +33,8 @@ fn at_prefix(f: &[u8], key: &[u8], s: Spot, place: usize) -> Spot
     ensures { λ r. ⌜ Stepped (now (f .entry)) (now (key .entry)) s r ⌝ }
 {
     let n = Prefix::length(f, place);
-    let from = place + Prefix::BYTES;
-    let to = from + n;
     let depth = s.depth;
-    let q = key::matched(&f[from..to], key, depth);
+    let q = key::matched(Prefix::bytes(f, place, n), key, depth);
     if q < n {
         return s.ended(Spot::PARTED, place, Kind::PREFIX, q);
     }

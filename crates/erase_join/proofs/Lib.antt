@@ -1,4 +1,3 @@
-pub mod PrefixLaws
 pub mod DropLaws
 pub mod SiteLaws
 pub mod UpLaws

@@ -1,4 +1,3 @@
-pub mod Prefix
 pub mod Drop
 pub mod Erase
 pub mod Lone

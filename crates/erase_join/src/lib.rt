@@ -2,4 +2,3 @@
 pub mod finish;
 pub mod join;
 pub mod lone;
-pub mod prefix;

@@ -1,6 +1,5 @@
 // The six joins, and which of them the child asks for.
 use crate::finish;
-use crate::prefix;
 use descent::spot::Body;
 use layout::entry::Entry;
 use layout::kind::Kind;

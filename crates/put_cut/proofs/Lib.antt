@@ -1,4 +1,3 @@
-pub mod FrontLaws
 pub mod ModelLaws
 pub mod SpotLaws
 pub mod StageLaws

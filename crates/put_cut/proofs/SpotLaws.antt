@@ -34,10 +34,12 @@ use Rattle.between.proofs.LeadLaws.{leads-rest}
 use Rattle.between.proofs.BookedLaws.{room-same}
 use Rattle.descent.specs.declared.spot.Spot.{Spot}
 use Rattle.leaf_new.proofs.DoneLaws.{any-root, any-room, change-is, room-is}
-use Rattle.put_split.specs.Parts.{Forked, PrefixWritten}
+use Rattle.prefix.specs.Prefix.{PrefixWritten}
+use Rattle.put_split.specs.Parts.{Forked}
 use Rattle.put_split.proofs.EndLaws.{tally-two, tally-three}
 use Rattle.put_split.proofs.PartedLaws.{byte-here, part-short, part-is}
-use Rattle.put_cut.specs.Cut.{AtPart, Longer}
+use Rattle.prefix.specs.Prefix.{Longer}
+use Rattle.put_cut.specs.Cut.{AtPart}
 use Rattle.put_cut.proofs.ModelLaws.{no-bytes, shares-is, length-is}
 
 -- ---- what a take asks and leaves

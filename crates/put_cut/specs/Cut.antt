@@ -1,10 +1,8 @@
--- Put of a key whose way ends within a Prefix: what the edits count on, and what a Prefix that loses its first bytes becomes.
+-- Put of a key whose way ends within a Prefix: what the edits count on.
 use Prim.Native.Nat.{ℕ, _+_, _<_, _≤_}
 use mathlib.Core.Path.{_≡_}
 use mathlib.Core.List.{List}
-use lib.ListN.{length, drop}
-use Rattle.model.specs.Body.{PrefixAt}
-use Rattle.node.specs.Moved.{Only}
+use lib.ListN.{length}
 use Rattle.descent.specs.declared.spot.Spot.{Spot}
 use Rattle.descent.specs.Spot.{PartPrefix}
 use Rattle.leaf_new.specs.Put.{PutAt}
@@ -37,15 +35,3 @@ pub record BothLeft (f k v : List ℕ) (p : Spot) : Type 0 where
   pub at : AtPart f k v p
   pub before : 1 ≤ p .shared
   pub after : p .shared + 1 < length (at .part .bytes)
-
--- the Prefix at o has more than q bytes
-pub record Longer (f : List ℕ) (o q : ℕ) : Type 0 where
-  pub bytes : List ℕ
-  pub below : ℕ
-  pub at : PrefixAt f o bytes below
-  pub more : q < length bytes
-
--- it lost its first q bytes
-pub record Shortened (f g : List ℕ) (o q : ℕ) : Type 0 where
-  pub only : Only f g o (o + 128)
-  pub at : (p : List ℕ) (c : ℕ) → PrefixAt f o p c → q < length p → PrefixAt g o (drop q p) c

@@ -1,7 +1,5 @@
 // Put of a new key whose way ends within a Prefix: "a Prefix of p bytes matched for q < p: a Node4; the part before has q bytes, the part
 // after p - 1 - q. Both non-empty: one more Prefix. One: the old body is rewritten. None: it is freed."
-mod prefix;
-
 use descent::spot::Spot;
 use fields::body::Prefix;
 use layout::entry::Entry;
@@ -18,7 +16,7 @@ fn cut_none(f: &mut [u8], key: &[u8], value: &[u8], spot: Spot)
 {
     let here = spot.here;
     let to = spot.depth + spot.shared;
-    let c = prefix::byte(f, here.place, spot.shared);
+    let c = Prefix::byte(f, here.place, spot.shared);
     let child = Prefix::child(f, here.place);
     let node = heap::take(f, Kind::NODE4);
     parts::fork(f, node, key, value, to, c, child);
@@ -49,11 +47,11 @@ fn cut_before(f: &mut [u8], key: &[u8], value: &[u8], spot: Spot)
     let here = spot.here;
     let from = spot.depth;
     let to = from + spot.shared;
-    let c = prefix::byte(f, here.place, spot.shared);
+    let c = Prefix::byte(f, here.place, spot.shared);
     let child = Prefix::child(f, here.place);
     let node = heap::take(f, Kind::NODE4);
     parts::fork(f, node, key, value, to, c, child);
-    parts::write_prefix(f, here.place, node, &key[from..to]);
+    prefix::write(f, here.place, node, &key[from..to]);
     leaf_new::count_record(f);
 }
 
@@ -70,7 +68,7 @@ fn cut_both(f: &mut [u8], key: &[u8], value: &[u8], spot: Spot)
     let top = heap::take(f, Kind::PREFIX);
     parts::fork(f, node, key, value, to, c, here.slot);
     let body = Entry::read(f, top);
-    parts::write_prefix(f, body.place, node, &key[from..to]);
+    prefix::write(f, body.place, node, &key[from..to]);
     leaf_new::relink(f, here.link, top);
     leaf_new::count_record(f);
 }

@@ -1,4 +1,4 @@
--- The bodies that a split writes: a Prefix, a Node4 of two children, and the Node4 with a new Leaf. Assumes nothing.
+-- The bodies that a split writes: a Node4 of two children, and the Node4 with a new Leaf. Assumes nothing.
 use Prim.Native.Nat.{ℕ, _+_, _<_, _≤_}
 use mathlib.Core.Path.{_≡_, refl, sym, ap, _∙_}
 use mathlib.Core.List.{List, [], _∷_}
@@ -6,11 +6,10 @@ use mathlib.Core.Option.{none}
 use native.Mathlib.Omega.{arith}
 use lib.ListN.{length, getD, length-append, List·getD-append}
 use borrow.Author.Tests.{ne-eqb}
-use Rattle.layout.specs.Number.{byteAt, le, put}
-use Rattle.layout.specs.Place.{entryAt, leafExtent, leafKey, prefixChild, prefixLength, prefixZero, prefixBytes}
-use Rattle.layout.specs.Kind.{Leaf, Node4, most}
+use Rattle.layout.specs.Number.{byteAt, le}
+use Rattle.layout.specs.Place.{entryAt, leafExtent, leafKey}
+use Rattle.layout.specs.Kind.{Leaf, Node4}
 use Rattle.layout.specs.Entry.{placeOf}
-use Rattle.layout.proofs.NumberLaws.{le-put}
 use Rattle.model.specs.Edition.{edition1}
 use Rattle.model.specs.Item.{body}
 use Rattle.model.specs.Body.{InnerAt, LeafAt, lookKid}
@@ -19,43 +18,14 @@ use Rattle.model.proofs.UniqueLaws.{look-nil}
 use Rattle.node.specs.Kids.{insertKid}
 use Rattle.node.proofs.KidsLaws.{look-insert}
 use Rattle.inner.specs.Inner.{NodeOpen, Emptied, Added}
-use Rattle.node.specs.Moved.{Only, Cleared}
 use Rattle.room.specs.View.{listOf, placeFrom, taken}
-use Rattle.room.specs.Step.{Pasted}
-use Rattle.node.proofs.MoveLaws.{only-put, only-then}
-use Rattle.room.proofs.HeapLaws.{le-below, lies, Lies}
+use Rattle.node.proofs.MoveLaws.{only-then}
+use Rattle.room.proofs.HeapLaws.{lies, Lies}
 use Rattle.descent.proofs.KeyLaws.{walked-in, walked-out}
 use Rattle.between.specs.Edit.{leafView, MadeLeaf}
 use Rattle.between.proofs.WorkLaws.{entries-first, first-owns, open-leaf}
 use Rattle.leaf_new.specs.Make.{Makes, NewLeaf}
-use Rattle.put_split.specs.Parts.{PrefixWritten, ForkWritten, Forks, Forked}
-
--- ---- a Prefix
-
-pub prefix-law : {f f1 f2 f3 g : List ℕ} (o child : ℕ) (p : List ℕ) → o + 128 ≤ length f → 1 ≤ length p → length p ≤ 112 → child < 4294967296 → Cleared f f1 o 128 → f2 ≡ put 4 f1 (o + prefixChild) child
-    → f3 ≡ put 2 f2 (o + prefixLength) (length p) → Pasted f3 g (o + prefixBytes) (length p) p → PrefixWritten f g o p child
-prefix-law {f} {f1} {f2} {f3} {g} o child p room some top fits C e2 e3 G =
-    let O2 : Only f1 f2 (o + prefixChild) (o + prefixChild + 4) = rw e2 (only-put 4 f1 (o + prefixChild) child) in
-    let O3 : Only f2 f3 (o + prefixLength) (o + prefixLength + 2) = rw e3 (only-put 2 f2 (o + prefixLength) (length p)) in
-    let O4 = G .only in
-    let l1 = C .rest .size in
-    let l2 = O2 .size in
-    let l3 = O3 .size in
-    let zero : (a : ℕ) → o + prefixZero ≤ a → a < o + 128 → byteAt f3 a ≡ 0 = λ a l u. O3 .above a (omega arith) ∙ O2 .above a (omega arith) ∙ C .zeros a (omega arith) u in
-    record {
-      only = only-then o (o + 128) (only-then o (o + 128) (only-then o (o + 128) (C .rest) O2 (omega arith) (omega arith) (omega arith) (omega arith)) O3 (omega arith) (omega arith) (omega arith) (omega arith)) O4
-          (omega arith) (omega arith) (omega arith) (omega arith);
-      at = record {
-        room = omega (arith, O4 .size);
-        some = some;
-        most = top;
-        child = le-below 4 (o + prefixChild) O4 (omega arith) ∙ le-below 4 (o + prefixChild) O3 (omega arith) ∙ ap (λ x. le 4 x (o + prefixChild)) e2 ∙ le-put 4 f1 (o + prefixChild) child (omega arith) fits;
-        long = le-below 2 (o + prefixLength) O4 (omega arith) ∙ ap (λ x. le 2 x (o + prefixLength)) e3 ∙ le-put 2 f2 (o + prefixLength) (length p) (omega arith) (omega arith);
-        zeros = λ i l. O4 .below (o + prefixZero + i) (omega arith) ∙ zero (o + prefixZero + i) (omega arith) (omega arith);
-        text = λ i l. G .text (o + prefixBytes + i) i l refl;
-        rest = λ i l. O4 .above (o + prefixBytes + length p + i) (omega arith) ∙ zero (o + prefixBytes + length p + i) (omega arith) (omega arith);
-      };
-    }
+use Rattle.put_split.specs.Parts.{ForkWritten, Forks, Forked}
 
 -- ---- a Node4 of two children
 

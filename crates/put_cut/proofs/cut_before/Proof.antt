@@ -34,14 +34,14 @@ fork-requires c κs =
     let e = below-is (start .pre .at) (child .child .ensures .0) in
     (bare-forks (start .pre .at) (before-gone (start .pre)) (before-puts (start .pre)) (took .take .ensures), bytes-differ (start .pre .at) refl (byte .byte .ensures), omega arith, omega arith)
 
-sub-write-prefix : tie.Need-sub-write-prefix
-sub-write-prefix c = search needs
+sub-write : tie.Need-sub-write
+sub-write c = search needs
 
-part-write-prefix-start : tie.Need-part-write-prefix-start
-part-write-prefix-start c = search needs
+part-write-start : tie.Need-part-write-start
+part-write-start c = search needs
 
-part-write-prefix-end : tie.Need-part-write-prefix-end
-part-write-prefix-end c =
+part-write-end : tie.Need-part-write-end
+part-write-end c =
     let forked = c .before .before .before in
     let took = forked .before .before .before .before in
     let child = took .before .before in
@@ -49,8 +49,8 @@ part-write-prefix-end c =
     let start = byte .before .before .before .before .before .before .before in
     omega (arith, part-ends (start .pre .at))
 
-write-prefix-requires : tie.Need-write-prefix-requires
-write-prefix-requires c κs =
+write-requires : tie.Need-write-requires
+write-requires c κs =
     let forked = c .before .before .before .before in
     let took = forked .before .before .before .before in
     let child = took .before .before in
@@ -66,7 +66,7 @@ count-record-requires c κs =
     let child = took .before .before in
     let byte = child .before .before in
     let start = byte .before .before .before .before .before .before .before in
-    before-counts (start .pre) (took .take .ensures) (below-is (start .pre .at) (child .child .ensures .0)) (forked-as (start .pre .at) refl (byte .byte .ensures) (forked .fork .ensures)) (written-as (start .pre .at) (topped .write-prefix .ensures))
+    before-counts (start .pre) (took .take .ensures) (below-is (start .pre .at) (child .child .ensures .0)) (forked-as (start .pre .at) refl (byte .byte .ensures) (forked .fork .ensures)) (written-as (start .pre .at) (topped .write .ensures))
 
 same-length : tie.Need-same-length
 same-length c = search needs
@@ -80,7 +80,7 @@ returns c =
     let child = took .before .before in
     let byte = child .before .before in
     let start = byte .before .before .before .before .before .before .before in
-    before-put (start .pre) (took .take .ensures) (below-is (start .pre .at) (child .child .ensures .0)) (forked-as (start .pre .at) refl (byte .byte .ensures) (forked .fork .ensures)) (written-as (start .pre .at) (topped .write-prefix .ensures)) (counted .count-record .ensures) (λ a. omega (arith, c .slice-known5 .given a))
+    before-put (start .pre) (took .take .ensures) (below-is (start .pre .at) (child .child .ensures .0)) (forked-as (start .pre .at) refl (byte .byte .ensures) (forked .fork .ensures)) (written-as (start .pre .at) (topped .write .ensures)) (counted .count-record .ensures) (λ a. omega (arith, c .slice-known5 .given a))
 
 pub cut-before-spec : {M : Type 1} → statement M
 cut-before-spec =
@@ -91,10 +91,10 @@ cut-before-spec =
     child-requires
     take-requires
     fork-requires
-    sub-write-prefix
-    part-write-prefix-start
-    part-write-prefix-end
-    write-prefix-requires
+    sub-write
+    part-write-start
+    part-write-end
+    write-requires
     count-record-requires
     same-length
     returns)

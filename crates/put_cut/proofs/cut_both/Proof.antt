@@ -45,14 +45,14 @@ read-requires c κs =
     let start = parted .before .before .before .before .before .before .before in
     both-reads (start .pre) refl (parted .cut-at .ensures .1) (took .take .ensures) (top .take2 .ensures) (forked-as (start .pre .at) refl (parted .cut-at .ensures .0) (forked .fork .ensures))
 
-sub-write-prefix : tie.Need-sub-write-prefix
-sub-write-prefix c = search needs
+sub-write : tie.Need-sub-write
+sub-write c = search needs
 
-part-write-prefix-start : tie.Need-part-write-prefix-start
-part-write-prefix-start c = search needs
+part-write-start : tie.Need-part-write-start
+part-write-start c = search needs
 
-part-write-prefix-end : tie.Need-part-write-prefix-end
-part-write-prefix-end c =
+part-write-end : tie.Need-part-write-end
+part-write-end c =
     let read = c .before in
     let forked = read .before .before .before .before in
     let top = forked .before .before .before .before in
@@ -61,8 +61,8 @@ part-write-prefix-end c =
     let start = parted .before .before .before .before .before .before .before in
     omega (arith, part-ends (start .pre .at))
 
-write-prefix-requires : tie.Need-write-prefix-requires
-write-prefix-requires c κs =
+write-requires : tie.Need-write-requires
+write-requires c κs =
     let read = c .before .before in
     let forked = read .before .before .before .before in
     let top = forked .before .before .before .before in
@@ -80,7 +80,7 @@ relink-requires c κs =
     let took = top .before .before .before .before in
     let parted = took .before .before .before .before in
     let start = parted .before .before .before .before .before .before .before in
-    both-relinks (start .pre) refl (parted .cut-at .ensures .1) (took .take .ensures) (top .take2 .ensures) (forked-as (start .pre .at) refl (parted .cut-at .ensures .0) (forked .fork .ensures)) (read .read .ensures .1) (written-as (start .pre .at) (topped .write-prefix .ensures))
+    both-relinks (start .pre) refl (parted .cut-at .ensures .1) (took .take .ensures) (top .take2 .ensures) (forked-as (start .pre .at) refl (parted .cut-at .ensures .0) (forked .fork .ensures)) (read .read .ensures .1) (written-as (start .pre .at) (topped .write .ensures))
 
 count-record-requires : tie.Need-count-record-requires
 count-record-requires c κs =
@@ -92,7 +92,7 @@ count-record-requires c κs =
     let took = top .before .before .before .before in
     let parted = took .before .before .before .before in
     let start = parted .before .before .before .before .before .before .before in
-    both-counts (start .pre) refl (parted .cut-at .ensures .1) (took .take .ensures) (top .take2 .ensures) (forked-as (start .pre .at) refl (parted .cut-at .ensures .0) (forked .fork .ensures)) (read .read .ensures .1) (written-as (start .pre .at) (topped .write-prefix .ensures)) (linked .relink .ensures)
+    both-counts (start .pre) refl (parted .cut-at .ensures .1) (took .take .ensures) (top .take2 .ensures) (forked-as (start .pre .at) refl (parted .cut-at .ensures .0) (forked .fork .ensures)) (read .read .ensures .1) (written-as (start .pre .at) (topped .write .ensures)) (linked .relink .ensures)
 
 same-length : tie.Need-same-length
 same-length c =
@@ -103,7 +103,7 @@ same-length c =
     let top = forked .before .before .before .before in
     let took = top .before .before .before .before in
     let parted = took .before .before .before .before in
-    omega (arith, counted .count-record .kept, linked .relink .kept, topped .write-prefix .kept, forked .fork .kept, top .take2 .kept, took .take .kept, parted .cut-at .kept)
+    omega (arith, counted .count-record .kept, linked .relink .kept, topped .write .kept, forked .fork .kept, top .take2 .kept, took .take .kept, parted .cut-at .kept)
 
 returns : tie.Need-returns
 returns c =
@@ -116,7 +116,7 @@ returns c =
     let took = top .before .before .before .before in
     let parted = took .before .before .before .before in
     let start = parted .before .before .before .before .before .before .before in
-    both-put (start .pre) refl (parted .cut-at .ensures .1) (took .take .ensures) (top .take2 .ensures) (forked-as (start .pre .at) refl (parted .cut-at .ensures .0) (forked .fork .ensures)) (read .read .ensures .1) (written-as (start .pre .at) (topped .write-prefix .ensures)) (linked .relink .ensures) (counted .count-record .ensures) (λ a. omega (arith, c .slice-known8 .given a))
+    both-put (start .pre) refl (parted .cut-at .ensures .1) (took .take .ensures) (top .take2 .ensures) (forked-as (start .pre .at) refl (parted .cut-at .ensures .0) (forked .fork .ensures)) (read .read .ensures .1) (written-as (start .pre .at) (topped .write .ensures)) (linked .relink .ensures) (counted .count-record .ensures) (λ a. omega (arith, c .slice-known8 .given a))
 
 pub cut-both-spec : {M : Type 1} → statement M
 cut-both-spec =
@@ -128,10 +128,10 @@ cut-both-spec =
     take-requires-2
     fork-requires
     read-requires
-    sub-write-prefix
-    part-write-prefix-start
-    part-write-prefix-end
-    write-prefix-requires
+    sub-write
+    part-write-start
+    part-write-end
+    write-requires
     relink-requires
     count-record-requires
     same-length

@@ -79,14 +79,14 @@ read-requires c κs =
     let start = byte .before .before .before .before .before .before .before in
     top-entry (start .pre) (byte .old-byte .ensures) (λ z. omega arith) (took .take .ensures) (topped .take2 .ensures) (forked .fork2 .ensures)
 
-sub-write-prefix : tie.Need-sub-write-prefix
-sub-write-prefix c = search needs
+sub-write : tie.Need-sub-write
+sub-write c = search needs
 
-part-write-prefix-start : tie.Need-part-write-prefix-start
-part-write-prefix-start c = search needs
+part-write-start : tie.Need-part-write-start
+part-write-start c = search needs
 
-part-write-prefix-end : tie.Need-part-write-prefix-end
-part-write-prefix-end c =
+part-write-end : tie.Need-part-write-end
+part-write-end c =
     let body = c .before in
     let forked = body .before .before .before .before in
     let topped = forked .before .before .before .before in
@@ -95,8 +95,8 @@ part-write-prefix-end c =
     let start = byte .before .before .before .before .before .before .before in
     omega (arith, to-short (start .pre))
 
-write-prefix-requires : tie.Need-write-prefix-requires
-write-prefix-requires c κs =
+write-requires : tie.Need-write-requires
+write-requires c κs =
     let body = c .before .before in
     let forked = body .before .before .before .before in
     let topped = forked .before .before .before .before in
@@ -114,7 +114,7 @@ relink-requires-2 c κs =
     let took = topped .before .before .before .before .before .before in
     let byte = took .before .before in
     let start = byte .before .before .before .before .before .before .before in
-    relink-two (start .pre) (byte .old-byte .ensures) (λ z. omega arith) (took .take .ensures) (topped .take2 .ensures) (forked .fork2 .ensures) (body .read .ensures .1) refl (written .write-prefix .ensures)
+    relink-two (start .pre) (byte .old-byte .ensures) (λ z. omega arith) (took .take .ensures) (topped .take2 .ensures) (forked .fork2 .ensures) (body .read .ensures .1) refl (written .write .ensures)
 
 count-record-requires-2 : tie.Need-count-record-requires-2
 count-record-requires-2 c κs =
@@ -126,7 +126,7 @@ count-record-requires-2 c κs =
     let took = topped .before .before .before .before .before .before in
     let byte = took .before .before in
     let start = byte .before .before .before .before .before .before .before in
-    count-two (start .pre) (byte .old-byte .ensures) (λ z. omega arith) (took .take .ensures) (topped .take2 .ensures) (forked .fork2 .ensures) (body .read .ensures .1) refl (written .write-prefix .ensures) (linked .relink2 .ensures)
+    count-two (start .pre) (byte .old-byte .ensures) (λ z. omega arith) (took .take .ensures) (topped .take2 .ensures) (forked .fork2 .ensures) (body .read .ensures .1) refl (written .write .ensures) (linked .relink2 .ensures)
 
 same-length-2 : tie.Need-same-length-2
 same-length-2 c = search needs
@@ -142,7 +142,7 @@ returns-2 c =
     let took = topped .before .before .before .before .before .before in
     let byte = took .before .before in
     let start = byte .before .before .before .before .before .before .before in
-    ends-two (start .pre) (byte .old-byte .ensures) (λ z. omega arith) (took .take .ensures) (topped .take2 .ensures) (forked .fork2 .ensures) (body .read .ensures .1) refl (written .write-prefix .ensures) (linked .relink2 .ensures) (counted .count-record2 .ensures) (λ a. omega (arith, c .slice-known10 .given a))
+    ends-two (start .pre) (byte .old-byte .ensures) (λ z. omega arith) (took .take .ensures) (topped .take2 .ensures) (forked .fork2 .ensures) (body .read .ensures .1) refl (written .write .ensures) (linked .relink2 .ensures) (counted .count-record2 .ensures) (λ a. omega (arith, c .slice-known10 .given a))
 
 pub split-leaf-spec : {M : Type 1} → statement M
 split-leaf-spec =
@@ -159,10 +159,10 @@ split-leaf-spec =
     take-requires-2
     fork-requires-2
     read-requires
-    sub-write-prefix
-    part-write-prefix-start
-    part-write-prefix-end
-    write-prefix-requires
+    sub-write
+    part-write-start
+    part-write-end
+    write-requires
     relink-requires-2
     count-record-requires-2
     same-length-2

@@ -1,7 +1,9 @@
 -- `at_prefix` ends at the Prefix or goes to its child: the part of the frame that is matched is its bytes. Assumes nothing.
-use mathlib.Core.Path.{_∙_}
+use mathlib.Core.Path.{ap, _∙_}
+use native.Mathlib.Omega.{arith}
+use lib.ListN.{length}
 use borrow.Author.Needs.{needs}
-use Rattle.descent.proofs.SeatLaws.{prefix-part}
+use Rattle.descent.proofs.SeatLaws.{prefix-part, prefix-few}
 use Rattle.descent.proofs.StepLaws.{prefix-parted, prefix-below}
 use Rattle.descent.proofs.walk.at_prefix.Statement.{statement}
 use Rattle.descent.proofs.walk.at_prefix.Tie as tie
@@ -9,29 +11,20 @@ use Rattle.descent.proofs.walk.at_prefix.Tie as tie
 length-requires : tie.Need-length-requires
 length-requires c κs = search needs
 
-add-from : tie.Need-add-from
-add-from c = search needs
-
-add-to : tie.Need-add-to
-add-to c = search needs
-
-sub-matched : tie.Need-sub-matched
-sub-matched c = search needs
-
-part-matched-start : tie.Need-part-matched-start
-part-matched-start c = search needs
-
-part-matched-end : tie.Need-part-matched-end
-part-matched-end c = search needs
+bytes-requires : tie.Need-bytes-requires
+bytes-requires c κs = prefix-few (c .before .before .before .pre) (c .length .result) (c .length .ensures .0)
 
 matched-requires : tie.Need-matched-requires
-matched-requires c κs = search needs
+matched-requires c κs =
+    let z = c .before .before .before .before in
+    let n = c .before .length in
+    omega (arith, z .pre .short, ap length (c .bytes .ensures ∙ prefix-part (z .pre) (n .result) (n .ensures .0)))
 
 ended-requires : tie.Need-ended-requires
 ended-requires c κs = search needs
 
 returns : tie.Need-returns
-returns c = let z = c .before .before .before .before .before .before .before in let n = c .before .before .before .before .length in let q = c .before .before .matched in let p = prefix-part (z .pre) (n .result) (n .ensures .0) in rw (c .ended .ensures) (prefix-parted (z .pre) (q .result) (n .result) (rw p at (q .ensures)) (n .ensures .0 ∙ z .pre .at .long) (c .before .if1 .taken))
+returns c = let z = c .before .before .before .before .before .before .before in let n = c .before .before .before .before .length in let q = c .before .before .matched in let B = c .before .before .before .bytes in let p = B .ensures ∙ prefix-part (z .pre) (n .result) (n .ensures .0) in rw (c .ended .ensures) (prefix-parted (z .pre) (q .result) (n .result) (rw p at (q .ensures)) (n .ensures .0 ∙ z .pre .at .long) (c .before .if1 .taken))
 
 child-requires : tie.Need-child-requires
 child-requires c κs = search needs
@@ -40,18 +33,14 @@ below-prefix-requires : tie.Need-below-prefix-requires
 below-prefix-requires c κs = search needs
 
 returns-2 : tie.Need-returns-2
-returns-2 c = let z = c .before .before .before .before .before .before .before .before in let n = c .before .before .before .before .before .length in let q = c .before .before .before .matched in let h = c .before .child in let p = prefix-part (z .pre) (n .result) (n .ensures .0) in rw (c .below-prefix .ensures) (prefix-below (z .pre) (q .result) (n .result) (rw p at (q .ensures)) (n .ensures .0 ∙ z .pre .at .long) (h .result) (c .before .before .if1 .left) (h .ensures .0 ∙ z .pre .at .child))
+returns-2 c = let z = c .before .before .before .before .before .before .before .before in let n = c .before .before .before .before .before .length in let q = c .before .before .before .matched in let B = c .before .before .before .before .bytes in let h = c .before .child in let p = B .ensures ∙ prefix-part (z .pre) (n .result) (n .ensures .0) in rw (c .below-prefix .ensures) (prefix-below (z .pre) (q .result) (n .result) (rw p at (q .ensures)) (n .ensures .0 ∙ z .pre .at .long) (h .result) (c .before .before .if1 .left) (h .ensures .0 ∙ z .pre .at .child))
 
 pub at-prefix-spec : {M : Type 1} → statement M
 at-prefix-spec =
     tie.close
     (tie.spec
     length-requires
-    add-from
-    add-to
-    sub-matched
-    part-matched-start
-    part-matched-end
+    bytes-requires
     matched-requires
     ended-requires
     returns

@@ -1,0 +1,113 @@
+// The body of a Prefix: written whole, with a byte more in front or at the end, with the bytes of another one, and with its first bytes cut off.
+use fields::body::Prefix;
+use node::moves;
+use room::fill;
+ghost use mathlib.Core.Path.{_≡_};
+ghost use mathlib.Core.List.{List, [], _∷_, _++_};
+ghost use Prim.Native.Nat.{ℕ, _+_, _≤_, _<_};
+ghost use lib.ListN.{length};
+ghost use Rattle.layout.specs.Number.{byteAt};
+ghost use Rattle.layout.specs.Place.{prefixBytes};
+ghost use Rattle.model.specs.Body.{PrefixAt};
+ghost use Rattle.node.specs.Moved.{Only, Moved};
+ghost use Rattle.prefix.specs.Prefix.{PrefixWritten, Spare, Joins, Longer, Shortened};
+
+// ---- written whole
+
+// Child, length, bytes, and zeros.
+pub fn write(f: &mut [u8], o: usize, child: usize, bytes: &[u8])
+    requires { ⌜ (o + 128 ≤ length (now f)) × (1 ≤ length (now bytes)) × (length (now bytes) ≤ 112) × (child < 4294967296) ⌝ }
+    ensures { λ _. ⌜ PrefixWritten (now (f .entry)) (now (f .exit)) o (now (bytes .entry)) child ⌝ }
+{
+    let n = bytes.len();
+    moves::clear(f, o, Prefix::SIZE);
+    Prefix::set_child(f, o, child);
+    Prefix::set_length(f, o, n);
+    fill::paste(f, o + Prefix::BYTES, bytes);
+}
+
+// One byte and a child.
+pub fn fresh(f: &mut [u8], o: usize, b: u8, child: usize)
+    requires { ⌜ (o + 128 ≤ length (now f)) × (child < 4294967296) ⌝ }
+    ensures { λ _. ⌜ Only (now (f .entry)) (now (f .exit)) o (o + 128) × PrefixAt (now (f .exit)) o (b ∷ []) child ⌝ }
+{
+    moves::clear(f, o, Prefix::SIZE);
+    Prefix::set_child(f, o, child);
+    Prefix::set_length(f, o, 1);
+    Prefix::set_byte(f, o, 0, b);
+}
+
+// ---- joined
+
+// The byte b joins in front.
+pub fn front(f: &mut [u8], o: usize, b: u8)
+    requires { ⌜ Spare (now f) o 1 ⌝ }
+    ensures { λ _. ⌜ Only (now (f .entry)) (now (f .exit)) o (o + 128) × ((p : List ℕ) (c : ℕ) → PrefixAt (now (f .entry)) o p c → PrefixAt (now (f .exit)) o (b ∷ p) c) ⌝ }
+{
+    let n = Prefix::length(f, o);
+    let at = o + Prefix::BYTES;
+    moves::open_byte(f, at, at + n, b);
+    Prefix::set_length(f, o, n + 1);
+}
+
+// The byte b joins at the end, and the child is another.
+pub fn back(f: &mut [u8], o: usize, b: u8, child: usize)
+    requires { ⌜ Spare (now f) o 1 × (child < 4294967296) ⌝ }
+    ensures { λ _. ⌜ Only (now (f .entry)) (now (f .exit)) o (o + 128) × ((p : List ℕ) (c : ℕ) → PrefixAt (now (f .entry)) o p c → PrefixAt (now (f .exit)) o (p ++ b ∷ []) child) ⌝ }
+{
+    let n = Prefix::length(f, o);
+    Prefix::set_byte(f, o, n, b);
+    Prefix::set_length(f, o, n + 1);
+    Prefix::set_child(f, o, child);
+}
+
+// n bytes from src go to dst.
+fn copy(f: &mut [u8], src: usize, dst: usize, n: usize)
+    requires { ⌜ (src + n ≤ length (now f)) × (dst + n ≤ length (now f)) ⌝ }
+    ensures { λ _. ⌜ Moved (now (f .entry)) (now (f .exit)) src dst n ⌝ }
+{
+    if dst <= src {
+        moves::slide_down(f, src, dst, n);
+        return;
+    }
+    moves::slide_up(f, src, dst, n);
+}
+
+// The byte b and the bytes of the Prefix at `low` join at the end, and the child is that one's.
+pub fn onto(f: &mut [u8], o: usize, b: u8, low: usize)
+    requires { ⌜ Joins (now f) o low ⌝ }
+    ensures { λ _. ⌜ Only (now (f .entry)) (now (f .exit)) o (o + 128)
+        × ((p : List ℕ) (c : ℕ) (q : List ℕ) (d : ℕ) → PrefixAt (now (f .entry)) o p c → PrefixAt (now (f .entry)) low q d → PrefixAt (now (f .exit)) o (p ++ b ∷ q) d) ⌝ }
+{
+    let n = Prefix::length(f, o);
+    let m = Prefix::length(f, low);
+    let child = Prefix::child(f, low);
+    back(f, o, b, child);
+    copy(f, low + Prefix::BYTES, o + Prefix::BYTES + n + 1, m);
+    Prefix::set_length(f, o, n + 1 + m);
+}
+
+// ---- cut
+
+// The first q bytes go.
+fn drop_front(f: &mut [u8], o: usize, q: usize)
+    requires { ⌜ Longer (now f) o q ⌝ }
+    ensures { λ _. ⌜ Shortened (now (f .entry)) (now (f .exit)) o q ⌝ }
+{
+    let n = Prefix::length(f, o);
+    let left = n - q;
+    let at = o + Prefix::BYTES;
+    moves::slide_down(f, at + q, at, left);
+    moves::clear(f, at + left, q);
+    Prefix::set_length(f, o, left);
+}
+
+// The byte that q others stand before; it goes, and so do they.
+pub fn cut_at(f: &mut [u8], o: usize, q: usize) -> u8
+    requires { ⌜ Longer (now f) o (q + 1) ⌝ }
+    ensures { λ r. ⌜ (r ≡ byteAt (now (f .entry)) (o + prefixBytes + q)) × Shortened (now (f .entry)) (now (f .exit)) o (q + 1) ⌝ }
+{
+    let c = Prefix::byte(f, o, q);
+    drop_front(f, o, q + 1);
+    c
+}
