@@ -12,11 +12,14 @@ use Rattle.model.specs.Tree.Left.{kept}
 use Rattle.model.specs.State.{State, tally, eraseChange}
 use Rattle.model.specs.Item.{Item, body, cover, leafy, sum}
 use Rattle.model.specs.Body.{PrefixAt}
-use Rattle.model.specs.Frame.{Lay, IsNode, slotOf, art, items, rootItems, freed, Stands}
+use Rattle.model.specs.Frame.{Lay, IsNode, slotOf, art, items, rootItems, freed, Stands, tree}
 use Rattle.model.specs.Frame.Lay.{leaf, prefix, node}
 use Rattle.model.specs.Touch.{holder}
+use Rattle.model.specs.Mark.{marks, count, like}
+use Rattle.model.specs.Freedom.{is}
 use Rattle.model.proofs.ItemLaws.{sum-app, sum-cons}
 use Rattle.model.proofs.StandsGood.{leafy-other}
+use Rattle.model.proofs.MarkLaws.{leaf-marks, prefix-marks, is-gone, is-from, counts-like, stay-more}
 use Rattle.node.specs.Moved.{Only}
 use Rattle.room.specs.View.{rooted, released}
 use Rattle.room.specs.Step.{Frees}
@@ -25,13 +28,14 @@ use Rattle.between.specs.Hole.{Step, under, plug, pathOf, stepsItems, holderOf,
 use Rattle.between.specs.Work.{blank, Suits, rootOf, Work}
 use Rattle.between.specs.Since.{holderItems}
 use Rattle.between.proofs.TreeLaws.{sum-none, leaf-sum, prefix-sum, node-sum, node-parts}
-use Rattle.between.proofs.HoleLaws.{art-plug, path-under, steps-under, suits-any}
+use Rattle.between.proofs.HoleLaws.{art-plug, path-under, steps-under, suits-any, plug-under}
 use Rattle.between.proofs.WorkLaws.{standsView, work-above, work-free, work-turn, work-write, work-path, work-close, first-owns, forest-first, open-prefix, make-prefix}
 use Rattle.between.proofs.LinkLaws.{relinked}
 use Rattle.between.proofs.EraseLaws.{withNow, plug-under-lone}
 use Rattle.between.proofs.SinceLaws.{since-start, since-also, since-write, since-free, since-link}
 use Rattle.between.proofs.BookedLaws.{tally-turn, booked-root, booked-free}
-use Rattle.between.proofs.OutsideLaws.{among-here, slots-later, slots-app, next-above, holder-sum, holder-slots}
+use Rattle.between.proofs.OutsideLaws.{among-here, slots-later, slots-app, next-above, holder-sum, holder-slots, among-there}
+use Rattle.between.proofs.StayLaws.{stay-plug}
 use Rattle.descent.specs.declared.spot.Body.{Body}
 use Rattle.leaf_new.specs.Make.{Relinked}
 use Rattle.erase_remove.proofs.RemoveLaws.{booked-none}
@@ -39,7 +43,7 @@ use Rattle.erase_join.specs.declared.lone.Lone.{Lone}
 use Rattle.prefix.specs.Prefix.{Spare, Joins}
 use Rattle.erase_join.specs.Lone.{IsLeaf, IsPrefix, Site, pairOf}
 use Rattle.erase_join.proofs.DropLaws.{Release, besides, frees-first, freed-first}
-use Rattle.erase_join.proofs.SiteLaws.{leaves, lost, nodeBody, beside, site-change, site-open, Mid}
+use Rattle.erase_join.proofs.SiteLaws.{leaves, lost, nodeBody, beside, site-change, site-open, site-left, Mid}
 use Rattle.erase_join.proofs.UpLaws.{kind-prefix, relink-ok, node-short, leaf-shorter, slot-in, two-in}
 
 tally-more : (a : ℕ) (ks ls : List ℕ) → ((j : ℕ) → tally ks j ≡ tally ls j) → (j : ℕ) → tally (a ∷ ks) j ≡ tally (a ∷ ls) j
@@ -136,6 +140,17 @@ module _ {f k : List ℕ} {s : State} (w : Stands edition1 f s) {l : Lone} (a : 
           gave = b ∷ [];
           since = since-free kind-prefix (W2 .heap) (first-owns W2) (since-link n (a .link) xs L W1 (G n o e k' v P) (since-start (w .heap))) (freed-first W2 R);
           noLeaf = (sum-none leafy, omega (arith, sum-cons leafy b [], sum-none leafy, leafy-other (a .slot) Prefix (a .place) (omega arith)));
+          stays = stay-plug xs (prefix (a .slot) (a .place) p (pairOf P)) u (stay-more (λ x z.
+              let gs = l .leaf ∷ l .node ∷ a .slot ∷ [] in
+              omega (
+                arith,
+                prefix-marks (is x) (pathOf xs) (a .slot) (a .place) p (pairOf P),
+                ap (λ y. count (is x) (marks y (pairOf P))) (path-under (a .slot) (a .place) p xs),
+                site-left P (a .slot ∷ []) x z,
+                is-gone x gs (a .slot) Prefix (pathOf xs) (pathOf xs ++ p) z (among-there (a .slot) (l .leaf) (l .node ∷ a .slot ∷ []) (among-there (a .slot) (l .node) (a .slot ∷ []) (among-here (a .slot) []))),
+                leaf-marks (is x) (pathOf (ups a p xs) ++ l .byte ∷ []) n o e k' v,
+                leaf-marks (is x) (pathOf xs) n o e k' v,
+              ))) refl (P .whole ∙ ap tree (plug-under (a .slot) (a .place) p xs (pairOf P)));
           accounts = rw (next-above xs) (record {
             takes = tt;
             frees = λ j. refl;
@@ -206,6 +221,24 @@ module _ {f k : List ℕ} {s : State} (w : Stands edition1 f s) {l : Lone} (a : 
             gave = c ∷ [];
             since = since-free kind-prefix (W2 .heap) (first-owns W2) Z (freed-first W2 R);
             noLeaf = (sum-none leafy, omega (arith, sum-cons leafy c [], sum-none leafy, leafy-other n Prefix o (omega arith)));
+            stays = stay-plug xs (prefix (a .slot) (a .place) p (pairOf P)) u (record {
+              each = λ x z h.
+                  let gs = l .leaf ∷ l .node ∷ n ∷ [] in
+                  let low = pathOf (ups a p xs) ++ l .byte ∷ [] in
+                  let at : low ++ q ≡ pathOf xs ++ (p ++ l .byte ∷ q) = path-joined a p xs (l .byte) q in
+                  omega (
+                    arith,
+                    prefix-marks (is x) (pathOf xs) (a .slot) (a .place) p (pairOf P),
+                    ap (λ y. count (is x) (marks y (pairOf P))) (path-under (a .slot) (a .place) p xs),
+                    site-left P (n ∷ []) x z,
+                    prefix-marks (is x) low n o q t,
+                    is-gone x gs n Prefix low (low ++ q) z (among-there n (l .leaf) (l .node ∷ n ∷ []) (among-there n (l .node) (n ∷ []) (among-here n []))),
+                    prefix-marks (like x) (pathOf xs) (a .slot) (a .place) (p ++ l .byte ∷ q) t,
+                    is-from x (a .slot) Prefix (pathOf xs) (pathOf xs ++ p) (pathOf xs ++ (p ++ l .byte ∷ q)),
+                    counts-like x (marks (low ++ q) t),
+                    ap (λ y. count (like x) (marks y t)) at,
+                  );
+            }) refl (P .whole ∙ ap tree (plug-under (a .slot) (a .place) p xs (pairOf P)));
             accounts = record {
               takes = tt;
               frees = λ j. refl;
@@ -280,6 +313,21 @@ module _ {f k : List ℕ} {s : State} (w : Stands edition1 f s) {l : Lone} (a : 
         gave = [];
         since = since-write {xs = []} (K .0) (λ x y z. omega (arith, sum-cons (cover x) b [], cover-body x (a .slot) Prefix (a .place) y z)) (since-also (b ∷ []) (since-start (w .heap)));
         noLeaf = (sum-none leafy, sum-none leafy);
+        stays = stay-plug xs (prefix (a .slot) (a .place) p (pairOf P)) u (record {
+          each = λ x z h.
+              let low = pathOf (ups a p xs) ++ l .byte ∷ [] in
+              let at : low ≡ pathOf xs ++ (p ++ l .byte ∷ []) = path-is a p xs (l .byte) in
+              omega (
+                arith,
+                prefix-marks (is x) (pathOf xs) (a .slot) (a .place) p (pairOf P),
+                ap (λ y. count (is x) (marks y (pairOf P))) (path-under (a .slot) (a .place) p xs),
+                site-left P [] x z,
+                prefix-marks (like x) (pathOf xs) (a .slot) (a .place) (p ++ l .byte ∷ []) t,
+                is-from x (a .slot) Prefix (pathOf xs) (pathOf xs ++ p) (pathOf xs ++ (p ++ l .byte ∷ [])),
+                counts-like x (marks low t),
+                ap (λ y. count (like x) (marks y t)) at,
+              );
+        }) refl (P .whole ∙ ap tree (plug-under (a .slot) (a .place) p xs (pairOf P)));
         accounts = record {
           takes = tt;
           frees = λ j. refl;

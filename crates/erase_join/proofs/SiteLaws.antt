@@ -19,10 +19,15 @@ use Rattle.model.specs.Frame.Lay.{leaf, node}
 use Rattle.model.specs.Frame.LayKids.{nil, kid}
 use Rattle.model.specs.Touch.{touchLost, touchLone, eraseTouch}
 use Rattle.model.specs.Promise.{eraseKinds}
+use Rattle.model.specs.Touch as model
+use Rattle.model.specs.Mark.{Mark, mark, marks, marksAll, rootMarks}
+use Rattle.model.specs.Mark as marking
+use Rattle.model.specs.Freedom.{is}
 use Rattle.model.proofs.StringLaws.{same-refl}
 use Rattle.model.proofs.ItemLaws.{sum-cons}
 use Rattle.model.proofs.StandsGood.{leafy-other}
 use Rattle.model.proofs.UniqueLaws.{root-unique, stands-unique}
+use Rattle.model.proofs.MarkLaws.{leaf-marks, node-marks, kid-marks, nil-marks, is-gone}
 use Rattle.between.specs.Hole.{app, Step, plug, pathOf, stepsItems}
 use Rattle.between.specs.Work.{Work}
 use Rattle.between.specs.Lead.{aboveOf}
@@ -35,7 +40,8 @@ use Rattle.between.proofs.WorkLaws.{standsView, work-of, work-open, work-as, wo
 use Rattle.between.proofs.LeadLaws.{leads-byte, plug-find, find-app}
 use Rattle.between.proofs.EraseLaws.{node-erase, erase-is, plug-erase-touch, node-touch}
 use Rattle.between.proofs.BookedLaws.{booked-as, book-of}
-use Rattle.between.proofs.OutsideLaws.{outside-of}
+use Rattle.between.proofs.OutsideLaws.{outside-of, among-here, among-there}
+use Rattle.between.proofs.StayLaws.{app-marks}
 use Rattle.erase_remove.specs.Erase.{EraseStep}
 use Rattle.erase_remove.proofs.DoneLaws.{Result, as-step}
 use Rattle.erase_join.specs.declared.lone.Lone.{Lone}
@@ -79,6 +85,35 @@ module _ {k : List ℕ} {r : Root} {xs : List Step} {l : Lone} {u : Lay} (P : Si
       ap (λ (z : Root). eraseTouch edition1 z k) (P .whole) ∙ plug-erase-touch (P .leads) (pairOf P) tt
       ∙ node-touch edition1 k d (P .byte) (P .place) (l .leaf) (l .at) (P .extent) k (P .value) (P .before) (P .after) (aboveOf xs) (l .node) (P .nodeAt) Node4 here (P .first)
       ∙ ap (touchLost (aboveOf xs) (l .node) Node4 (l .leaf)) (P .left)
+
+-- ---- its bodies
+
+module _ {k : List ℕ} {r : Root} {xs : List Step} {l : Lone} {u : Lay} (P : Site k r xs l u) where
+  pub site-marks : (v : Mark → ℕ) → marking.count v (marks (pathOf xs) (pairOf P)) ≡ v (mark (l .node) Node4 (pathOf xs) (pathOf xs)) + v (mark (l .leaf) Leaf k k) + marking.count v (marks (pathOf xs ++ l .byte ∷ []) u)
+  site-marks v =
+      let q = pathOf xs in
+      let t = leaf (l .leaf) (l .at) (P .extent) k (P .value) in
+      omega (
+        arith,
+        node-marks v q (l .node) (P .nodeAt) Node4 (app (P .before) (kid (P .byte) (P .place) t (P .after))),
+        app-marks v q (P .before) (kid (P .byte) (P .place) t (P .after)),
+        kid-marks v q (P .byte) (P .place) t (P .after),
+        leaf-marks v (q ++ P .byte ∷ []) (l .leaf) (l .at) (P .extent) k (P .value),
+        app-marks v q (P .before) (P .after),
+        ap (λ z. marking.count v (marksAll q z)) (P .left),
+        kid-marks v q (l .byte) (P .other) u nil,
+        nil-marks v q,
+      )
+
+  -- the Node4 and the Leaf go
+  pub site-left : (more : List ℕ) (x : Mark) → model.among (x .slot) (l .leaf ∷ l .node ∷ more) ≡ false → marking.count (is x) (marks (pathOf xs) (pairOf P)) ≡ marking.count (is x) (marks (pathOf xs ++ l .byte ∷ []) u)
+  site-left more x z =
+      omega (
+        arith,
+        site-marks (is x),
+        is-gone x (l .leaf ∷ l .node ∷ more) (l .leaf) Leaf k k z (among-here (l .leaf) (l .node ∷ more)),
+        is-gone x (l .leaf ∷ l .node ∷ more) (l .node) Node4 (pathOf xs) (pathOf xs) z (among-there (l .node) (l .leaf) (l .node ∷ more) (among-here (l .node) more)),
+      )
 
 -- ---- the frame is opened there: the child and the Leaf are trees, and the body of the Node4 is loose
 
@@ -151,6 +186,7 @@ pub record Mid (f f1 k : List ℕ) {s : State} (w : Stands edition1 f s) {xs : L
   pub since : Since f (standsView w) f1 view took wrote gave []
   pub noLeaf : (sum leafy took ≡ 0) × (sum leafy gave ≡ 0)
   pub accounts : Accounts (w .root) (touchLone (aboveOf xs) (l .node) (l .leaf) u) (kinds ++ frees) took wrote (body (l .leaf) Leaf (l .at) ∷ body (l .node) Node4 (P .nodeAt) ∷ gave)
+  pub stays : model.stay (touchLone (aboveOf xs) (l .node) (l .leaf) u .goes) (rootMarks (w .root)) (rootMarks (tree lay)) ≡ true
 
 module _ {f f1 k : List ℕ} {s : State} {w : Stands edition1 f s} {xs : List Step} {l : Lone} {u : Lay} {P : Site k (w .root) xs l u} (M : Mid f f1 k w P) where
   some-left : 1 ≤ M .view .nums .R
@@ -214,7 +250,7 @@ module _ {f f1 k : List ℕ} {s : State} {w : Stands edition1 f s} {xs : List St
       refl,
       stands',
       λ many. rw (kinds-are, site-touch P)
-          (outside-of (w .nums) (w .lists) (w .root) (tree (M .lay)) since' (w .heap) (Z .work .heap) (root-owns (M .lay) (Z .work)) (touchLone (aboveOf xs) (l .node) (l .leaf) u) (M .kinds ++ M .frees) (M .accounts) false (λ q. absurd (let z : _≡_ {A = ℕ} 0 1 = cc in omega arith))),
+          (outside-of (w .nums) (w .lists) (w .root) (tree (M .lay)) since' (w .heap) (Z .work .heap) (root-owns (M .lay) (Z .work)) (touchLone (aboveOf xs) (l .node) (l .leaf) u) (M .kinds ++ M .frees) (M .accounts) (M .stays) false (λ q. absurd (let z : _≡_ {A = ℕ} 0 1 = cc in omega arith))),
     )
 
 -- ---- a good frame stands for one state

@@ -18,10 +18,13 @@ use Rattle.model.specs.Item.{Item, body, cover, leafy, sum}
 use Rattle.model.specs.Body.{PrefixAt}
 use Rattle.model.specs.Frame.{Lay, LayKids, IsNode, slotOf, art, items, rootItems, Tree, View, Heap, freed, Stands}
 use Rattle.model.specs.Frame.Lay.{leaf, prefix, node}
-use Rattle.model.specs.Touch.{holder, held}
+use Rattle.model.specs.Touch.{holder, held, Above, touchLone}
+use Rattle.model.specs.Mark.{mark, marks, count, like}
+use Rattle.model.specs.Freedom.{is}
 use Rattle.model.proofs.ItemLaws.{sum-app, sum-cons}
 use Rattle.model.proofs.StandsGood.{tree-well, leafy-other}
 use Rattle.model.proofs.Edition1.{node-path1}
+use Rattle.model.proofs.MarkLaws.{leaf-marks, prefix-marks, is-to, counts-like, stay-more}
 use Rattle.node.specs.Moved.{Only}
 use Rattle.room.specs.View.{listOf, placeFrom, taken, Roomy, rooted}
 use Rattle.room.specs.Step.{Takes, Took}
@@ -41,12 +44,13 @@ use Rattle.between.proofs.EraseLaws.{withNow, plug-lone}
 use Rattle.between.proofs.SinceLaws.{since-start, since-also, since-take, since-write, since-link}
 use Rattle.between.proofs.BookedLaws.{tally-turn, booked-row, booked-root, room-of}
 use Rattle.between.proofs.OutsideLaws.{among-here, slots-later, slots-app, holder-sum, holder-slots}
+use Rattle.between.proofs.StayLaws.{stay-plug}
 use Rattle.leaf_new.specs.Make.{Relinked}
 use Rattle.erase_remove.proofs.RemoveLaws.{booked-none}
 use Rattle.erase_join.specs.declared.lone.Lone.{Lone}
 use Rattle.prefix.specs.Prefix.{Spare}
 use Rattle.erase_join.specs.Lone.{IsLeaf, IsPrefix, Site, pairOf}
-use Rattle.erase_join.proofs.SiteLaws.{leaves, lost, nodeBody, beside, site-change, site-open, site-sum, Mid}
+use Rattle.erase_join.proofs.SiteLaws.{leaves, lost, nodeBody, beside, site-change, site-open, site-sum, site-left, Mid}
 
 -- ---- what the joins share
 
@@ -154,6 +158,8 @@ module _ {f k : List ℕ} {s : State} (w : Stands edition1 f s) {xs : List Step}
         gave = [];
         since = since-link n at xs L W G (since-start (w .heap));
         noLeaf = (sum-none leafy, sum-none leafy);
+        stays = stay-plug xs (pairOf P) u (stay-more (λ x z. omega (arith, site-left P [] x z, leaf-marks (is x) (pathOf xs ++ l .byte ∷ []) n o e k' v, leaf-marks (is x) (pathOf xs) n o e k' v)))
+            (ap (λ (z : Above). touchLone z (l .node) (l .leaf) (leaf n o e k' v) .goes) (above-held xs free)) (P .whole);
         accounts = rw (above-held xs free) (record {
           takes = tt;
           frees = λ j. refl;
@@ -222,6 +228,21 @@ module _ {f k : List ℕ} {s : State} (w : Stands edition1 f s) {xs : List Step}
         gave = [];
         since = since-link n at xs L W G Z;
         noLeaf = (sum-none leafy, sum-none leafy);
+        stays = stay-plug xs (pairOf P) u (record {
+          each = λ x z h.
+              let low = pathOf xs ++ l .byte ∷ [] in
+              let e : low ++ p ≡ pathOf xs ++ l .byte ∷ p = append-assoc (pathOf xs) (l .byte ∷ []) p in
+              omega (
+                arith,
+                site-left P [] x z,
+                prefix-marks (is x) low n o p t,
+                prefix-marks (like x) (pathOf xs) n o (l .byte ∷ p) t,
+                is-to x n Prefix low (low ++ p) (pathOf xs),
+                ap (λ y. like x (mark n Prefix (pathOf xs) y)) e,
+                counts-like x (marks (low ++ p) t),
+                ap (λ y. count (like x) (marks y t)) e,
+              );
+        }) (ap (λ (z : Above). touchLone z (l .node) (l .leaf) (prefix n o p t) .goes) (above-held xs free)) (P .whole);
         accounts = rw (above-held xs free) (record {
           takes = tt;
           frees = λ j. refl;
@@ -314,6 +335,8 @@ module _ {f k : List ℕ} {s : State} (w : Stands edition1 f s) {xs : List Step}
               gave = [];
               since = since-link m at xs L fresh-work G Z;
               noLeaf = (omega (arith, sum-cons leafy b [], sum-none leafy, leafy-other m Prefix (freshAt w) (omega arith)), sum-none leafy);
+              stays = stay-plug xs (pairOf P) u (stay-more (λ x z. omega (arith, site-left P [] x z, prefix-marks (is x) (pathOf xs) m (freshAt w) (l .byte ∷ []) (node n o kind ks))))
+                  (ap (λ (z : Above). touchLone z (l .node) (l .leaf) (node n o kind ks) .goes) (above-held xs free)) (P .whole);
               accounts = rw (above-held xs free) (record {
                 takes = tt;
                 frees = λ j. refl;

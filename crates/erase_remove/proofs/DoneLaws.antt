@@ -16,6 +16,8 @@ use Rattle.model.specs.Item.{Item, leafy, sum}
 use Rattle.model.specs.Frame.{Lay, slotOf, art, items, Root, tree, rootArt, View, Stands}
 use Rattle.model.specs.Touch.{Touch, Outside, touchErase, eraseTouch}
 use Rattle.model.specs.Promise.{eraseKinds}
+use Rattle.model.specs.Mark.{marks}
+use Rattle.model.proofs.MarkLaws.{Stay}
 use Rattle.between.specs.Hole.{Step, plug, pathOf, artIn}
 use Rattle.between.specs.Work.{Work}
 use Rattle.between.specs.Lead.{Leads, NotLeaf, aboveOf}
@@ -27,6 +29,7 @@ use Rattle.between.proofs.EraseLaws.{plug-erase, plug-erase-touch, erase-is, wi
 use Rattle.between.proofs.WorkLaws.{standsView, stands-sum, stands-of, root-owns}
 use Rattle.between.proofs.BookedLaws.{book-of}
 use Rattle.between.proofs.OutsideLaws.{outside-of}
+use Rattle.between.proofs.StayLaws.{stay-plug}
 use Rattle.erase_remove.specs.Erase.{EraseStep}
 
 -- what a step says of one witness, once the answer and the state after are known
@@ -62,7 +65,8 @@ module _ {f k : List ℕ} {s : State} (w : Stands edition1 f s) (xs : List Step)
     -- in g it stands there; the numbers are the model's, and these bodies were taken, rewritten and freed
     module _ {g : List ℕ} {h : View} {slot : ℕ} {takes rewrites frees : List Item} (notLeaf : NotLeaf t) (W : Work edition1 g h [] slot (([], plug xs lay) ∷ []) []) (es : slot ≡ slotOf (plug xs lay)) (bytes : Bytes g)
         (books : Booked (standsView w) h (c .takes) (c .frees) (c .extent) (c .dead) (w .nums .R - 1)) (fewer : sum leafy (items lay) + 1 ≡ sum leafy (items t))
-        (Z : Since f (standsView w) g h takes rewrites frees []) (A : Accounts (w .root) (touchErase edition1 t (aboveOf xs) (length (pathOf xs)) k) (c .takes ++ c .frees) takes rewrites frees) where
+        (Z : Since f (standsView w) g h takes rewrites frees []) (A : Accounts (w .root) (touchErase edition1 t (aboveOf xs) (length (pathOf xs)) k) (c .takes ++ c .frees) takes rewrites frees)
+        (St : Stay (touchErase edition1 t (aboveOf xs) (length (pathOf xs)) k .goes) (marks (pathOf xs) t) (marks (pathOf xs) lay)) where
       records-is : s .R - 1 ≡ w .nums .R - 1
       records-is = ap (λ (z : State). z .R - 1) (w .state)
 
@@ -80,7 +84,7 @@ module _ {f k : List ℕ} {s : State} (w : Stands edition1 f s) (xs : List Step)
           let ks = c .takes ++ c .frees in
           let ek : eraseKinds edition1 (w .root) k ≡ ks = ap (λ (z : Root). eraseKinds edition1 z k) er ∙ ap (λ a. let x = eraseChange edition1 a k in x .takes ++ x .frees) (art-plug xs t) ∙ ap (λ (x : Change Left). x .takes ++ x .frees) change-is in
           let et : eraseTouch edition1 (w .root) k ≡ T = ap (λ (z : Root). eraseTouch edition1 z k) er ∙ plug-erase-touch L t notLeaf in
-          let O = outside-of (w .nums) (w .lists) (w .root) (tree (plug xs lay)) Z (w .heap) (W .heap) (root-owns (plug xs lay) W) T ks A false (λ z a p. absurd (let y : _≡_ {A = ℕ} 0 1 = cc in omega arith)) in
+          let O = outside-of (w .nums) (w .lists) (w .root) (tree (plug xs lay)) Z (w .heap) (W .heap) (root-owns (plug xs lay) W) T ks A (stay-plug xs t lay St refl er) false (λ z a p. absurd (let y : _≡_ {A = ℕ} 0 1 = cc in omega arith)) in
           let O1 = subst (λ (z : Touch). Outside f g (w .root) (tree (plug xs lay)) (w .lists) (h .lists) ks z [] false) (sym et) O in
           subst (λ (z : List ℕ). Outside f g (w .root) (tree (plug xs lay)) (w .lists) (h .lists) z (eraseTouch edition1 (w .root) k) [] false) (sym ek) O1
 

@@ -16,7 +16,9 @@ use Rattle.model.specs.Item.{Item, body, cover, leafy}
 use Rattle.model.specs.Frame.{Lay, LayKids, art, pairs, View, Stands}
 use Rattle.model.specs.Frame.Lay.{leaf, node}
 use Rattle.model.specs.Touch.{Touch, touch, touchErase}
+use Rattle.model.specs.Freedom.{is}
 use Rattle.model.proofs.ItemLaws.{sum-cons}
+use Rattle.model.proofs.MarkLaws.{node-marks, is-gone, stay-more}
 use Rattle.inner.specs.Inner.{Removed}
 use Rattle.room.specs.Book.{takenAll, nil}
 use Rattle.room.proofs.HeapLaws.{cover-body}
@@ -38,7 +40,7 @@ use Rattle.descent.specs.declared.spot.Spot.{Spot}
 use Rattle.erase_remove.specs.Leaf.{Drops, Dropped}
 use Rattle.erase_remove.specs.Erase.{Stays}
 use Rattle.erase_remove.proofs.DoneLaws.{Result, fits-is, erase-done}
-use Rattle.erase_remove.proofs.SpotLaws.{mark-least, held, xs, path, gone, kids, left, holder, root-is, fits, W0, N0, kids-length, count-is, records-some, left-art, bare, bare-count, node-found, node-erased, node-touched, items-are, leaf-fewer}
+use Rattle.erase_remove.proofs.SpotLaws.{mark-least, held, xs, path, gone, kids, left, holder, root-is, fits, W0, N0, kids-length, count-is, records-some, left-art, bare, bare-count, node-found, node-erased, node-touched, items-are, left-marks, leaf-fewer}
 
 -- nothing was taken or freed yet
 pub booked-none : (h : View) → length (h .lists) ≡ 8 → Booked h h [] [] 0 0 (h .nums .R)
@@ -151,3 +153,10 @@ module _ {f k : List ℕ} {p : Spot} (P : Stays f k p) (s : State) (w : Stands e
           (work-close ys new [] (X .work) refl (is-node ys n o kind rest)) refl bytes (X .booked h0 [] [] 0 0 dead (w .nums .R) (omega arith) (booked-none h0 (w .heap .lists .eight)))
           (omega (arith, node-sum leafy n o kind rest, node-sum leafy n o kind (kids (P .erase) s w), leaf-fewer (P .erase) s w))
           (X .since f h0 [] (body n kind o ∷ []) [] [] Z1) (subst (λ (z : Touch). Accounts (w .root) z (Leaf ∷ []) [] (body n kind o ∷ []) (body (p .here .slot) Leaf (p .here .place) ∷ [])) (sym touched) accounts)
+          (stay-more (λ x z. omega (
+            arith,
+            node-marks (is x) (path (P .erase) s w) n o kind (kids (P .erase) s w),
+            node-marks (is x) (path (P .erase) s w) n o kind rest,
+            left-marks (P .erase) s w (is x) (path (P .erase) s w),
+            is-gone x (p .here .slot ∷ []) (p .here .slot) Leaf k k (rw touched at z) (among-here (p .here .slot) []),
+          )))

@@ -23,8 +23,10 @@ use Rattle.model.specs.Frame.Lay.{leaf, prefix, node}
 use Rattle.model.specs.Frame.LayKids.{nil, kid}
 use Rattle.model.specs.Touch as model
 use Rattle.model.specs.Touch.{Touch, touch, touchErase}
+use Rattle.model.specs.Freedom.{is}
 use Rattle.model.proofs.ItemLaws.{in-yes, sum-app, sum-cons}
 use Rattle.model.proofs.StandsGood.{leafy-other}
+use Rattle.model.proofs.MarkLaws.{node-marks, is-gone, stay-more}
 use Rattle.node.specs.Moved.{Only}
 use Rattle.inner.specs.Inner.{NodeHas, Emptied, Removed, Carry, Carried}
 use Rattle.inner.proofs.InnerLaws.{inner-keeps}
@@ -50,11 +52,12 @@ use Rattle.between.proofs.EraseLaws.{less-shrinks, lost-shrinks}
 use Rattle.between.proofs.BookedLaws.{room-of, booked-row, booked-root, booked-free, booked-as, tally-turn}
 use Rattle.between.proofs.SinceLaws.{since-start, since-take, since-write, since-also, since-link, since-free}
 use Rattle.between.proofs.OutsideLaws.{among-here, among-there, slots-later, slots-app, holder-slots, holder-sum, next-above}
+use Rattle.between.proofs.StayLaws.{carried-marks}
 use Rattle.descent.specs.declared.spot.Spot.{Spot}
 use Rattle.erase_remove.specs.Leaf.{Drops, Dropped}
 use Rattle.erase_remove.specs.Erase.{Falls}
 use Rattle.erase_remove.proofs.DoneLaws.{Result, fits-is, erase-done}
-use Rattle.erase_remove.proofs.SpotLaws.{mark-down, held, xs, path, gone, kids, left, holder, root-is, fits, W0, N0, count-is, records-some, left-art, bare, bare-count, node-found, node-erased, node-touched, items-are, leaf-fewer, has-byte}
+use Rattle.erase_remove.proofs.SpotLaws.{mark-down, held, xs, path, gone, kids, left, holder, root-is, fits, W0, N0, count-is, records-some, left-art, bare, bare-count, node-found, node-erased, node-touched, items-are, left-marks, leaf-fewer, has-byte}
 
 -- ---- slots of children are slots
 
@@ -377,3 +380,12 @@ module _ {f k : List ℕ} {p : Spot} (P : Falls f k p) (s : State) (w : Stands e
                     erase-done w ys t er L change new v erased el (node-found (P .erase) s w) (fits-is w ys t er L change new v erased el (fits (P .erase) s w)) tt
                     (X .work) refl bytes books fewer (X .since f h0 (B1 ∷ []) rs (body n kind o ∷ []) [] Z6)
                     (subst (λ (z : Touch). Accounts (w .root) z (kd ∷ kind ∷ Leaf ∷ []) (B1 ∷ []) rs gs) (sym touched) accounts)
+                    (stay-more (λ x z. omega (
+                      arith,
+                      node-marks (is x) way n o kind (kids (P .erase) s w),
+                      node-marks (is x) way m q1 kd ks1,
+                      carried-marks (is x) way kd rest,
+                      left-marks (P .erase) s w (is x) way,
+                      is-gone x (l ∷ n ∷ []) l Leaf k k (rw touched at z) (among-here l (n ∷ [])),
+                      is-gone x (l ∷ n ∷ []) n kind way way (rw touched at z) (among-there n l (n ∷ []) (among-here n [])),
+                    )))

@@ -1,7 +1,7 @@
 -- The spot of a key that is there: the node that holds its Leaf, and what the model's erase makes of it. Assumes nothing.
 use Prim.Native.Nat.{ℕ, _+_, _≤_}
 use mathlib.Core.Path.{_≡_, refl, sym, ap, subst, _∙_}
-use mathlib.Core.List.{List, [], _∷_, append-assoc}
+use mathlib.Core.List.{List, [], _∷_, append-assoc, _++_}
 use mathlib.Core.Bool.{true, false}
 use mathlib.Core.Option.{some}
 use native.Mathlib.Omega.{arith}
@@ -17,9 +17,12 @@ use Rattle.model.specs.Frame.{Lay, LayKids, art, artKids, itemsAll, pairs, tree
 use Rattle.model.specs.Frame.Lay.{leaf, node}
 use Rattle.model.specs.Frame.LayKids.{kid}
 use Rattle.model.specs.Touch.{hasByte, touchErase, touchLost}
+use Rattle.model.specs.Mark.{Mark, mark, marksAll}
+use Rattle.model.specs.Mark as marks
 use Rattle.model.proofs.StandsGood.{length-pairs}
 use Rattle.model.proofs.StringLaws.{same-refl}
 use Rattle.model.proofs.UniqueLaws.{root-unique, stands-unique}
+use Rattle.model.proofs.MarkLaws.{leaf-marks, kid-marks}
 use Rattle.inner.specs.Inner.{NodeHas}
 use Rattle.inner.proofs.InnerLaws.{inner-asc, inner-count}
 use Rattle.descent.specs.declared.spot.Spot.{Spot}
@@ -33,6 +36,7 @@ use Rattle.between.proofs.HoleLaws.{plug-among, plug-sum}
 use Rattle.between.proofs.WorkLaws.{standsView, stands-sum, work-of, work-open, open-node, leafy-leaf}
 use Rattle.between.proofs.LeadLaws.{leads-byte, find-app}
 use Rattle.between.proofs.EraseLaws.{node-erase, node-touch}
+use Rattle.between.proofs.StayLaws.{app-marks}
 use Rattle.erase_remove.specs.Erase.{EraseAt, counted}
 
 -- ---- marks
@@ -202,6 +206,17 @@ module _ {f k : List ℕ} {p : Spot} (P : EraseAt f k p) (s : State) (w : Stands
   -- one child fewer: one Leaf fewer
   pub leaf-fewer : sum leafy (itemsAll left) + 1 ≡ sum leafy (itemsAll kids)
   leaf-fewer = omega (arith, remove-sum leafy (held P .before) (held P .after) (p .byte) (held P .place) gone, leafy-leaf (p .here .slot) (p .here .place) (held P .extent) k (held P .value))
+
+  -- the Leaf is one of the node's bodies
+  pub left-marks : (v : Mark → ℕ) (q : List ℕ) → marks.count v (marksAll q kids) ≡ v (mark (p .here .slot) Leaf k k) + marks.count v (marksAll q left)
+  left-marks v q =
+      omega (
+        arith,
+        app-marks v q (held P .before) (kid (p .byte) (held P .place) gone (held P .after)),
+        app-marks v q (held P .before) (held P .after),
+        kid-marks v q (p .byte) (held P .place) gone (held P .after),
+        leaf-marks v (q ++ p .byte ∷ []) (p .here .slot) (p .here .place) (held P .extent) k (held P .value),
+      )
 
   -- the node has the byte, also in a frame on the way
   pub has-byte : {g : List ℕ} {h : View} {loose : List Item} → Work edition1 g h xs (p .node .slot) ((path, holder) ∷ []) loose → NodeHas g (p .node .place) (p .node .kind) (p .byte)

@@ -16,8 +16,10 @@ use Rattle.model.specs.Tree.{Art, Change, over, extentOf, newKey, putTree}
 use Rattle.model.specs.State.{State, putIn, putChange, room, after, done}
 use Rattle.model.specs.Item.{Item, extent, leafy, sum}
 use Rattle.model.specs.Frame.{Lay, slotOf, art, items, Root, tree, rootArt, rootItems, View, stateOf, Stands}
-use Rattle.model.specs.Touch.{Touch, Outside, touchPut, putTouch, findLay, findAt, extentAt}
+use Rattle.model.specs.Touch.{Touch, Outside, stay, touchPut, putTouch, findLay, findAt, extentAt}
+use Rattle.model.specs.Mark.{marks, rootMarks}
 use Rattle.model.proofs.UniqueLaws.{root-unique, stands-unique}
+use Rattle.model.proofs.MarkLaws.{Stay}
 use Rattle.descent.specs.declared.spot.Spot.{Spot}
 use Rattle.room.specs.Book.{RoomFor}
 use Rattle.between.specs.Hole.{Step, plug, pathOf, holderOf, artIn}
@@ -30,6 +32,7 @@ use Rattle.between.proofs.LeadLaws.{plug-put, plug-look, plug-touch, found-exte
 use Rattle.between.proofs.WorkLaws.{standsView, stands-sum, stands-of, root-owns}
 use Rattle.between.proofs.BookedLaws.{book-of, room-of}
 use Rattle.between.proofs.OutsideLaws.{outside-of, extent-from}
+use Rattle.between.proofs.StayLaws.{stay-plug}
 use Rattle.leaf_new.specs.Put.{PutAt, Stepped}
 
 -- ---- a good frame stands for one state
@@ -77,6 +80,7 @@ record Ended (f g k v : List ℕ) {s : State} (w : Stands edition1 f s) (change 
   pub place : ℕ
   pub since : Since f (standsView w) g view takes rewrites frees (extent place (extentOf k v) ∷ [])
   pub accounts : Accounts (w .root) (putTouch edition1 (w .root) k v) (change .takes ++ change .frees) takes rewrites frees
+  pub stays : stay (putTouch edition1 (w .root) k v .goes) (rootMarks (w .root)) (rootMarks (tree whole)) ≡ true
   pub look : findAt edition1 (tree whole) k ≡ some (record { at = place + length k; long = length v })
   pub fromB : ltb 0 (change .extent) ≡ true → w .nums .B ≤ place
 
@@ -91,7 +95,7 @@ module _ (f g k v : List ℕ) {s : State} (w : Stands edition1 f s) (c : Change 
       let e : extentAt (length k) (findAt edition1 (tree (D .whole)) k) ≡ extent (D .place) (extentOf k v) ∷ [] = ap (extentAt (length k)) (D .look) ∙ found-extent (D .place) k v in
       subst (λ (z : List Item). Outside f g (w .root) (tree (D .whole)) (w .lists) (D .view .lists) (c .takes ++ c .frees) (putTouch edition1 (w .root) k v) z (ltb 0 (c .extent))) (sym e)
       (outside-of (w .nums) (w .lists) (w .root) (tree (D .whole)) (D .since) (w .heap) (D .work .heap) (root-owns (D .whole) (D .work))
-      (putTouch edition1 (w .root) k v) (c .takes ++ c .frees) (D .accounts) (ltb 0 (c .extent))
+      (putTouch edition1 (w .root) k v) (c .takes ++ c .frees) (D .accounts) (D .stays) (ltb 0 (c .extent))
       (λ q a h. omega (arith, D .fromB q, extent-from (D .place) (extentOf k v) a h)))
 
   result : room s c ≡ true → Result f g k v w c
@@ -106,7 +110,7 @@ module _ {f : List ℕ} {st : State} (S : Stands edition1 f st) (k v : List ℕ)
     (fits : room st (putChange edition1 st k v) ≡ true) {f' : List ℕ} {h : View} {s e : ℕ} (T : Lay) {ts rs gs : List Item} (W : Work edition1 f' h [] s (([], T) ∷ []) []) (es : s ≡ slotOf T) (bytes : Bytes f')
     (Z : Booked (standsView S) h (Leaf ∷ takes) frees (extentOf k v) 0 (st .R + 1)) (ea : art T ≡ A) (more : sum leafy (items T) ≡ sum leafy (rootItems (S .root)) + 1)
     (C : Since f (standsView S) f' h ts rs gs (extent e (extentOf k v) ∷ [])) (N : Accounts (S .root) (putTouch edition1 (S .root) k v) ((Leaf ∷ takes) ++ frees) ts rs gs)
-    (le : S .nums .B ≤ e) (look : findAt edition1 (tree T) k ≡ some (record { at = e + length k; long = length v })) where
+    (stays : stay (putTouch edition1 (S .root) k v .goes) (rootMarks (S .root)) (rootMarks (tree T)) ≡ true) (le : S .nums .B ≤ e) (look : findAt edition1 (tree T) k ≡ some (record { at = e + length k; long = length v })) where
   pub new-key : Stepped f k v f' st S
   new-key =
       let er : st .R ≡ S .nums .R = ap (λ (x : State). x .R) (S .state) in
@@ -128,6 +132,7 @@ module _ {f : List ℕ} {st : State} (S : Stands edition1 f st) (k v : List ℕ)
         place = e;
         since = C;
         accounts = N;
+        stays = stays;
         look = look;
         fromB = λ q. le;
       }) change fits
@@ -166,6 +171,7 @@ pub record Edited (f g k v : List ℕ) {s : State} (w : Stands edition1 f s) (xs
   pub place : ℕ
   pub since : Since f (standsView w) g view takes rewrites frees (extent place (extentOf k v) ∷ [])
   pub accounts : Accounts (w .root) (touchPut edition1 t (holderOf xs) (length (pathOf xs)) k v) (change .takes ++ change .frees) takes rewrites frees
+  pub stays : Stay (touchPut edition1 t (holderOf xs) (length (pathOf xs)) k v .goes) (marks (pathOf xs) t) (marks (pathOf xs) lay)
   pub look : findLay edition1 lay (length (pathOf xs)) k ≡ some (record { at = place + length k; long = length v })
   pub fromB : ltb 0 (change .extent) ≡ true → w .nums .B ≤ place
 
@@ -193,6 +199,7 @@ module _ (f g k v : List ℕ) {s : State} (w : Stands edition1 f s) (xs : List S
         place = D .place;
         since = D .since;
         accounts = subst (λ (z : Touch). Accounts (w .root) z (D .change .takes ++ D .change .frees) (D .takes) (D .rewrites) (D .frees)) (sym touch-is) (D .accounts);
+        stays = stay-plug xs t (D .lay) (D .stays) (ap (λ (z : Touch). z .goes) touch-is) er;
         look = plug-look L (D .lay) ∙ D .look;
         fromB = D .fromB;
       }

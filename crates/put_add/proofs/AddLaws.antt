@@ -14,8 +14,10 @@ use Rattle.model.specs.State.{State, room, putChange}
 use Rattle.model.specs.Item.{body, cover, leafy}
 use Rattle.model.specs.Frame.{Lay, LayKids, slotOf, artKids, pairs, NodeOf, View, Stands}
 use Rattle.model.specs.Frame.Lay.{node}
-use Rattle.model.specs.Touch.{touch, putTouch, size}
+use Rattle.model.specs.Touch.{Touch, touch, putTouch, size}
+use Rattle.model.specs.Freedom.{is}
 use Rattle.model.proofs.ItemLaws.{sum-cons}
+use Rattle.model.proofs.MarkLaws.{node-marks, stay-more}
 use Rattle.inner.specs.Inner.{placeAt, NodeOpen, Added}
 use Rattle.room.specs.View.{listOf, placeFrom, taken, recorded}
 use Rattle.room.specs.Step.{Renumbered}
@@ -34,6 +36,7 @@ use Rattle.between.proofs.LeadLaws.{leads-byte, leads-on, plug-touch, plug-look
 use Rattle.between.proofs.BookedLaws.{booked-row, booked-extend, booked-count, room-of}
 use Rattle.between.proofs.SinceLaws.{since-start, since-leaf, since-also, since-write, since-count}
 use Rattle.between.proofs.OutsideLaws.{among-here}
+use Rattle.between.proofs.StayLaws.{join-marks, stay-plug}
 use Rattle.descent.specs.declared.spot.Spot.{Spot}
 use Rattle.leaf_new.specs.Make.{NewLeaf, Makes, Counts, Counted}
 use Rattle.leaf_new.specs.Put.{Stepped, PutStep}
@@ -131,6 +134,8 @@ module _ {f : List ℕ} {st : State} {S : Stands edition1 f st} {k : List ℕ} {
               freesIn = λ w. omega (arith, sum-none w);
               rewritesIn = λ w. omega (arith, sum-cons w (body n kind o) [], sum-none w, stands-sum S (plug xs (node n o kind ks)) (P .is) w, plug-sum w xs (node n o kind ks), node-sum w n o kind ks);
             }))
+            (stay-plug xs (node n o kind ks) (node n o kind ks1) (stay-more (λ m z. omega (arith, node-marks (is m) (pathOf xs) n o kind ks, node-marks (is m) (pathOf xs) n o kind ks1, join-marks (is m) (pathOf xs) b i t1 ks)))
+            (ap (λ (z : Touch). z .goes) node-touch) (P .is))
             (omega (arith, one-row h0 (S .heap .lists .eight) .B))
             (plug-look (P .leads) (node n o kind ks1) ∙ join-look edition1 k d b i t1 ks (leads-byte (P .leads)) (lacks-byte P) ∙ leaf-look edition1 l q e k v (d + 1))
 

@@ -12,9 +12,12 @@ use Rattle.model.specs.Edition.{edition1, Legal}
 use Rattle.model.specs.Tree.{Art, extentOf, newKey}
 use Rattle.model.specs.State.{State, room, putChange, putIn}
 use Rattle.model.specs.Item.{Item, body, leafy, sum, Same}
-use Rattle.model.specs.Frame.{Lay, bare, rootArt, rootItems, rootSlot, View, Heap, Stands}
+use Rattle.model.specs.Frame.{Lay, bare, tree, rootArt, rootItems, rootSlot, View, Heap, Stands}
 use Rattle.model.specs.Touch.{putTouch}
+use Rattle.model.specs.Mark.{rootMarks}
+use Rattle.model.specs.Freedom.{is}
 use Rattle.model.proofs.ItemLaws.{sum-cons, in-over}
+use Rattle.model.proofs.MarkLaws.{bare-marks, is-gone, stay-of, stay-more}
 use Rattle.room.specs.View.{listOf, placeFrom, taken, released, rooted}
 use Rattle.room.specs.Step.{Frees, Freed}
 use Rattle.room.specs.Book.{RoomFor}
@@ -28,6 +31,8 @@ use Rattle.between.proofs.LinkLaws.{relinked}
 use Rattle.between.proofs.LeadLaws.{leaf-look}
 use Rattle.between.proofs.BookedLaws.{booked-extend, booked-root, booked-free, booked-count, room-of}
 use Rattle.between.proofs.SinceLaws.{since-start, since-leaf, since-link, since-free, since-count}
+use Rattle.between.proofs.StayLaws.{stay-at}
+use Rattle.between.proofs.OutsideLaws.{among-here}
 use Rattle.leaf_new.specs.Make.{NewLeaf, Makes, Counts, Counted, Relinked}
 use Rattle.leaf_new.specs.Put.{Stepped, PutStep}
 use Rattle.leaf_new.proofs.LeafLaws.{counts-of}
@@ -122,6 +127,7 @@ module _ {f : List ℕ} {st : State} (S : Stands edition1 f st) {k : List ℕ} {
               freesIn = λ w. omega (arith, sum-cons w (body n EmptyRoot o) [], sum-none w, old w);
               rewritesIn = λ w. omega (arith, sum-none w);
             }))
+            (stay-at (rootMarks (tree t1)) (ap (λ x. putTouch edition1 x k v .goes) er) er (stay-of (n ∷ []) (rootMarks (bare n o)) (rootMarks (tree t1)) (stay-more (λ x z. omega (arith, bare-marks (is x) n o, is-gone x (n ∷ []) n EmptyRoot [] [] z (among-here n []))))))
             (omega (arith, one-row h0 (S .heap .lists .eight) .B))
             (leaf-look edition1 l q e k v 0)
 

@@ -19,9 +19,11 @@ use Rattle.model.specs.Item.{Item, body, extent, onSlot, cover, leafy, sum, Sam
 use Rattle.model.specs.Body.{lookKid}
 use Rattle.model.specs.Frame.{Lay, LayKids, slotOf, artKids, itemsAll, pairs, rootItems, NodeOf, View, Heap, freed, Stands}
 use Rattle.model.specs.Frame.Lay.{node}
-use Rattle.model.specs.Touch.{touch, putTouch, holder, size}
+use Rattle.model.specs.Touch.{Touch, touch, putTouch, holder, size}
+use Rattle.model.specs.Freedom.{is}
 use Rattle.model.proofs.Edition1.{lawful1}
 use Rattle.model.proofs.ItemLaws.{sum-app, sum-cons}
+use Rattle.model.proofs.MarkLaws.{node-marks, is-gone, stay-more}
 use Rattle.inner.specs.Inner.{placeAt, Emptied, Carried, Added}
 use Rattle.inner.proofs.InnerLaws.{inner-asc}
 use Rattle.room.specs.View.{listOf, placeFrom, taken, Roomy, released, recorded, rooted}
@@ -44,6 +46,7 @@ use Rattle.between.proofs.LeadLaws.{leads-byte, leads-on, plug-touch, plug-look
 use Rattle.between.proofs.BookedLaws.{booked-row, booked-as, booked-extend, booked-root, booked-free, booked-count, room-of, room-same}
 use Rattle.between.proofs.SinceLaws.{since-start, since-take, since-leaf, since-write, since-link, since-free, since-count}
 use Rattle.between.proofs.OutsideLaws.{among-here, among-there}
+use Rattle.between.proofs.StayLaws.{join-marks, carried-marks, stay-plug}
 use Rattle.descent.specs.declared.spot.Spot.{Spot}
 use Rattle.leaf_new.specs.Make.{NewLeaf, Makes, Counts, Counted, Relinked}
 use Rattle.leaf_new.specs.Put.{Stepped, PutStep}
@@ -304,6 +307,14 @@ module _ {f : List ℕ} {st : State} {S : Stands edition1 f st} {k : List ℕ} {
                         freesIn = λ w. omega (arith, sum-cons w bn [], sum-none w, old w);
                         rewritesIn = λ w. omega (arith, holder-some w xs, old w);
                       }))
+                      (stay-plug xs (node n o kind ks) (node m q up ks1) (stay-more (λ x z. omega (
+                        arith,
+                        node-marks (is x) (pathOf xs) n o kind ks,
+                        node-marks (is x) (pathOf xs) m q up ks1,
+                        join-marks (is x) (pathOf xs) b i t1 ks0,
+                        carried-marks (is x) (pathOf xs) up ks,
+                        is-gone x (n ∷ []) n kind (pathOf xs) (pathOf xs) z (among-here n []),
+                      ))) (ap (λ (z : Touch). z .goes) node-touch) (P .is))
                       (omega (arith, two-row h0 up K (S .heap .lists .eight) .B))
                       (plug-look (P .leads) (node m q up ks1) ∙ join-look edition1 k d b i t1 ks0 (leads-byte (P .leads)) (look-none b ks0 absent0) ∙ leaf-look edition1 l p e k v (d + 1))
 

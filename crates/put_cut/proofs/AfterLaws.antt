@@ -1,11 +1,11 @@
 -- "One: the old body is rewritten": the part after, below the Node4. From what the calls leave to the model's put. Assumes nothing.
 use Prim.Native.Nat.{ℕ, _+_, _<_, _≤_}
 use mathlib.Core.Path.{_≡_, refl, sym, ap, subst, _∙_}
-use mathlib.Core.List.{List, [], _∷_, _++_}
+use mathlib.Core.List.{List, [], _∷_, _++_, append-nil}
 use native.Mathlib.Omega.{arith}
 use lib.ListN.{length, take}
 use Rattle.layout.specs.Number.{Bytes}
-use Rattle.layout.specs.Kind.{Leaf, Node4}
+use Rattle.layout.specs.Kind.{Leaf, Prefix, Node4}
 use Rattle.model.specs.Edition.{edition1}
 use Rattle.model.specs.Tree.{Art, Change, extentOf, fork, newKey, putTree}
 use Rattle.model.specs.State.{State}
@@ -13,7 +13,10 @@ use Rattle.model.specs.Item.{Item, body, cover, leafy}
 use Rattle.model.specs.Frame.{Lay, slotOf, art, View, Heap, Stands, Begins}
 use Rattle.model.specs.Frame.Lay.{prefix, node}
 use Rattle.model.specs.Touch.{Touch}
+use Rattle.model.specs.Mark.{mark, marks, count, like}
+use Rattle.model.specs.Freedom.{is}
 use Rattle.model.proofs.ItemLaws.{sum-cons}
+use Rattle.model.proofs.MarkLaws.{is-to, counts-like, prefix-marks}
 use Rattle.room.specs.View.{listOf, placeFrom, taken, Roomy}
 use Rattle.room.specs.Step.{Takes, Took}
 use Rattle.room.specs.Book.{RoomFor}
@@ -32,6 +35,7 @@ use Rattle.descent.specs.declared.spot.Spot.{Spot}
 use Rattle.leaf_new.specs.Make.{Counts, Counted, Relinked}
 use Rattle.leaf_new.specs.Put.{PutStep}
 use Rattle.leaf_new.proofs.LeafLaws.{counts-of}
+use Rattle.put_split.proofs.ForkLaws.{fork-marks}
 use Rattle.leaf_new.proofs.DoneLaws.{any-room, Edited, put-done}
 use Rattle.put_split.specs.Parts.{Forks, Forked}
 use Rattle.put_split.proofs.ForkLaws.{forkKids, fork-art, fork-look, fork-work, fork-since}
@@ -41,7 +45,7 @@ use Rattle.put_split.proofs.PartedLaws.{begins-here}
 use Rattle.put_split.proofs.OtherLaws.{relink-ok}
 use Rattle.prefix.specs.Prefix.{Shortened}
 use Rattle.put_cut.specs.Cut.{AfterLeft}
-use Rattle.put_cut.proofs.ModelLaws.{madeOf, made-after, put-cut, touch-after}
+use Rattle.put_cut.proofs.ModelLaws.{madeOf, made-after, put-cut, touch-after, path-is}
 use Rattle.put_cut.proofs.SpotLaws.{front-none, front-gone, front-path, front-byte, takes-of, took-of, xs, old, own, w0, root-at, cut, word, tail-is, room-two}
 use Rattle.put_cut.proofs.StageLaws.{forks-of, fork-leaves, holder-own, holder-own-some, shorter, short-work, short-since}
 
@@ -150,6 +154,21 @@ module _ {f k v : List ℕ} {p : Spot} (N : AfterLeft f k v p) where
                 accounts = subst (λ (t : Touch). Accounts (w .root) t (Leaf ∷ Node4 ∷ []) bs (holderItems (xs A) ++ own A ∷ []) [])
                     (sym (touch-after k (pathOf (xs A)) (word A) Q v (p .here .slot) (p .here .place) (holderOf (xs A)) (A .part .below) (front-none A (N .before)) after-some))
                     (record { takes = tt; frees = λ s. refl; kindsIn = tt; slotsIn = holder-own A w; freesIn = λ z. omega (arith, sum-none z); rewritesIn = holder-own-some A w });
+                stays = record {
+                  each = λ x z h.
+                      let path = pathOf (xs A) in
+                      let at : path ++ A .part .bytes ≡ (path ++ Q .c ∷ []) ++ Q .t = path-is k path (word A) Q ∙ ap (λ y. ((path ++ y) ++ Q .c ∷ []) ++ Q .t) (front-gone A (N .before)) ∙ ap (λ y. (y ++ Q .c ∷ []) ++ Q .t) (append-nil path) in
+                      omega (
+                        arith,
+                        prefix-marks (is x) path (p .here .slot) (p .here .place) (A .part .bytes) (A .part .below),
+                        fork-marks (like x) path m (place w) (Q .b) new (Q .c) below,
+                        prefix-marks (like x) (path ++ Q .c ∷ []) (p .here .slot) (p .here .place) (Q .t) (A .part .below),
+                        is-to x (p .here .slot) Prefix path (path ++ A .part .bytes) (path ++ Q .c ∷ []),
+                        ap (λ y. like x (mark (p .here .slot) Prefix (path ++ Q .c ∷ []) y)) at,
+                        counts-like x (marks (path ++ A .part .bytes) (A .part .below)),
+                        ap (λ y. count (like x) (marks y (A .part .below))) at,
+                      );
+                };
                 look = fork-look k d m (place w) (Q .b) new (Q .c) below (front-byte A (N .before)) (Q .apart) ∙ leaf-look edition1 (G .leaf) (placeFrom h1 (listOf h1 Leaf)) (taken h1 Leaf .nums .B) k v (d + 1);
                 fromB = λ z. from-two (standsView w) k v e8;
               }

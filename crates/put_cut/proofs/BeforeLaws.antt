@@ -1,7 +1,7 @@
 -- "One: the old body is rewritten": the part before, above the Node4. From what the calls leave to the model's put. Assumes nothing.
 use Prim.Native.Nat.{ℕ, _+_, _-_, _<_, _≤_}
 use mathlib.Core.Path.{_≡_, refl, sym, ap, subst, _∙_}
-use mathlib.Core.List.{List, [], _∷_, _++_}
+use mathlib.Core.List.{List, [], _∷_, _++_, append-nil}
 use native.Mathlib.Omega.{arith}
 use lib.ListN.{length, take, drop}
 use Rattle.layout.specs.Number.{Bytes}
@@ -13,7 +13,10 @@ use Rattle.model.specs.Item.{Item, body, cover, leafy}
 use Rattle.model.specs.Frame.{Lay, slotOf, art, View, Heap, Stands}
 use Rattle.model.specs.Frame.Lay.{prefix}
 use Rattle.model.specs.Touch.{Touch}
+use Rattle.model.specs.Mark.{marks, count, like}
+use Rattle.model.specs.Freedom.{is}
 use Rattle.model.proofs.ItemLaws.{sum-cons}
+use Rattle.model.proofs.MarkLaws.{is-from, counts-like, prefix-marks}
 use Rattle.room.specs.View.{listOf, placeFrom, taken, Roomy, recorded}
 use Rattle.room.specs.Step.{Took}
 use Rattle.room.proofs.HeapLaws.{cover-body, lies}
@@ -32,6 +35,7 @@ use Rattle.descent.specs.declared.spot.Spot.{Spot}
 use Rattle.leaf_new.specs.Make.{Counts, Counted}
 use Rattle.leaf_new.specs.Put.{PutStep}
 use Rattle.leaf_new.proofs.LeafLaws.{counts-of}
+use Rattle.put_split.proofs.ForkLaws.{fork-marks}
 use Rattle.leaf_new.proofs.DoneLaws.{any-room, Edited, put-done}
 use Rattle.prefix.specs.Prefix.{PrefixWritten}
 use Rattle.put_split.specs.Parts.{Forked}
@@ -40,7 +44,7 @@ use Rattle.put_split.proofs.EndLaws.{node4-kind, prefix-look, took-slot}
 use Rattle.put_split.proofs.SplitLaws.{booked-two, from-two}
 use Rattle.put_split.proofs.PartedLaws.{byte-here}
 use Rattle.put_cut.specs.Cut.{BeforeLeft}
-use Rattle.put_cut.proofs.ModelLaws.{madeOf, made-before, put-cut, touch-before, here-left}
+use Rattle.put_cut.proofs.ModelLaws.{madeOf, made-before, put-cut, touch-before, here-left, path-is}
 use Rattle.put_cut.proofs.SpotLaws.{tail-gone, xs, old, own, w0, root-at, opened, old-sum, cut, word, shares, write-ok}
 use Rattle.put_cut.proofs.StageLaws.{fork-leaves, bare-took, barePlace, bareKnot, bare-work, bare-since}
 
@@ -136,6 +140,20 @@ module _ {f k v : List ℕ} {p : Spot} (N : BeforeLeft f k v p) where
                   freesIn = λ z. omega (arith, sum-none z);
                   rewritesIn = λ z. omega (arith, sum-cons z (own A) [], sum-none z, old-sum A w z);
                 });
+            stays = record {
+              each = λ x z h.
+                  let path = pathOf (xs A) in
+                  let at : path ++ A .part .bytes ≡ (path ++ Q .w) ++ Q .c ∷ [] = path-is k path (word A) Q ∙ ap (λ y. ((path ++ Q .w) ++ Q .c ∷ []) ++ y) before-gone ∙ append-nil ((path ++ Q .w) ++ Q .c ∷ []) in
+                  omega (
+                    arith,
+                    prefix-marks (is x) path (p .here .slot) (p .here .place) (A .part .bytes) below,
+                    prefix-marks (like x) path (p .here .slot) (p .here .place) (Q .w) (knot w),
+                    fork-marks (like x) (path ++ Q .w) m place (Q .b) new (Q .c) below,
+                    is-from x (p .here .slot) Prefix path (path ++ A .part .bytes) (path ++ Q .w),
+                    counts-like x (marks (path ++ A .part .bytes) below),
+                    ap (λ y. count (like x) (marks y below)) at,
+                  );
+            };
             look = prefix-look k (Q .w) (Q .b ∷ Q .s) d (p .here .slot) (p .here .place) (knot w) (here-left k (pathOf (xs A)) (word A) Q)
                 ∙ fork-look k (d + length (Q .w)) m place (Q .b) new (Q .c) below (byte-here k (pathOf (xs A)) (word A) Q) (Q .apart)
                 ∙ leaf-look edition1 (G .leaf) (placeFrom h1 (listOf h1 Leaf)) (taken h1 Leaf .nums .B) k v (d + length (Q .w) + 1);

@@ -16,7 +16,10 @@ use Rattle.model.specs.Item.{Item, body, cover, leafy}
 use Rattle.model.specs.Frame.{Lay, slotOf, art, View, Heap, Stands, Begins}
 use Rattle.model.specs.Frame.Lay.{prefix, node}
 use Rattle.model.specs.Touch.{Touch}
+use Rattle.model.specs.Mark.{mark, marks, count, like}
+use Rattle.model.specs.Freedom.{is}
 use Rattle.model.proofs.ItemLaws.{sum-cons}
+use Rattle.model.proofs.MarkLaws.{is-to, counts-like, prefix-marks}
 use Rattle.room.specs.View.{listOf, placeFrom, taken, Roomy}
 use Rattle.room.specs.Step.{Takes, Took}
 use Rattle.room.specs.Book.{RoomFor}
@@ -36,6 +39,7 @@ use Rattle.descent.specs.declared.spot.Spot.{Spot}
 use Rattle.leaf_new.specs.Make.{Counts, Counted, Relinked}
 use Rattle.leaf_new.specs.Put.{PutStep}
 use Rattle.leaf_new.proofs.LeafLaws.{counts-of}
+use Rattle.put_split.proofs.ForkLaws.{fork-marks}
 use Rattle.leaf_new.proofs.DoneLaws.{any-room, Edited, put-done}
 use Rattle.prefix.specs.Prefix.{PrefixWritten}
 use Rattle.put_split.specs.Parts.{Forks, Forked}
@@ -46,7 +50,7 @@ use Rattle.put_split.proofs.PartedLaws.{byte-here, begins-here}
 use Rattle.put_split.proofs.OtherLaws.{relink-ok}
 use Rattle.prefix.specs.Prefix.{Shortened}
 use Rattle.put_cut.specs.Cut.{BothLeft}
-use Rattle.put_cut.proofs.ModelLaws.{made-both, put-cut, touch-both, here-left}
+use Rattle.put_cut.proofs.ModelLaws.{made-both, put-cut, touch-both, here-left, path-is}
 use Rattle.put_cut.proofs.SpotLaws.{takes-of, took-of, xs, old, own, w0, root-at, opened, cut, word, shares, tail-is, write-ok, room-three}
 use Rattle.put_cut.proofs.StageLaws.{forks-of, fork-leaves, holder-own, holder-own-some, shorter, short-work, short-since}
 
@@ -203,6 +207,23 @@ module _ {f k v : List ℕ} {p : Spot} (N : BothLeft f k v p) where
                       accounts = subst (λ (t : Touch). Accounts (w .root) t (Leaf ∷ Node4 ∷ Prefix ∷ []) bs (holderItems (xs A) ++ own A ∷ []) [])
                           (sym (touch-both k (pathOf (xs A)) (word A) Q v (p .here .slot) (p .here .place) (holderOf (xs A)) (A .part .below) some both-some))
                           (record { takes = tt; frees = λ s. refl; kindsIn = tt; slotsIn = holder-own A w; freesIn = λ z. omega (arith, sum-none z); rewritesIn = holder-own-some A w });
+                      stays = record {
+                        each = λ x z h.
+                            let path = pathOf (xs A) in
+                            let low = (path ++ Q .w) ++ Q .c ∷ [] in
+                            let at : path ++ A .part .bytes ≡ low ++ Q .t = path-is k path (word A) Q in
+                            omega (
+                              arith,
+                              prefix-marks (is x) path (p .here .slot) (p .here .place) (A .part .bytes) (A .part .below),
+                              prefix-marks (like x) path top (place2 w) (Q .w) (knot w),
+                              fork-marks (like x) (path ++ Q .w) m (place4 w) (Q .b) new (Q .c) below,
+                              prefix-marks (like x) low (p .here .slot) (p .here .place) (Q .t) (A .part .below),
+                              is-to x (p .here .slot) Prefix path (path ++ A .part .bytes) low,
+                              ap (λ y. like x (mark (p .here .slot) Prefix low y)) at,
+                              counts-like x (marks (path ++ A .part .bytes) (A .part .below)),
+                              ap (λ y. count (like x) (marks y (A .part .below))) at,
+                            );
+                      };
                       look = prefix-look k (Q .w) (Q .b ∷ Q .s) d top (place2 w) (knot w) (here-left k (pathOf (xs A)) (word A) Q)
                           ∙ fork-look k (d + length (Q .w)) m (place4 w) (Q .b) new (Q .c) below (byte-here k (pathOf (xs A)) (word A) Q) (Q .apart)
                           ∙ leaf-look edition1 (G .leaf) (placeFrom (view2 w) (listOf (view2 w) Leaf)) (taken (view2 w) Leaf .nums .B) k v (d + length (Q .w) + 1);

@@ -1,7 +1,7 @@
 -- "None: it is freed": the Node4 stands in the place of the Prefix. From what the calls leave to the model's put. Assumes nothing.
 use Prim.Native.Nat.{ℕ, _+_, _<_, _≤_}
 use mathlib.Core.Path.{_≡_, refl, sym, ap, subst, _∙_}
-use mathlib.Core.List.{List, [], _∷_, _++_}
+use mathlib.Core.List.{List, [], _∷_, _++_, append-nil}
 use native.Mathlib.Omega.{arith}
 use lib.ListN.{length}
 use Rattle.layout.specs.Number.{Bytes}
@@ -12,8 +12,11 @@ use Rattle.model.specs.Tree.{Art, Change, extentOf, fork, newKey, putTree}
 use Rattle.model.specs.State.{State}
 use Rattle.model.specs.Item.{Item, body, leafy, Same}
 use Rattle.model.specs.Frame.{Lay, slotOf, art, View, Heap, Stands}
-use Rattle.model.specs.Touch.{Touch, holder}
+use Rattle.model.specs.Touch.{Touch, holder, touchPut}
+use Rattle.model.specs.Mark.{marks, count, like}
+use Rattle.model.specs.Freedom.{is}
 use Rattle.model.proofs.ItemLaws.{sum-cons}
+use Rattle.model.proofs.MarkLaws.{is-gone, counts-like, prefix-marks}
 use Rattle.room.specs.View.{listOf, placeFrom, taken, Roomy, released, rooted, recorded}
 use Rattle.room.specs.Step.{Took, Frees, Freed}
 use Rattle.between.specs.Hole.{plug, pathOf, holderOf, stepsItems}
@@ -27,11 +30,12 @@ use Rattle.between.proofs.LeadLaws.{leaf-look}
 use Rattle.between.proofs.WorkLaws.{standsView, work-path, work-close, work-free, work-count, entries-first, first-owns}
 use Rattle.between.proofs.SinceLaws.{since-start, since-link, since-free, since-count}
 use Rattle.between.proofs.BookedLaws.{booked-root, booked-free, booked-count}
-use Rattle.between.proofs.OutsideLaws.{slots-later}
+use Rattle.between.proofs.OutsideLaws.{among-here, slots-later}
 use Rattle.descent.specs.declared.spot.Spot.{Spot}
 use Rattle.leaf_new.specs.Make.{Counts, Counted, Relinked}
 use Rattle.leaf_new.specs.Put.{PutStep}
 use Rattle.leaf_new.proofs.LeafLaws.{counts-of}
+use Rattle.put_split.proofs.ForkLaws.{fork-marks}
 use Rattle.leaf_new.proofs.DoneLaws.{any-room, Edited, put-done}
 use Rattle.put_split.specs.Parts.{Forked}
 use Rattle.put_split.proofs.ForkLaws.{fork-art, fork-look}
@@ -39,7 +43,7 @@ use Rattle.put_split.proofs.EndLaws.{prefix-kind, node4-kind, leafy-not, took-s
 use Rattle.put_split.proofs.SplitLaws.{booked-two, from-two}
 use Rattle.put_split.proofs.OtherLaws.{relink-ok}
 use Rattle.put_cut.specs.Cut.{NoneLeft}
-use Rattle.put_cut.proofs.ModelLaws.{madeOf, put-cut, touch-none}
+use Rattle.put_cut.proofs.ModelLaws.{madeOf, put-cut, touch-none, path-is}
 use Rattle.put_cut.proofs.SpotLaws.{front-none, front-gone, front-path, front-byte, tail-gone, xs, old, own, w0, root-at, opened, old-sum, cut, word}
 use Rattle.put_cut.proofs.StageLaws.{fork-leaves, bare-took, barePlace, bareKnot, bare-work, bare-since}
 
@@ -144,6 +148,22 @@ module _ {f k v : List ℕ} {p : Spot} (N : NoneLeft f k v p) where
                     freesIn = λ z. omega (arith, sum-cons z (own A) [], sum-none z, old-sum A w z);
                     rewritesIn = holders-some w (xs A) (old A) (root-at A w);
                   });
+              stays = record {
+                each = λ x z h.
+                    let path = pathOf (xs A) in
+                    let at : path ++ A .part .bytes ≡ path ++ Q .c ∷ [] = path-is k path (word A) Q ∙ ap (λ y. ((path ++ y) ++ Q .c ∷ []) ++ Q .t) (front-gone A (N .before)) ∙ ap (λ y. (y ++ Q .c ∷ []) ++ Q .t) (append-nil path)
+                    ∙ ap (λ y. (path ++ Q .c ∷ []) ++ y) none-gone ∙ append-nil (path ++ Q .c ∷ []) in
+                    let goes : touchPut edition1 (old A) (holderOf (xs A)) d k v .goes ≡ p .here .slot ∷ [] =
+                    ap (λ (y : Touch). y .goes) (touch-none k path (word A) Q v (p .here .slot) (p .here .place) (holderOf (xs A)) below (front-none A (N .before)) (ap length none-gone)) in
+                    omega (
+                      arith,
+                      prefix-marks (is x) path (p .here .slot) (p .here .place) (A .part .bytes) below,
+                      fork-marks (like x) path m place (Q .b) new (Q .c) below,
+                      is-gone x (p .here .slot ∷ []) (p .here .slot) Prefix path (path ++ A .part .bytes) (rw goes at z) (among-here (p .here .slot) []),
+                      counts-like x (marks (path ++ A .part .bytes) below),
+                      ap (λ y. count (like x) (marks y below)) at,
+                    );
+              };
               look = fork-look k d m place (Q .b) new (Q .c) below (front-byte A (N .before)) (Q .apart) ∙ leaf-look edition1 (G .leaf) (placeFrom h1 (listOf h1 Leaf)) (taken h1 Leaf .nums .B) k v (d + 1);
               fromB = λ z. from-two (standsView w) k v (w .heap .lists .eight);
             }

@@ -19,8 +19,10 @@ use Rattle.model.specs.Item as item
 use Rattle.model.specs.Frame.{Lay, slotOf, LeafOf, View, Heap, tree, Stands}
 use Rattle.model.specs.Frame.Lay.{leaf}
 use Rattle.model.specs.Touch.{Touch, touch, touchPut}
+use Rattle.model.specs.Freedom.{is}
 use Rattle.model.proofs.StringLaws.{same-refl}
 use Rattle.model.proofs.ItemLaws.{sum-app, sum-cons}
+use Rattle.model.proofs.MarkLaws.{leaf-marks, stay-more}
 use Rattle.node.specs.Moved.{Keeps}
 use Rattle.node.proofs.MoveLaws.{le-keeps}
 use Rattle.room.specs.View.{extended, retired}
@@ -142,6 +144,7 @@ module _ {f : List ℕ} {s : State} (w : Stands edition1 f s) (xs : List Step) (
           };
           accounts = subst (λ (t : Touch). Accounts (w .root) t [] [] [] []) (sym (touch-same n o e k v v' (holderOf xs) d len))
               (record { takes = tt; frees = λ z. refl; kindsIn = tt; slotsIn = tt; freesIn = λ z. omega (arith, sum-none z); rewritesIn = λ z. omega (arith, sum-none z) });
+          stays = stay-more (λ m z. omega (arith, leaf-marks (is m) (pathOf xs) n o e k v', leaf-marks (is m) (pathOf xs) n o e k v));
           look = leaf-look edition1 n o e k v d;
           fromB = λ q. absurd (let z : _≡_ {A = ℕ} 0 1 = cc in omega arith);
         }
@@ -231,6 +234,7 @@ module _ {f : List ℕ} {s : State} (w : Stands edition1 f s) (xs : List Step) (
                   freesIn = λ z. omega (arith, sum-none z);
                   rewritesIn = λ z. omega (arith, sum-cons z b [], sum-none z, stands-sum w (plug xs (leaf n o e k v')) er z, plug-sum z xs (leaf n o e k v'), leaf-sum z n o e k v');
                 });
+            stays = stay-more (λ m z. omega (arith, leaf-marks (is m) (pathOf xs) n o e k v', leaf-marks (is m) (pathOf xs) n o e' k v));
             look = leaf-look edition1 n o e' k v d;
             fromB = λ q. omega (arith, X .place);
           }

@@ -17,7 +17,9 @@ use Rattle.model.specs.Item.{Item, body, cover, leafy}
 use Rattle.model.specs.Frame.{Lay, slotOf, View, Stands, Begins}
 use Rattle.model.specs.Frame.Lay.{leaf, prefix, node}
 use Rattle.model.specs.Touch.{Touch, touch, holder, touchPut}
+use Rattle.model.specs.Freedom.{is}
 use Rattle.model.proofs.ItemLaws.{sum-cons}
+use Rattle.model.proofs.MarkLaws.{leaf-marks, prefix-marks, stay-more}
 use Rattle.room.specs.View.{listOf, placeFrom, taken}
 use Rattle.room.specs.Step.{Took}
 use Rattle.room.specs.Book.{takenAll, RoomFor, Kinds}
@@ -40,7 +42,7 @@ use Rattle.prefix.specs.Prefix.{PrefixWritten}
 use Rattle.put_split.specs.Parts.{Forked}
 use Rattle.put_split.specs.Split.{Beside}
 use Rattle.put_split.proofs.PartedLaws.{byte-here, begins-here, begins-there, put-leaf, touch-leaf}
-use Rattle.put_split.proofs.ForkLaws.{work-under, forkKids, fork-sum, fork-art, fork-look, fork-work, fork-since}
+use Rattle.put_split.proofs.ForkLaws.{work-under, forkKids, fork-marks, fork-sum, fork-art, fork-look, fork-work, fork-since}
 use Rattle.put_split.proofs.EndLaws.{node4-kind, prefix-kind, leaf-kind, leafy-not, tally-two, tally-three, as-prefix-some, prefix-if-some, prefix-look, took-slot, end-work, end-since, end-booked, holders-in, holders-some}
 
 -- the kinds of what is taken, in the order of the takes
@@ -147,6 +149,7 @@ module _ {f : List ℕ} {st : State} {w : Stands edition1 f st} {k : List ℕ} {
                   (fork-since (pathOf xs) [] place old taken-one G refl room-one (P .legal) here (since-take node4-kind (w .heap) (since-start (w .heap)) T) (λ a. omega (arith, sum-cons (cover a) b4 [])));
               accounts = accounts (Leaf ∷ Node4 ∷ []) bs
                   (record { takes = tt; frees = λ s. refl; kindsIn = tt; slotsIn = holders-in w xs old (P .is) opened; freesIn = λ z. omega (arith, sum-none z); rewritesIn = holders-some w xs old (P .is) });
+              stays = stay-more (λ x z. omega (arith, leaf-marks (is x) (pathOf xs) n o e k' v', leaf-marks (is x) (pathOf xs ++ P .parted .c ∷ []) n o e k' v', fork-marks (is x) (pathOf xs) m place (P .parted .b) new (P .parted .c) old));
               look = fork-look k d m place (P .parted .b) new (P .parted .c) old bytes-of (P .parted .apart) ∙ leaf-look edition1 (G .leaf) (placeFrom h1 (listOf h1 Leaf)) (taken h1 Leaf .nums .B) k v (d + 1);
               fromB = λ z. from-two h0 k v e8;
             }
@@ -242,6 +245,13 @@ module _ {f : List ℕ} {st : State} {w : Stands edition1 f st} {k : List ℕ} {
                 since = end-since crown topped (P .link) fits refl suits R C Z4;
                 accounts = accounts (Leaf ∷ Node4 ∷ Prefix ∷ []) bs
                     (record { takes = tt; frees = λ s. refl; kindsIn = tt; slotsIn = holders-in w xs old (P .is) opened; freesIn = λ z. omega (arith, sum-none z); rewritesIn = holders-some w xs old (P .is) });
+                stays = stay-more (λ x z. omega (
+                  arith,
+                  leaf-marks (is x) (pathOf xs) n o e k' v',
+                  leaf-marks (is x) ((pathOf xs ++ P .parted .w) ++ P .parted .c ∷ []) n o e k' v',
+                  prefix-marks (is x) (pathOf xs) top place2 (P .parted .w) knot,
+                  fork-marks (is x) (pathOf xs ++ P .parted .w) m place4 (P .parted .b) new (P .parted .c) old,
+                ));
                 look = prefix-look k (P .parted .w) (P .parted .b ∷ P .parted .s) d top place2 knot deep
                     ∙ fork-look k (d + length (P .parted .w)) m place4 (P .parted .b) new (P .parted .c) old (byte-here k (pathOf xs) (P .word) (P .parted)) (P .parted .apart)
                     ∙ leaf-look edition1 (G .leaf) (placeFrom view2 (listOf view2 Leaf)) (taken view2 Leaf .nums .B) k v (d + length (P .parted .w) + 1);

@@ -1,0 +1,193 @@
+-- Laws of the clause `stays`: said of every body, and sums over the marks of a tree, so that their order does not matter. Assumes nothing.
+use Prim.Native.Nat.{ℕ, _+_, _≤_}
+use mathlib.Core.Path.{_≡_, refl, ap}
+use mathlib.Core.List.{List, [], _∷_, _++_}
+use mathlib.Core.Bool.{Bool, true, false}
+use mathlib.Core.Logic.{_⊎_, inl, inr}
+use native.Mathlib.Omega.{arith}
+use native.Mathlib.Decide.{decLe}
+use lib.Dec.{ltb, eqb}
+use borrow.Author.Tests.{lt-ltb, ltb-true, eq-eqb}
+use Rattle.layout.specs.Kind.{Leaf, Prefix, EmptyRoot}
+use Rattle.model.specs.Strings.{pick, same}
+use Rattle.model.specs.Frame.{Lay, LayKids, bare, tree}
+use Rattle.model.specs.Frame.Lay.{leaf, prefix, node}
+use Rattle.model.specs.Frame.LayKids.{nil, kid}
+use Rattle.model.specs.Mark.{Mark, mark, marks, marksAll, rootMarks, like, count}
+use Rattle.model.specs.Touch.{among, stay}
+use Rattle.model.specs.Freedom.{is}
+use Rattle.model.proofs.StringLaws.{clash, bool-cases, eqb-cases, same-true, same-refl}
+
+-- every body of ms but those of some slots is known by the same in ms'
+pub record Stay (goes : List ℕ) (ms ms' : List Mark) : Type 0 where
+  pub each : (m : Mark) → among (m .slot) goes ≡ false → 1 ≤ count (is m) ms → 1 ≤ count (like m) ms'
+
+-- ---- sums
+
+pub count-none : (w : Mark → ℕ) → count w [] ≡ 0
+unfolding count
+count-none w = refl
+
+pub count-cons : (w : Mark → ℕ) (m : Mark) (ms : List Mark) → count w (m ∷ ms) ≡ w m + count w ms
+unfolding count
+count-cons w m ms = refl
+
+pub count-app : (w : Mark → ℕ) (ms ns : List Mark) → count w (ms ++ ns) ≡ count w ms + count w ns
+unfolding count
+count-app w [] ns = omega arith
+count-app w (m ∷ ms) ns = omega (arith, count-app w ms ns)
+
+pub leaf-marks : (w : Mark → ℕ) (p : List ℕ) (s o e : ℕ) (k v : List ℕ) → count w (marks p (leaf s o e k v)) ≡ w (mark s Leaf k k)
+unfolding marks count
+leaf-marks w p s o e k v = omega arith
+
+pub prefix-marks : (w : Mark → ℕ) (p : List ℕ) (s o : ℕ) (q : List ℕ) (l : Lay) → count w (marks p (prefix s o q l)) ≡ w (mark s Prefix p (p ++ q)) + count w (marks (p ++ q) l)
+unfolding marks count
+prefix-marks w p s o q l = refl
+
+pub node-marks : (w : Mark → ℕ) (p : List ℕ) (s o kind : ℕ) (ks : LayKids) → count w (marks p (node s o kind ks)) ≡ w (mark s kind p p) + count w (marksAll p ks)
+unfolding marks count
+node-marks w p s o kind ks = refl
+
+pub kid-marks : (w : Mark → ℕ) (p : List ℕ) (b j : ℕ) (l : Lay) (ks : LayKids) → count w (marksAll p (kid b j l ks)) ≡ count w (marks (p ++ b ∷ []) l) + count w (marksAll p ks)
+unfolding marks marksAll
+kid-marks w p b j l ks = count-app w (marks (p ++ b ∷ []) l) (marksAll p ks)
+
+pub nil-marks : (w : Mark → ℕ) (p : List ℕ) → count w (marksAll p nil) ≡ 0
+unfolding marks marksAll count
+nil-marks w p = refl
+
+pub tree-marks : (l : Lay) → rootMarks (tree l) ≡ marks [] l
+unfolding rootMarks
+tree-marks l = refl
+
+pub bare-marks : (w : Mark → ℕ) (s o : ℕ) → count w (rootMarks (bare s o)) ≡ w (mark s EmptyRoot [] [])
+unfolding rootMarks count
+bare-marks w s o = omega arith
+
+-- ---- equal marks and like ones
+
+-- by three tests: of the body, of its start and of its end
+abbrev body-is : Mark → Mark → Bool
+body-is m x = pick (eqb (m .slot) (x .slot)) (eqb (m .kind) (x .kind)) false
+
+is-tests : (m x : Mark) → is m x ≡ pick (body-is m x) (pick (same (m .from) (x .from)) (pick (same (m .to) (x .to)) 1 0) 0) 0
+is-tests m x = go (eqb (m .slot) (x .slot)) (eqb (m .kind) (x .kind)) (pick (same (m .from) (x .from)) (pick (same (m .to) (x .to)) 1 0) 0)
+  where
+    go : (a b : Bool) (n : ℕ) → pick a (pick b n 0) 0 ≡ pick (pick a b false) n 0
+    go true b n = refl
+    go false b n = refl
+
+like-tests : (m x : Mark) → like m x ≡ pick (body-is m x) (pick (same (m .from) (x .from)) 1 (pick (same (m .to) (x .to)) 1 0)) 0
+like-tests m x = go (eqb (m .slot) (x .slot)) (eqb (m .kind) (x .kind)) (pick (same (m .from) (x .from)) 1 (pick (same (m .to) (x .to)) 1 0))
+  where
+    go : (a b : Bool) (n : ℕ) → pick a (pick b n 0) 0 ≡ pick (pick a b false) n 0
+    go true b n = refl
+    go false b n = refl
+
+body-same : (m x : Mark) → body-is m x ≡ true → (m .slot ≡ x .slot) × (m .kind ≡ x .kind)
+body-same m x h =
+    eqb-cases (m .slot) (x .slot)
+    (λ t e. eqb-cases (m .kind) (x .kind) (λ u q. (e, q)) (λ u q. let z : false ≡ true = rw (t, u) at h in clash (cc)))
+    (λ t e. let z : false ≡ true = rw t at h in clash (cc))
+
+pub is-same : (m x : Mark) → 1 ≤ is m x → m ≡ x
+is-same m x h = go (body-is m x) (same (m .from) (x .from)) (same (m .to) (x .to)) refl refl refl (omega (arith, is-tests m x))
+  where
+    go : (a b c : Bool) → body-is m x ≡ a → same (m .from) (x .from) ≡ b → same (m .to) (x .to) ≡ c → 1 ≤ pick a (pick b (pick c 1 0) 0) 0 → m ≡ x
+    go true true true p q r h =
+        let a = body-same m x p in let b = same-true (m .from) (x .from) q in let c = same-true (m .to) (x .to) r in rw (a .0, a .1, b, c)
+    go true true false p q r h = absurd (omega arith)
+    go true false c p q r h = absurd (omega arith)
+    go false b c p q r h = absurd (omega arith)
+
+pub is-self : (m : Mark) → is m m ≡ 1
+is-self m = rw (eq-eqb (m .slot) (m .slot) refl, eq-eqb (m .kind) (m .kind) refl, same-refl (m .from), same-refl (m .to)) refl
+
+-- what like marks share
+pub record Like (m x : Mark) : Type 0 where
+  pub slot : m .slot ≡ x .slot
+  pub kind : m .kind ≡ x .kind
+  pub ends : (m .from ≡ x .from) ⊎ (m .to ≡ x .to)
+
+pub like-of : (m x : Mark) → 1 ≤ like m x → Like m x
+like-of m x h = go (body-is m x) (same (m .from) (x .from)) (same (m .to) (x .to)) refl refl refl (omega (arith, like-tests m x))
+  where
+    go : (a b c : Bool) → body-is m x ≡ a → same (m .from) (x .from) ≡ b → same (m .to) (x .to) ≡ c → 1 ≤ pick a (pick b 1 (pick c 1 0)) 0 → Like m x
+    go true true c p q r h = let a = body-same m x p in record { slot = a .0; kind = a .1; ends = inl (same-true (m .from) (x .from) q) }
+    go true false true p q r h = let a = body-same m x p in record { slot = a .0; kind = a .1; ends = inr (same-true (m .to) (x .to) r) }
+    go true false false p q r h = absurd (omega arith)
+    go false b c p q r h = absurd (omega arith)
+
+-- a Prefix with other bytes is known by its start, or by its end
+pub is-from : (m : Mark) (s k : ℕ) (a b c : List ℕ) → is m (mark s k a b) ≤ like m (mark s k a c)
+is-from m s k a b c = go (eqb (m .slot) s) (eqb (m .kind) k) (same (m .from) a) (same (m .to) b) (same (m .to) c)
+  where
+    go : (t u x y z : Bool) → pick t (pick u (pick x (pick y 1 0) 0) 0) 0 ≤ pick t (pick u (pick x 1 (pick z 1 0)) 0) 0
+    go true true true true z = omega arith
+    go true true true false z = omega arith
+    go true true false y z = omega arith
+    go true false x y z = omega arith
+    go false u x y z = omega arith
+
+pub is-to : (m : Mark) (s k : ℕ) (a b c : List ℕ) → is m (mark s k a b) ≤ like m (mark s k c b)
+is-to m s k a b c = go (eqb (m .slot) s) (eqb (m .kind) k) (same (m .from) a) (same (m .from) c) (same (m .to) b)
+  where
+    go : (t u x y z : Bool) → pick t (pick u (pick x (pick z 1 0) 0) 0) 0 ≤ pick t (pick u (pick y 1 (pick z 1 0)) 0) 0
+    go true true true true true = omega arith
+    go true true true true false = omega arith
+    go true true true false true = omega arith
+    go true true true false false = omega arith
+    go true true false y z = omega arith
+    go true false x y z = omega arith
+    go false u x y z = omega arith
+
+pub is-like : (m x : Mark) → is m x ≤ like m x
+is-like m x = is-from m (x .slot) (x .kind) (x .from) (x .to) (x .to)
+
+-- a body that goes is none of those that stay
+pub is-gone : (m : Mark) (goes : List ℕ) (s k : ℕ) (a b : List ℕ) → among (m .slot) goes ≡ false → among s goes ≡ true → is m (mark s k a b) ≡ 0
+is-gone m goes s k a b n t = eqb-cases (m .slot) s
+    (λ q e. let u : among (m .slot) goes ≡ among s goes = ap (λ (i : ℕ). among i goes) e in let z : true ≡ false = cc in clash (cc))
+    (λ q e. rw q refl)
+
+pub counts-like : (m : Mark) (ms : List Mark) → count (is m) ms ≤ count (like m) ms
+unfolding count
+counts-like m [] = omega arith
+counts-like m (x ∷ ms) = omega (arith, is-like m x, counts-like m ms)
+
+-- ---- the clause
+
+pub stay-of : (goes : List ℕ) (ms ms' : List Mark) → Stay goes ms ms' → stay goes ms ms' ≡ true
+unfolding count
+stay-of goes [] ms' S = refl
+stay-of goes (m ∷ ms) ms' S =
+    let on = stay-of goes ms ms' (record { each = λ x n h. S .each x n (omega arith) }) in
+    bool-cases (among (m .slot) goes)
+    (λ t. rw t on)
+    (λ t. rw (t, lt-ltb 0 (count (like m) ms') (omega (arith, S .each m t (omega (arith, is-self m))))) on)
+
+-- the first of some marks, or a later one
+pub first-or : {A : Type 0} (m x : Mark) (ms : List Mark) → 1 ≤ count (is m) (x ∷ ms) → (m ≡ x → A) → (1 ≤ count (is m) ms → A) → A
+unfolding count
+first-or m x ms q a b = elim (decLe 1 (is m x)) [ yes h ↦ a (is-same m x h) | no h ↦ b (omega arith) ]
+
+stay-here : (goes : List ℕ) (x : Mark) (ms ms' : List Mark) → 1 ≤ count (like x) ms' → Stay goes ms ms' → Stay goes (x ∷ ms) ms'
+stay-here goes x ms ms' h S = record { each = λ m n q. first-or m x ms q (λ e. rw e h) (S .each m n) }
+
+stay-gone : (goes : List ℕ) (x : Mark) (ms ms' : List Mark) → among (x .slot) goes ≡ true → Stay goes ms ms' → Stay goes (x ∷ ms) ms'
+stay-gone goes x ms ms' t S =
+    record { each = λ m n q. first-or m x ms q (λ e. let z : true ≡ false = (let u : among (m .slot) goes ≡ among (x .slot) goes = ap (λ (y : Mark). among (y .slot) goes) e in cc) in clash (cc)) (S .each m n) }
+
+pub stay-each : (goes : List ℕ) (ms ms' : List Mark) → stay goes ms ms' ≡ true → Stay goes ms ms'
+stay-each goes [] ms' h = record { each = λ m n q. absurd (omega (arith, count-none (is m))) }
+stay-each goes (x ∷ ms) ms' h =
+    bool-cases (among (x .slot) goes)
+    (λ t. stay-gone goes x ms ms' t (stay-each goes ms ms' (rw t at h)))
+    (λ t. bool-cases (ltb 0 (count (like x) ms'))
+    (λ u. stay-here goes x ms ms' (omega (arith, ltb-true 0 (count (like x) ms') u)) (stay-each goes ms ms' (rw (t, u) at h)))
+    (λ u. let z : false ≡ true = rw (t, u) at h in clash (cc)))
+
+-- what stays among more stays
+pub stay-more : {goes : List ℕ} {ms ns : List Mark} → ((m : Mark) → among (m .slot) goes ≡ false → count (is m) ms ≤ count (is m) ns) → Stay goes ms ns
+stay-more {ms = ms} {ns = ns} le = record { each = λ m n q. omega (arith, le m n, counts-like m ns) }
