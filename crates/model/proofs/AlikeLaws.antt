@@ -16,48 +16,24 @@ use Rattle.model.specs.Edition.{Edition}
 use Rattle.model.specs.Tree.{extentOf}
 use Rattle.model.specs.State.{State, onPut, onErase}
 use Rattle.model.specs.Item.{Item, body, extent, onSlot, sum}
-use Rattle.model.specs.Frame.{Lay, LayKids, Root, bare, tree, rootArt, items, itemsAll, rootItems, RootAt, Tree, freed, Stands}
+use Rattle.model.specs.Frame.{Lay, LayKids, Root, Begins, bare, tree, rootArt, items, itemsAll, rootItems, RootAt, Tree, freed, Stands}
 use Rattle.model.specs.Frame.Lay.{leaf, prefix, node}
 use Rattle.model.specs.Frame.LayKids.{nil, kid}
 use Rattle.model.specs.Mark.{Mark, mark, marks, marksAll, rootMarks, like, count}
 use Rattle.model.specs.Touch.{Touch, among, Outside}
 use Rattle.model.specs.Promise.{changes, PutPromise, ErasePromise}
-use Rattle.model.specs.Freedom.{is, slotIs, In, Live, Halved, Alike}
-use Rattle.model.proofs.StringLaws.{bool-cases, eqb-cases, same-true, same-refl}
+use Rattle.model.specs.Freedom.{is, slotIs, In, Live, Halved, Cut, Uncut, Alike}
+use Rattle.model.proofs.StringLaws.{clash, bool-cases, eqb-cases, same-true, same-refl}
 use Rattle.model.proofs.ItemLaws.{in-yes, in-under, in-over, sum-app, slot-once}
-use Rattle.model.proofs.MarkLaws.{Stay, Like, count-none, count-cons, leaf-marks, prefix-marks, node-marks, kid-marks, nil-marks, tree-marks, bare-marks, is-same, is-self, like-of, first-or, stay-each}
-use Rattle.model.proofs.PlaceLaws.{begins-self, Names, tree-once}
+use Rattle.model.proofs.MarkLaws.{find, weight-in, only, Stay, Like, leaf-marks, prefix-marks, node-marks, kid-marks, nil-marks, tree-marks, bare-marks, is-same, like-of, stay-each}
+use Rattle.model.proofs.PlaceLaws.{begins-self, begins-long, Names, tree-once}
+use Rattle.model.proofs.CutLaws.{Knot, root-spans, root-follows, byte-more, both-begin, clear, parted}
+use Rattle.model.proofs.KnotLaws.{erase-knot}
 
--- ---- members of a list of marks
+string-cases : {A : Type 0} (a b : List ℕ) → (a ≡ b → A) → ((a ≡ b → ⊥) → A) → A
+string-cases a b yes' no' = bool-cases (same a b) (λ t. yes' (same-true a b t)) (λ t. no' (λ e. let z : true ≡ false = sym (same-refl b) ∙ ap (λ (x : List ℕ). same x b) (sym e) ∙ t in clash (cc)))
 
-record Found (w : Mark → ℕ) (ms : List Mark) : Type 0 where
-  pub mark : Mark
-  pub there : In mark ms
-  pub weighs : 1 ≤ w mark
-
--- a weight that is not 0 has a member
-find : (w : Mark → ℕ) (ms : List Mark) → 1 ≤ count w ms → Found w ms
-find w [] h = absurd (omega (arith, count-none w))
-find w (m ∷ ms) h = elim (decLe 1 (w m)) [
-  | yes q ↦ record { mark = m; there = omega (arith, count-cons (is m) m ms, is-self m); weighs = q }
-  | no q ↦
-      let F = find w ms (omega (arith, count-cons w m ms)) in
-      record { mark = F .mark; there = omega (arith, count-cons (is (F .mark)) m ms, F .there); weighs = F .weighs }
-]
-
--- and a member has its weight
-weight-in : (w : Mark → ℕ) (ms : List Mark) (m : Mark) → In m ms → 1 ≤ w m → 1 ≤ count w ms
-weight-in w [] m i h = absurd (omega (arith, count-none (is m)))
-weight-in w (x ∷ ms) m i h = first-or m x ms i (λ e. let q : 1 ≤ w x = rw e at h in omega (arith, count-cons w x ms)) (λ j. omega (arith, count-cons w x ms, weight-in w ms m j h))
-
--- at most one member has a weight that comes to 1
-only : (w : Mark → ℕ) (ms : List Mark) → count w ms ≤ 1 → (y z : Mark) → In y ms → In z ms → 1 ≤ w y → 1 ≤ w z → y ≡ z
-only w [] h y z i j p q = absurd (omega (arith, count-none (is y)))
-only w (x ∷ ms) h y z i j p q =
-    let c = count-cons w x ms in
-    first-or y x ms i
-    (λ e. first-or z x ms j (λ g. e ∙ sym g) (λ g. let a : 1 ≤ w x = rw e at p in absurd (omega (arith, weight-in w ms z g q))))
-    (λ e. first-or z x ms j (λ g. let a : 1 ≤ w x = rw g at q in absurd (omega (arith, weight-in w ms y e p))) (λ g. only w ms (omega arith) y z e g p q))
+-- ---- slots of marks
 
 slot-weighs : (m : Mark) (s : ℕ) → m .slot ≡ s → slotIs s m ≡ 1
 slot-weighs m s e = rw (eq-eqb (m .slot) s e) refl
@@ -98,18 +74,18 @@ module _ (E : Edition) (x : List ℕ) where
   leaf-starts : Names E (starts Leaf x) Leaf (E .walked x)
   leaf-starts = record {
     one = λ m. kind-few (m .kind) Leaf (m .from) x;
-    kind = λ m h. kind-of (m .kind) Leaf (m .from) x h .0;
+    kind = λ e. absurd (omega arith);
     leaf = λ s k h. ap (E .walked) (kind-of Leaf Leaf k x h .1);
-    node = λ s k p h n. absurd (n (kind-of k Leaf p x h .0));
+    node = λ s k p i h. absurd (omega (arith, kind-of k Leaf p x h .0));
     prefix = λ s p q h. absurd (omega (arith, kind-of Prefix Leaf p x h .0));
   }
 
   leaf-stops : Names E (stops Leaf x) Leaf (E .walked x)
   leaf-stops = record {
     one = λ m. kind-few (m .kind) Leaf (m .to) x;
-    kind = λ m h. kind-of (m .kind) Leaf (m .to) x h .0;
+    kind = λ e. absurd (omega arith);
     leaf = λ s k h. ap (E .walked) (kind-of Leaf Leaf k x h .1);
-    node = λ s k p h n. absurd (n (kind-of k Leaf p x h .0));
+    node = λ s k p i h. absurd (omega (arith, kind-of k Leaf p x h .0));
     prefix = λ s p q h. absurd (omega (arith, kind-of Prefix Leaf (p ++ q) x h .0));
   }
 
@@ -117,19 +93,19 @@ module _ (E : Edition) (x : List ℕ) where
     other-starts : Names E (starts c x) c x
     other-starts = record {
       one = λ m. kind-few (m .kind) c (m .from) x;
-      kind = λ m h. kind-of (m .kind) c (m .from) x h .0;
+      kind = λ e s k p i h. omega (arith, kind-of k c p x h .0);
       leaf = λ s k h. absurd (n (sym (kind-of Leaf c k x h .0)));
-      node = λ s k p h u. kind-of k c p x h .1;
-      prefix = λ s p q h. let e = kind-of Prefix c p x h .1 in (rw e (begins-self x), omega (arith, ap length e));
+      node = λ s k p i h. kind-of k c p x h .1;
+      prefix = λ s p q h. let e = kind-of Prefix c p x h in (rw (e .1) (begins-self x), inr (sym (e .0), omega (arith, ap length (e .1))));
     }
 
     other-stops : Names E (stops c x) c x
     other-stops = record {
       one = λ m. kind-few (m .kind) c (m .to) x;
-      kind = λ m h. kind-of (m .kind) c (m .to) x h .0;
+      kind = λ e s k p i h. omega (arith, kind-of k c p x h .0);
       leaf = λ s k h. absurd (n (sym (kind-of Leaf c k x h .0)));
-      node = λ s k p h u. kind-of k c p x h .1;
-      prefix = λ s p q h. let e = kind-of Prefix c (p ++ q) x h .1 in (rw (← e) (take-append-seam p q), omega (arith, ap length e, length-append p q));
+      node = λ s k p i h. kind-of k c p x h .1;
+      prefix = λ s p q h. let e = kind-of Prefix c (p ++ q) x h in (rw (← e .1) (take-append-seam p q), inr (sym (e .0), omega (arith, ap length (e .1), length-append p q)));
     }
 
 module _ (E : Edition) (f : List ℕ) (c : ℕ) (x : List ℕ) where
@@ -218,7 +194,7 @@ pub record Result (E : Edition) (f' : List ℕ) (r r' : Root) (goes : List ℕ) 
 module _ {E : Edition} {f' f'' : List ℕ} {r r' r'' : Root} {goes : List ℕ} (R : Result E f' r r' goes) (S : Result E f'' r r'' goes) where
   module _ (x y : Mark) (hx : In x (rootMarks r')) (hy : In y (rootMarks r'')) (ek : x .kind ≡ y .kind) (ef : x .from ≡ y .from) (et : x .to ≡ y .to) (live : Live (x .slot) (rootMarks r)) where
     abbrev Twin : Type 0
-    Twin = (x .slot ≡ y .slot) ⊎ (Halved (rootMarks r) (rootMarks r') (rootMarks r'') (x .slot) ⊎ Halved (rootMarks r) (rootMarks r'') (rootMarks r') (x .slot))
+    Twin = (x .slot ≡ y .slot) ⊎ Cut r r' r'' (x .slot)
 
     -- the body before, m, and the body of its slot in the other result, z
     module _ (m z : Mark) (hm : In m (rootMarks r)) (em : m .slot ≡ x .slot) (L : Like m x) (hz : In z (rootMarks r'')) (K : Like m z) where
@@ -234,16 +210,70 @@ module _ {E : Edition} {f' f'' : List ℕ} {r r' r'' : Root} {goes : List ℕ} (
           (kind-yes (y .kind) (x .kind) (y .to) (x .to) (sym ek) (sym et)) (kind-yes (z .kind) (x .kind) (z .to) (x .to) (sym (K .kind) ∙ L .kind) (sym b ∙ a)) in
           sym em ∙ K .slot ∙ ap (λ (u : Mark). u .slot) (sym q)
 
+      -- two bodies of a kind with one start are one
+      same-start : (u v : Mark) → In u (rootMarks r'') → In v (rootMarks r'') → u .kind ≡ v .kind → u .from ≡ v .from → u ≡ v
+      same-start u v hu hv k e =
+          only (starts (v .kind) (v .from)) (rootMarks r'') (root-starts E f'' (v .kind) (v .from) r'' (S .rootAt)) u v hu hv
+          (kind-yes (u .kind) (v .kind) (u .from) (v .from) k e) (kind-yes (v .kind) (v .kind) (v .from) (v .from) refl refl)
+
       slot-z : z .slot ≡ x .slot
       slot-z = sym (K .slot) ∙ em
+
+      begun : Begins (m .to) (m .from)
+      begun = root-spans m r hm
+
+      -- the part before, of slot x, stands in r' and in r''; the part after, of the same slot, in r''
+      first-here : m .kind ≡ Prefix → m .from ≡ x .from → m .to ≡ z .to → Twin
+      first-here k a b = string-cases (m .from) (z .from)
+          (λ e. inl (from-from a e))
+          (λ n.
+          let ky = sym ek ∙ sym (L .kind) ∙ k in
+          let kz = sym (K .kind) ∙ k in
+          let fy = sym ef ∙ sym a in
+          let h = parted E f'' r'' (S .rootAt) y z hy hz ky kz (rw (← b, fy) begun) (λ e. n (sym fy ∙ e)) in
+          inr (inl (record {
+            old = m;
+            before = x;
+            after = z;
+            was = hm;
+            one = hx;
+            other = hz;
+            slots = (em, refl, slot-z);
+            kinds = (k, sym (L .kind) ∙ k, kz);
+            start = sym a;
+            end = sym b;
+            apart = omega (arith, ap length et);
+          })))
+
+      -- the part before, of slot z, stands in r''; the part after, of slot x, in r' and in r''
+      last-here : m .kind ≡ Prefix → m .to ≡ x .to → m .from ≡ z .from → Twin
+      last-here k a b = string-cases (m .to) (z .to)
+          (λ e. inl (to-to a e))
+          (λ n.
+          let kx = sym (L .kind) ∙ k in
+          let ky = sym ek ∙ kx in
+          let kz = sym (K .kind) ∙ k in
+          let ty = sym et ∙ sym a in
+          let h = parted E f'' r'' (S .rootAt) z y hz hy kz ky (rw (ty, ← b) begun) (λ e. n (a ∙ et ∙ ap (λ (u : Mark). u .to) (sym (same-start z y hz hy (kz ∙ sym ky) e)))) in
+          inr (inr (record {
+            old = m;
+            before = z;
+            after = x;
+            was = hm;
+            one = hz;
+            other = hx;
+            slots = (em, slot-z, refl);
+            kinds = (k, kz, kx);
+            start = sym b;
+            end = sym a;
+            apart = omega (arith, ap length ef);
+          })))
 
       twin : Twin
       twin = elim (ℕ-discrete (m .kind) Prefix) [
         | yes k ↦ ⊎-elim
-            (λ a. ⊎-elim (λ b. inl (from-from a b))
-            (λ b. inr (inl (record { old = m; before = x; after = z; was = hm; one = hx; other = hz; slots = (em, refl, slot-z); kind = k; start = sym a; end = sym b }))) (K .ends))
-            (λ a. ⊎-elim (λ b. inr (inr (record { old = m; before = z; after = x; was = hm; one = hz; other = hx; slots = (em, slot-z, refl); kind = k; start = sym b; end = sym a })))
-            (λ b. inl (to-to a b)) (K .ends)) (L .ends)
+            (λ a. ⊎-elim (λ b. inl (from-from a b)) (λ b. first-here k a b) (K .ends))
+            (λ a. ⊎-elim (λ b. last-here k a b) (λ b. inl (to-to a b)) (K .ends)) (L .ends)
         | no k ↦
             let em' = flat-root m k r hm in
             let ex = flat-root x (λ q. k (L .kind ∙ q)) r' hx in
@@ -266,8 +296,31 @@ module _ {E : Edition} {f' f'' : List ℕ} {r r' r'' : Root} {goes : List ℕ} (
         (omega (arith, slot-weighs (G .mark) (x .slot) (sym (L0 .slot) ∙ em))) (omega (arith, slot-weighs x (x .slot) refl)) in
         twin m (H .mark) (F .there) em (rw e at L0) (H .there) (like-of m (H .mark) (H .weighs)))
 
-  pub alike : rootArt r' ≡ rootArt r'' → Alike r r' r''
+  pub alike : rootArt r' ≡ rootArt r'' → Alike (Cut r r' r'') r r' r''
   alike e = record { shape = e; same = same-body }
+
+-- no Prefix is in halves where no inner node of the tree after stands where none stood
+unhalved : (E : Edition) (f f'' : List ℕ) (r r' r'' : Root) → RootAt E f r → RootAt E f'' r'' → ((y : List ℕ) → Knot (rootMarks r'') y → Knot (rootMarks r) y) → (s : ℕ) → Halved (rootMarks r) (rootMarks r') (rootMarks r'') s → ⊥
+unhalved E f f'' r r' r'' T U less s H =
+    let old = H .old in
+    let F = root-follows E f'' r'' U (H .after) (H .other) (H .kinds .2) (omega (arith, H .apart)) in
+    let c = byte-more (H .after .from) (F .at) (F .byte) (F .is) in
+    let long = begins-long (H .before .to) (H .before .from) (root-spans (H .before) r' (H .one)) in
+    let low : length (old .from) ≤ length (F .at) = omega (arith, c .1, H .apart, ap length (H .start)) in
+    let tail : Begins (old .to) (H .after .from) = rw (← H .end) (root-spans (H .after) r'' (H .other)) in
+    let way = both-begin (H .after .from) (old .from) (F .at) (both-begin (old .to) (old .from) (H .after .from) (root-spans old r (H .was)) tail (omega (arith, c .1))) (c .0) low in
+    omega (arith, c .1, clear E f r T old (F .at) (H .was) (H .kinds .0) (less (F .at) (F .knot)) way, begins-long (old .to) (H .after .from) tail)
+
+-- erase cuts no Prefix
+module _ {E : Edition} (f : List ℕ) {f' f'' : List ℕ} {r r' r'' : Root} {goes : List ℕ} (R : Result E f' r r' goes) (S : Result E f'' r r'' goes) (less : (y : List ℕ) → Knot (rootMarks r') y → Knot (rootMarks r) y)
+    (less' : (y : List ℕ) → Knot (rootMarks r'') y → Knot (rootMarks r) y) (T : RootAt E f r) where
+  pub uncut : rootArt r' ≡ rootArt r'' → Alike Uncut r r' r''
+  uncut e = record {
+    shape = e;
+    same = λ x y hx hy k a b l. ⊎-elim (λ q. inl q)
+        (λ c. absurd (⊎-elim (unhalved E f f'' r r' r'' T (S .rootAt) less' (x .slot)) (unhalved E f f' r r'' r' T (R .rootAt) less (x .slot)) c))
+        (alike R S e .same x y hx hy k a b l);
+  }
 
 -- ---- of the promises
 
@@ -296,11 +349,11 @@ pub arts-same : {E : Edition} {f' f'' : List ℕ} {s : State} (w' : Stands E f' 
 arts-same w' w'' = sym (ap (λ (z : State). z .tree) (w' .state)) ∙ ap (λ (z : State). z .tree) (w'' .state)
 
 -- each is like the other
-pub record Both (E : Edition) (f' f'' : List ℕ) (r : Root) (s : State) : Type 0 where
+pub record Both (E : Edition) (f' f'' : List ℕ) (s : State) (alike : Root → Root → Type 0) : Type 0 where
   pub one : Stands E f' s
   pub other : Stands E f'' s
-  pub alike : Alike r (one .root) (other .root)
-  pub back : Alike r (other .root) (one .root)
+  pub forth : alike (one .root) (other .root)
+  pub back : alike (other .root) (one .root)
 
 module _ {E : Edition} {f k v : List ℕ} {n m : ℕ} {f' f'' : List ℕ} (P : PutPromise E f k v n f') (Q : PutPromise E f k v m f'') {s : State} (w : Stands E f s) where
   pub put-number : n ≡ m
@@ -309,7 +362,7 @@ module _ {E : Edition} {f k v : List ℕ} {n m : ℕ} {f' f'' : List ℕ} (P : P
   pub put-refused : changes n ≡ false → f' ≡ f''
   put-refused h = P .kept h ∙ sym (Q .kept (rw (← put-number) h))
 
-  pub put-alike : changes n ≡ true → Both E f' f'' (w .root) (onPut E s k v .state)
+  pub put-alike : changes n ≡ true → Both E f' f'' (onPut E s k v .state) (λ r' r''. Alike (Cut (w .root) r' r'') (w .root) r' r'')
   put-alike h =
       let A = P .after s w in
       let B = Q .after s w in
@@ -317,7 +370,7 @@ module _ {E : Edition} {f k v : List ℕ} {n m : ℕ} {f' f'' : List ℕ} (P : P
       let R = result-of (w .root) (A .0) (A .1 h) in
       let S = result-of (w .root) (B .0) (B .1 h') in
       let e = arts-same (A .0) (B .0) in
-      record { one = A .0; other = B .0; alike = alike R S e; back = alike S R (sym e) }
+      record { one = A .0; other = B .0; forth = alike R S e; back = alike S R (sym e) }
 
 module _ {E : Edition} {f k : List ℕ} {n m : ℕ} {f' f'' : List ℕ} (P : ErasePromise E f k n f') (Q : ErasePromise E f k m f'') {s : State} (w : Stands E f s) where
   pub erase-number : n ≡ m
@@ -330,11 +383,11 @@ module _ {E : Edition} {f k : List ℕ} {n m : ℕ} {f' f'' : List ℕ} (P : Era
   pub erase-only : n ≡ 0 → s .R ≡ 1 → f' ≡ f''
   erase-only h e = P .only s w h e ∙ sym (Q .only s w (sym erase-number ∙ h) e)
 
-  pub erase-alike : n ≡ 0 → 2 ≤ s .R → Both E f' f'' (w .root) (onErase E s k .state)
+  pub erase-alike : n ≡ 0 → 2 ≤ s .R → Both E f' f'' (onErase E s k .state) (Alike Uncut (w .root))
   erase-alike h l =
       let A = P .after s w in
       let B = Q .after s w in
       let R = result-of (w .root) (A .0) (A .1 h l) in
       let S = result-of (w .root) (B .0) (B .1 (sym erase-number ∙ h) l) in
       let e = arts-same (A .0) (B .0) in
-      record { one = A .0; other = B .0; alike = alike R S e; back = alike S R (sym e) }
+      record { one = A .0; other = B .0; forth = uncut f R S (erase-knot k w (A .0)) (erase-knot k w (B .0)) (w .rootAt) e; back = uncut f S R (erase-knot k w (B .0)) (erase-knot k w (A .0)) (w .rootAt) (sym e) }

@@ -1,6 +1,6 @@
 -- Laws of the clause `stays`: said of every body, and sums over the marks of a tree, so that their order does not matter. Assumes nothing.
 use Prim.Native.Nat.{ℕ, _+_, _≤_}
-use mathlib.Core.Path.{_≡_, refl, ap}
+use mathlib.Core.Path.{_≡_, refl, sym, ap, _∙_}
 use mathlib.Core.List.{List, [], _∷_, _++_}
 use mathlib.Core.Bool.{Bool, true, false}
 use mathlib.Core.Logic.{_⊎_, inl, inr}
@@ -15,7 +15,7 @@ use Rattle.model.specs.Frame.Lay.{leaf, prefix, node}
 use Rattle.model.specs.Frame.LayKids.{nil, kid}
 use Rattle.model.specs.Mark.{Mark, mark, marks, marksAll, rootMarks, like, count}
 use Rattle.model.specs.Touch.{among, stay}
-use Rattle.model.specs.Freedom.{is}
+use Rattle.model.specs.Freedom.{is, In}
 use Rattle.model.proofs.StringLaws.{clash, bool-cases, eqb-cases, same-true, same-refl}
 
 -- every body of ms but those of some slots is known by the same in ms'
@@ -191,3 +191,34 @@ stay-each goes (x ∷ ms) ms' h =
 -- what stays among more stays
 pub stay-more : {goes : List ℕ} {ms ns : List Mark} → ((m : Mark) → among (m .slot) goes ≡ false → count (is m) ms ≤ count (is m) ns) → Stay goes ms ns
 stay-more {ms = ms} {ns = ns} le = record { each = λ m n q. omega (arith, le m n, counts-like m ns) }
+
+-- ---- members of a list of marks
+
+pub record Found (w : Mark → ℕ) (ms : List Mark) : Type 0 where
+  pub mark : Mark
+  pub there : In mark ms
+  pub weighs : 1 ≤ w mark
+
+-- a weight that is not 0 has a member
+pub find : (w : Mark → ℕ) (ms : List Mark) → 1 ≤ count w ms → Found w ms
+find w [] h = absurd (omega (arith, count-none w))
+find w (m ∷ ms) h = elim (decLe 1 (w m)) [
+  | yes q ↦ record { mark = m; there = omega (arith, count-cons (is m) m ms, is-self m); weighs = q }
+  | no q ↦
+      let F = find w ms (omega (arith, count-cons w m ms)) in
+      record { mark = F .mark; there = omega (arith, count-cons (is (F .mark)) m ms, F .there); weighs = F .weighs }
+]
+
+-- and a member has its weight
+pub weight-in : (w : Mark → ℕ) (ms : List Mark) (m : Mark) → In m ms → 1 ≤ w m → 1 ≤ count w ms
+weight-in w [] m i h = absurd (omega (arith, count-none (is m)))
+weight-in w (x ∷ ms) m i h = first-or m x ms i (λ e. let q : 1 ≤ w x = rw e at h in omega (arith, count-cons w x ms)) (λ j. omega (arith, count-cons w x ms, weight-in w ms m j h))
+
+-- at most one member has a weight that comes to 1
+pub only : (w : Mark → ℕ) (ms : List Mark) → count w ms ≤ 1 → (y z : Mark) → In y ms → In z ms → 1 ≤ w y → 1 ≤ w z → y ≡ z
+only w [] h y z i j p q = absurd (omega (arith, count-none (is y)))
+only w (x ∷ ms) h y z i j p q =
+    let c = count-cons w x ms in
+    first-or y x ms i
+    (λ e. first-or z x ms j (λ g. e ∙ sym g) (λ g. let a : 1 ≤ w x = rw e at p in absurd (omega (arith, weight-in w ms z g q))))
+    (λ e. first-or z x ms j (λ g. let a : 1 ≤ w x = rw g at q in absurd (omega (arith, weight-in w ms y e p))) (λ g. only w ms (omega arith) y z e g p q))

@@ -3,6 +3,7 @@
 use Prim.Native.Nat.{ℕ, suc, _+_, _<_, _≤_}
 use mathlib.Core.Path.{_≡_, refl, sym, ap, _∙_}
 use mathlib.Core.List.{List, [], _∷_, _++_}
+use mathlib.Core.Logic.{_⊎_, ⊎-elim}
 use native.Mathlib.Omega.{arith}
 use native.Mathlib.Decide.{decLe}
 use lib.ListN.{length, take, getD, length-append}
@@ -26,7 +27,7 @@ begins-less y p q h =
     let l : length p ≤ length (p ++ q) = omega (arith, length-append p q) in
     sym (take-take (length p) (length (p ++ q)) y l) ∙ ap (take (length p)) h ∙ take-append-seam p q
 
-begins-long : (y p : List ℕ) → Begins y p → length p ≤ length y
+pub begins-long : (y p : List ℕ) → Begins y p → length p ≤ length y
 begins-long [] [] h = omega arith
 begins-long [] (x ∷ p) h = clash (cc)
 begins-long (z ∷ y) [] h = omega arith
@@ -43,14 +44,14 @@ pub begins-self : (y : List ℕ) → Begins y y
 begins-self [] = refl
 begins-self (x ∷ y) = ap (λ (z : List ℕ). x ∷ z) (begins-self y)
 
--- ---- a weight that holds of bodies of one kind c, known by y
+-- ---- a weight that holds of bodies known by y: of one kind c if that is Prefix
 
 pub record Names (E : Edition) (w : Mark → ℕ) (c : ℕ) (y : List ℕ) : Type 0 where
   pub one : (m : Mark) → w m ≤ 1
-  pub kind : (m : Mark) → 1 ≤ w m → m .kind ≡ c
+  pub kind : c ≡ Prefix → (s k : ℕ) (p : List ℕ) → 4 ≤ k → 1 ≤ w (mark s k p p) → ⊥
   pub leaf : (s : ℕ) (k : List ℕ) → 1 ≤ w (mark s Leaf k k) → E .walked k ≡ y
-  pub node : (s k : ℕ) (p : List ℕ) → 1 ≤ w (mark s k p p) → (k ≡ Leaf → ⊥) → p ≡ y
-  pub prefix : (s : ℕ) (p q : List ℕ) → 1 ≤ w (mark s Prefix p (p ++ q)) → Begins y p × (length y ≤ length p + length q)
+  pub node : (s k : ℕ) (p : List ℕ) → 4 ≤ k → 1 ≤ w (mark s k p p) → p ≡ y
+  pub prefix : (s : ℕ) (p q : List ℕ) → 1 ≤ w (mark s Prefix p (p ++ q)) → Begins y p × ((length y < length p + length q) ⊎ ((c ≡ Prefix) × (length y ≤ length p + length q)))
 
 -- n bodies of a tree to which p leads
 record Few (y p : List ℕ) (n : ℕ) : Type 0 where
@@ -78,7 +79,10 @@ module _ {E : Edition} {w : Mark → ℕ} {c : ℕ} {y : List ℕ} (N : Names E 
       elim (decLe 1 (w m)) [
         | yes h ↦
             let P = N .prefix s p q h in
-            let z : count w (marks (p ++ q) l) ≡ 0 = (elim (decLe 1 (count w (marks (p ++ q) l))) [ yes g ↦ absurd (omega (arith, L .deep i (sym (N .kind m h)) g, P .1)) | no g ↦ omega arith ]) in
+            let z : count w (marks (p ++ q) l) ≡ 0 = (elim (decLe 1 (count w (marks (p ++ q) l))) [
+              | yes g ↦ absurd (⊎-elim (λ u. omega (arith, begins-long y (p ++ q) (L .few .begins g))) (λ u. omega (arith, L .deep i (u .0) g, u .1)) (P .1))
+              | no g ↦ omega arith
+            ]) in
             record { few = record { few = omega (arith, N .one m); begins = λ g. P .0 }; deep = λ t. absurd t }
         | no h ↦ record { few = record { few = omega (arith, L .few .few); begins = λ g. begins-less y p q (L .few .begins (omega arith)) }; deep = λ t. absurd t }
       ]
@@ -89,9 +93,9 @@ module _ {E : Edition} {w : Mark → ℕ} {c : ℕ} {y : List ℕ} (N : Names E 
       let e = node-marks w p s o kind ks in
       elim (decLe 1 (w m)) [
         | yes h ↦
-            let q : p ≡ y = N .node s kind p h (λ z. omega arith) in
+            let q : p ≡ y = N .node s kind p k4 h in
             let z : count w (marksAll p ks) ≡ 0 = (elim (decLe 1 (count w (marksAll p ks))) [ yes g ↦ absurd (omega (arith, B .long g, ap length q)) | no g ↦ omega arith ]) in
-            record { few = record { few = omega (arith, N .one m); begins = λ g. rw q (begins-self y) }; deep = λ t u g. absurd (omega (arith, N .kind m h)) }
+            record { few = record { few = omega (arith, N .one m); begins = λ g. rw q (begins-self y) }; deep = λ t u g. absurd (N .kind u s kind p k4 h) }
         | no h ↦ record { few = record { few = omega (arith, B .few); begins = λ g. B .begins (omega arith) }; deep = λ t u g. B .long (omega arith) }
       ]
 
