@@ -63,8 +63,8 @@ uint32_t frame_check(const uint8_t *frame, size_t frame_len);
 /*
  * Finds a record. Gives 0, 8, or a refusal of 1 to 4. Reads only.
  * place_and_len has room for two numbers, and two is 2: then place_and_len[0] is where the value begins, counted in bytes from the
- * frame's start, and place_and_len[1] is its length; both are 0 with any number but 0. If two is not 2, nothing is written there.
- * The value is frame + place_and_len[0]; it stands there until the next put or erase.
+ * frame's start, and place_and_len[1] is its length; 8 sets both to 0. If the call is refused, or two is not 2, nothing is written
+ * there. The value is frame + place_and_len[0]; it stands there until the next put or erase.
  */
 uint32_t frame_look_up(const uint8_t *frame, size_t frame_len, const uint8_t *key, size_t key_len,
                        uint64_t *place_and_len, size_t two);

@@ -1,4 +1,4 @@
--- The number, place and length are those of look-up's answer. Assumes nothing.
+-- The number, place and length are those of look-up's answer; a refusal writes nothing. Assumes nothing.
 use native.Mathlib.Omega.{arith}
 use lib.ListN.{length-set}
 use Rattle.exports.proofs.LookUpLaws.{both, neither}
@@ -11,6 +11,15 @@ look-up-requires c κs = search needs
 
 look-up-number-requires : tie.Need-look-up-number-requires
 look-up-number-requires c κs = search needs
+
+is-refusal-requires : tie.Need-is-refusal-requires
+is-refusal-requires c κs = search needs
+
+returns : tie.Need-returns
+returns c =
+    let number = c .before .before in
+    let look = number .before in
+    neither _ _ _ _ (look .look-up .result) (look .look-up .ensures) (number .look-up-number .ensures) (λ z answered. answered (c .before .is-refusal .ensures .holds (c .if1 .taken)))
 
 place-of-requires : tie.Need-place-of-requires
 place-of-requires c κs = search needs
@@ -27,15 +36,18 @@ slice-write-place-and-length-2 c = simp length-set (omega arith)
 same-length : tie.Need-same-length
 same-length c = search needs
 
-returns : tie.Need-returns
-returns c =
-    let look = c .before .before .before .before in
-    both _ _ _ _ _ (look .look-up .result) (look .look-up .ensures) (c .before .before .before .look-up-number .ensures) (c .before .before .place-of .ensures) (c .before .length-of .ensures) (omega arith)
-
 returns-2 : tie.Need-returns-2
 returns-2 c =
-    let look = c .before .before .before .before in
-    neither _ _ _ _ (look .look-up .result) (look .look-up .ensures) (c .before .before .before .look-up-number .ensures) (λ z. omega arith)
+    let test = c .before .before .before in
+    let number = test .before .before in
+    let look = number .before in
+    both _ _ _ _ _ (look .look-up .result) (look .look-up .ensures) (number .look-up-number .ensures) (test .before .is-refusal .ensures .fails (test .if1 .left)) (c .before .place-of .ensures) (c .length-of .ensures) (omega arith)
+
+returns-3 : tie.Need-returns-3
+returns-3 c =
+    let number = c .before .before .before in
+    let look = number .before in
+    neither _ _ _ _ (look .look-up .result) (look .look-up .ensures) (number .look-up-number .ensures) (λ z answered. c .if2 .left z)
 
 pub frame-look-up-spec : {M : Type 1} → statement M
 frame-look-up-spec =
@@ -43,10 +55,12 @@ frame-look-up-spec =
     (tie.spec
     look-up-requires
     look-up-number-requires
+    is-refusal-requires
+    returns
     place-of-requires
     length-of-requires
     slice-write-place-and-length
     slice-write-place-and-length-2
     same-length
-    returns
-    returns-2)
+    returns-2
+    returns-3)
