@@ -6,6 +6,7 @@
 //! when a call is added there.
 
 use crate::compare::Calls;
+use crate::layout::number::{ABSENT, DONE};
 
 /// The calls that come from the archive, as `exported.txt` names them.
 pub fn names() -> Vec<&'static str> {
@@ -109,7 +110,9 @@ impl Calls for Exported {
     }
 }
 
-/// Place and length go into two numbers if two are lent, and nowhere else.
+/// Place and length go into two numbers if two are lent and the call is not
+/// refused, and nowhere else. Told as the call's own result has them: both 0
+/// of a refusal.
 #[cfg(exported_frame_look_up)]
 fn look_up_by_all_lengths(frame: &[u8], key: &[u8]) -> (u32, u64, u64) {
     use std::hint::black_box;
@@ -128,6 +131,10 @@ fn look_up_by_all_lengths(frame: &[u8], key: &[u8]) -> (u32, u64, u64) {
         let (again, numbers) = call(other);
         assert_eq!(again, given, "look-up with {other} numbers gives another answer");
         assert_eq!(numbers, [KNOWN; 4], "look-up wrote though {other} numbers were lent");
+    }
+    if !matches!(given, DONE | ABSENT) {
+        assert_eq!([place, length], [KNOWN; 2], "a look-up refused with {given} wrote");
+        return (given, 0, 0);
     }
     (given, place, length)
 }
