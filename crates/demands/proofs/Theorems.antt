@@ -29,7 +29,7 @@ use Rattle.demands.proofs.Refusals.{demand1}
 use Rattle.demands.proofs.Sets.{demand2}
 use Rattle.demands.proofs.Orders.{demand3}
 
-faults1 : (k : List ℕ) → edition1 .keyFault k ≤ 7
+pub faults1 : (k : List ℕ) → edition1 .keyFault k ≤ 7
 faults1 k = bool-cases (eqb (length k) 0)
     (λ t. rw t (lit≤ tt))
     (λ t. bool-cases (ltb 112 (length k)) (λ u. rw (t, u) (lit≤ tt)) (λ u. bool-cases (hasZero k) (λ w. rw (t, u, w) (lit≤ tt)) (λ w. rw (t, u, w) (lit≤ tt))))

@@ -1,0 +1,101 @@
+-- The theorems of `demands`, of calls that were made. Assumes nothing.
+use Prim.Native.Nat.{ℕ}
+use mathlib.Core.Path.{_≡_, refl, sym, ap, subst, _∙_}
+use mathlib.Core.List.{List, [], _++_, append-nil}
+use mathlib.Core.Bool.{Bool, true, false}
+use mathlib.Core.Option.{some}
+use lib.ListN.{length, take, drop}
+use lib.Seq.{take-length, drop-length}
+use Rattle.layout.specs.Number.{Bytes}
+use Rattle.model.specs.Edition.{edition1, Legal}
+use Rattle.model.specs.Records.{Record, lookup, upsert}
+use Rattle.model.specs.Promise.{FormatPromise, LookUpPromise, PutPromise, PackPromise}
+use Rattle.model.specs.Call.{Call, put}
+use Rattle.model.proofs.Edition1.{lawful1}
+use Rattle.model.proofs.TextLaws.{bytes-all}
+use Rattle.demands.specs.Words.{NotRefused, Holds, OfBytes}
+use Rattle.demands.proofs.DoneLaws.{did, good-called, packed-of, packed-to}
+use Rattle.demands.proofs.Theorems.{faults1, two, three}
+use Rattle.demanded.specs.declared.orders.Given.{Given}
+use Rattle.demanded.specs.declared.orders.Orders.the-variants.{Made}
+use Rattle.demanded.specs.declared.orders.Packs.{Packs}
+use Rattle.demanded.specs.declared.readings.InNew.{InNew}
+use Rattle.demanded.specs.declared.readings.InImage.{InImage}
+use Rattle.store.specs.Found.{foundIn}
+use Rattle.demanded.specs.Orders.{callOf, InOrder, InBothOrders, Ordered, PackedBoth}
+use Rattle.demanded.specs.Readings.{ReadInNew, ReadInImage}
+
+-- ---- demand 3
+
+of-bytes : (e : Bool) (k v : List ℕ) → Bytes k → Bytes v → OfBytes (callOf e k v)
+of-bytes true k v bk bv = bytes-all k bk
+of-bytes false k v bk bv = (bytes-all k bk, bytes-all v bv)
+
+-- a copy of all the bytes
+copied : (f g : List ℕ) → length g ≡ length f → take (length f) f ++ drop (length f) g ≡ f
+copied f g e = let z : drop (length f) g ≡ [] = ap (λ (n : ℕ). drop n g) (sym e) ∙ drop-length g in rw (take-length f, z) (append-nil f)
+
+in-both-orders : {f o p f' o' g' p' : List ℕ} {c d : Call} {x y : Given} → OfBytes c → OfBytes d → InOrder f o c d x f' o' → InOrder f p d c y g' p' → InBothOrders f o p c d x y f' o' g' p'
+in-both-orders {f} {o} {p} {f'} {o'} {g'} {p'} {c} {d} {x} {y} bc bd F B = record {
+  forth = F;
+  back = B;
+  same = λ ne r t.
+      let q = three .order f c d (x .first) (x .second) (y .first) (y .second) (F .between) f' (B .between) g' bc bd ne (F .first) (F .second) (B .first) (B .second) (r .0) (r .1) (t .0) (t .1) in
+      (q .0, q .1, q .2 o o' p p' (x .packed) (y .packed) (F .packed) (B .packed) (r .2) (t .2));
+}
+
+-- h is the copy
+module _ (e : Bool) (k v : List ℕ) (bk : Bytes k) (bv : Bytes v) (e' : Bool) (k' v' : List ℕ) (bk' : Bytes k') (bv' : Bytes v') where
+  pub ordered : (g : List ℕ) {f o h p f' o' g' p' : List ℕ} {x y : Given} → length g ≡ length f → h ≡ take (length f) f ++ drop (length f) g → InOrder f o (callOf e k v) (callOf e' k' v') x f' o' → InOrder h p (callOf e' k' v') (callOf e k v) y g' p'
+      → Ordered f o g p (callOf e k v) (callOf e' k' v') (Made x y) f' o' g' p'
+  ordered g {f} {p = p} {g' = g'} {p' = p'} {y = y} q z F B =
+      (q, in-both-orders (of-bytes e k v bk bv) (of-bytes e' k' v' bk' bv') F (subst (λ (l : List ℕ). InOrder l p (callOf e' k' v') (callOf e k v) y g' p') (z ∙ copied f g q) B))
+
+pub packed-both : {f o g p : List ℕ} {r : Packs} {o' p' : List ℕ} → PackPromise edition1 f o (r .first) o' → PackPromise edition1 g p (r .second) p' → PackedBoth f o g p r o' p'
+packed-both {f} {o} {g} {p} {r} {o'} {p'} F S =
+    record { first = F; second = S; same = λ rs qs len cap h i. three .images f g o o' p p' (r .first) (r .second) rs qs len cap h i F S }
+
+-- ---- demand 2
+
+module _ (k v : List ℕ) (bk : Bytes k) (bv : Bytes v) where
+  b : OfBytes (put k v)
+  b = (bytes-all k bk, bytes-all v bv)
+
+  record Kept (f' : List ℕ) (rs : List Record) : Type 0 where
+    pub legal : Legal edition1 k
+    pub holds : Holds edition1 f' (upsert k v rs)
+    pub there : lookup k (upsert k v rs) ≡ some v
+
+  kept : {f f' : List ℕ} {n : ℕ} {rs : List Record} → PutPromise edition1 f k v n f' → Holds edition1 f rs → NotRefused n → Kept f' rs
+  kept {f} {f'} {n} {rs} P h r =
+      let q = two .change f (put k v) n f' rs b P h r in
+      record { legal = did lawful1 faults1 f (put k v) n f' (h .state) b P (h .stands) r .legal .0; holds = q .0; there = q .1 .own }
+
+  pub read-in-new : {f e f' : List ℕ} {len cap : ℕ} {r : InNew} → FormatPromise edition1 f len cap (r .formatted) e → PutPromise edition1 e k v (r .put) f' → LookUpPromise edition1 f' k (foundIn (r .found))
+      → ReadInNew f len cap k v r f'
+  read-in-new {f} {e} {f'} {len} {cap} {r} F P L =
+      record {
+        empty = e;
+        formatted = F;
+        put = P;
+        looked = L;
+        back = λ x y.
+            let h = two .format f len cap (r .formatted) e F x .0 in
+            let q = kept P h y in
+            (two .put e k v (r .put) f' [] (b .0) (b .1) P h y .0 .1 refl, two .lookUp f' k (foundIn (r .found)) (upsert k v []) (q .legal) L (q .holds) .there0 v .0 (q .there));
+      }
+
+  pub read-in-image : {f o f' o' : List ℕ} {r : InImage} → PutPromise edition1 f k v (r .put) f' → PackPromise edition1 f' o (r .packed) o' → LookUpPromise edition1 o' k (foundIn (r .found))
+      → ReadInImage f o k v r f' o'
+  read-in-image {f} {o} {f'} {o'} {r} P Q L =
+      record {
+        put = P;
+        packed = Q;
+        looked = L;
+        back = λ x y.
+            let h = two .holds f (good-called edition1 f (put k v) (r .put) f' P x) in
+            let q = kept P (h .1) x in
+            let i = q .holds in
+            let w = packed-to lawful1 faults1 f' (upsert k v (h .0)) o' i (packed-of edition1 f' o (r .packed) o' (i .state) Q (i .stands) y .1) .back in
+            two .lookUp o' k (foundIn (r .found)) (upsert k v (h .0)) (q .legal) L w .there0 v .0 (q .there);
+      }

@@ -1,0 +1,58 @@
+-- The calls in the one order on the frame, in the other on its copy, and demand 3 speaks of them. Assumes nothing.
+use mathlib.Core.Path.{refl}
+use native.Mathlib.Omega.{arith}
+use Rattle.demanded.proofs.DemandedLaws.{ordered}
+use borrow.Author.Needs.{needs}
+use Rattle.demanded.proofs.orders.both_orders.Statement.{statement}
+use Rattle.demanded.proofs.orders.both_orders.Tie as tie
+
+returns : tie.Need-returns
+returns c = (c .if1 .taken, refl, refl, refl, refl)
+
+copy-requires : tie.Need-copy-requires
+copy-requires c κs = search needs
+
+in-order-requires : tie.Need-in-order-requires
+in-order-requires c κs = search needs
+
+in-order-requires-2 : tie.Need-in-order-requires-2
+in-order-requires-2 c κs = search needs
+
+same-length : tie.Need-same-length
+same-length c = search needs
+
+same-length-2 : tie.Need-same-length-2
+same-length-2 c = search needs
+
+same-length-3 : tie.Need-same-length-3
+same-length-3 c = search needs
+
+same-length-4 : tie.Need-same-length-4
+same-length-4 c = search needs
+
+returns-2 : tie.Need-returns-2
+returns-2 c =
+    let back = c .before .before .before .before in
+    let forth = back .before .before .before .before .before .before .before in
+    let copying = forth .before .before .before .before .before in
+    let test = copying .before .before .before in
+    let known = test .before in
+    let z = known .before .before .before .before .before .before .before .before .args in
+    ordered
+    (z .first-erases) (z .first-key .now) (z .first-value .now) (λ a. omega (arith, known .before .before .before .shared-slice-known .given a)) (λ a. omega (arith, known .before .before .shared-slice-known2 .given a))
+    (z .second-erases) (z .second-key .now) (z .second-value .now) (λ a. omega (arith, known .before .shared-slice-known3 .given a)) (λ a. omega (arith, known .shared-slice-known4 .given a))
+    (z .copy .now) (test .if1 .left) (copying .copy .ensures .1) (forth .in-order .ensures) (back .in-order2 .ensures)
+
+pub both-orders-spec : {M : Type 1} → statement M
+both-orders-spec =
+    tie.close
+    (tie.spec
+    returns
+    copy-requires
+    in-order-requires
+    in-order-requires-2
+    same-length
+    same-length-2
+    same-length-3
+    same-length-4
+    returns-2)

@@ -1,0 +1,48 @@
+-- Demand 3 of calls that were made: which calls, by their own promises, and what is demanded of them. `f` and `o` are a lent frame and output
+-- at entry, `g` and `p` a second pair; `f'`, `o'`, `g'`, `p'` are they at exit.
+use Prim.Native.Nat.{ℕ}
+use mathlib.Core.Path.{_≡_}
+use mathlib.Core.List.{List}
+use mathlib.Core.Bool.{Bool, true, false}
+use mathlib.Core.Logic.{_↔_, _≢_}
+use lib.ListN.{length}
+use Rattle.model.specs.Edition.{edition1}
+use Rattle.model.specs.Records.{Record}
+use Rattle.model.specs.Promise.{PackPromise}
+use Rattle.model.specs.Call.{Call, put, erase, keyOf, Called}
+use Rattle.demands.specs.Words.{NotRefused, Holds, slotsOf}
+use Rattle.demanded.specs.declared.orders.Given.{Given}
+use Rattle.demanded.specs.declared.orders.Orders.{Orders}
+use Rattle.demanded.specs.declared.orders.Orders.the-variants.{Made, Uncopied}
+use Rattle.demanded.specs.declared.orders.Packs.{Packs}
+
+abbrev pub callOf : Bool → List ℕ → List ℕ → Call
+callOf true k v = erase k
+callOf false k v = put k v
+
+-- c and then d were made on f, and what they left was packed
+pub record InOrder (f o : List ℕ) (c d : Call) (r : Given) (f' o' : List ℕ) : Type 0 where
+  pub between : List ℕ
+  pub first : Called edition1 f c (r .first) between
+  pub second : Called edition1 between d (r .second) f'
+  pub packed : PackPromise edition1 f' o (r .packed) o'
+
+abbrev pub NoneRefused : Given → Type 0
+NoneRefused r = NotRefused (r .first) × NotRefused (r .second) × NotRefused (r .packed)
+
+-- c and then d on f; d and then c on a copy of f
+pub record InBothOrders (f o p : List ℕ) (c d : Call) (x y : Given) (f' o' g' p' : List ℕ) : Type 0 where
+  pub forth : InOrder f o c d x f' o'
+  pub back : InOrder f p d c y g' p'
+  pub same : keyOf c ≢ keyOf d → NoneRefused x → NoneRefused y → (x .first ≡ y .second) × (x .second ≡ y .first) × (o' ≡ p')
+
+-- a copy is made exactly if there are as many bytes for it; else nothing changes
+abbrev pub Ordered : (f o g p : List ℕ) → Call → Call → Orders → (f' o' g' p' : List ℕ) → Type 0
+Ordered f o g p c d (Made x y) f' o' g' p' = (length g ≡ length f) × InBothOrders f o p c d x y f' o' g' p'
+Ordered f o g p c d Uncopied f' o' g' p' = (length g ≢ length f) × (f' ≡ f) × (o' ≡ o) × (g' ≡ g) × (p' ≡ p)
+
+pub record PackedBoth (f o g p : List ℕ) (r : Packs) (o' p' : List ℕ) : Type 0 where
+  pub first : PackPromise edition1 f o (r .first) o'
+  pub second : PackPromise edition1 g p (r .second) p'
+  pub same : (rs qs : List Record) → length f ≡ length g → slotsOf f ≡ slotsOf g → Holds edition1 f rs → Holds edition1 g qs → NotRefused (r .first) → NotRefused (r .second)
+      → (o' ≡ p') ↔ (rs ≡ qs)

@@ -1,0 +1,30 @@
+-- Demand 2 of calls that were made, read back: which calls, by their own promises, and that the last one gives the value that was put.
+use Prim.Native.Nat.{ℕ}
+use mathlib.Core.Path.{_≡_}
+use mathlib.Core.List.{List}
+use lib.ListN.{take, drop}
+use Rattle.model.specs.Edition.{edition1}
+use Rattle.model.specs.Promise.{FormatPromise, Found, LookUpPromise, PutPromise, PackPromise}
+use Rattle.store.specs.Found.{foundIn}
+use Rattle.demands.specs.Words.{NotRefused}
+use Rattle.demanded.specs.declared.readings.InNew.{InNew}
+use Rattle.demanded.specs.declared.readings.InImage.{InImage}
+
+-- the record is there, and its value is v
+abbrev pub GivesBack : List ℕ → List ℕ → Found → Type 0
+GivesBack f v g = (g .number ≡ 0) × (take (g .long) (drop (g .place) f) ≡ v)
+
+-- in a new frame: the key is new too
+pub record ReadInNew (f : List ℕ) (len cap : ℕ) (k v : List ℕ) (r : InNew) (f' : List ℕ) : Type 0 where
+  pub empty : List ℕ
+  pub formatted : FormatPromise edition1 f len cap (r .formatted) empty
+  pub put : PutPromise edition1 empty k v (r .put) f'
+  pub looked : LookUpPromise edition1 f' k (foundIn (r .found))
+  pub back : NotRefused (r .formatted) → NotRefused (r .put) → (r .put ≡ 0) × GivesBack f' v (foundIn (r .found))
+
+-- in the packed image, which is read as a frame
+pub record ReadInImage (f o k v : List ℕ) (r : InImage) (f' o' : List ℕ) : Type 0 where
+  pub put : PutPromise edition1 f k v (r .put) f'
+  pub packed : PackPromise edition1 f' o (r .packed) o'
+  pub looked : LookUpPromise edition1 o' k (foundIn (r .found))
+  pub back : NotRefused (r .put) → NotRefused (r .packed) → GivesBack o' v (foundIn (r .found))

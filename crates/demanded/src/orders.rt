@@ -1,0 +1,116 @@
+// Demand 3: two calls in both orders, and two frames packed.
+use answers;
+use pack::pack;
+use store::erase::erase;
+use store::put::put;
+ghost use Rattle.model.specs.Edition.{edition1};
+ghost use Rattle.model.specs.Call.{Called};
+ghost use Rattle.demanded.specs.Orders.{callOf, InOrder, Ordered, PackedBoth};
+
+// The numbers that two calls gave, one after the other, and packing after them.
+pub struct Given {
+    pub first: u32,
+    pub second: u32,
+    pub packed: u32,
+}
+
+pub enum Orders {
+    // on the frame the first call came first, on its copy the second
+    Made(Given, Given),
+    // the slice for the copy has another length than the frame; no call was made
+    Uncopied,
+}
+
+// A put, or an erase, which has no use for the value.
+fn change(frame: &mut [u8], erases: bool, key: &[u8], value: &[u8]) -> u32
+    ensures { λ n. ⌜ Called edition1 (now (frame .entry)) (callOf erases (now (key .entry)) (now (value .entry))) n (now (frame .exit)) ⌝ }
+{
+    if erases {
+        return answers::erase_number(erase(frame, key));
+    }
+    answers::put_number(put(frame, key, value))
+}
+
+// Two calls, and what they leave packed.
+fn in_order(
+    frame: &mut [u8],
+    out: &mut [u8],
+    first_erases: bool,
+    first_key: &[u8],
+    first_value: &[u8],
+    second_erases: bool,
+    second_key: &[u8],
+    second_value: &[u8],
+) -> Given
+    ensures { λ r. ⌜ InOrder (now (frame .entry)) (now (out .entry)) (callOf «first_erases» (now («first_key» .entry)) (now («first_value» .entry))) (callOf «second_erases» (now («second_key» .entry)) (now («second_value» .entry))) r (now (frame .exit)) (now (out .exit)) ⌝ }
+{
+    let first = change(frame, first_erases, first_key, first_value);
+    let second = change(frame, second_erases, second_key, second_value);
+    let packed = answers::pack_number(pack(frame, out));
+    Given {
+        first,
+        second,
+        packed,
+    }
+}
+
+// "Two calls on different keys, each a put or an erase, give the same answers in both orders and frames that pack to the same bytes,
+// if none is refused."
+pub fn both_orders(
+    frame: &mut [u8],
+    out: &mut [u8],
+    copy: &mut [u8],
+    copy_out: &mut [u8],
+    first_erases: bool,
+    first_key: &[u8],
+    first_value: &[u8],
+    second_erases: bool,
+    second_key: &[u8],
+    second_value: &[u8],
+) -> Orders
+    ensures { λ r. ⌜ Ordered (now (frame .entry)) (now (out .entry)) (now (copy .entry)) (now («copy_out» .entry)) (callOf «first_erases» (now («first_key» .entry)) (now («first_value» .entry))) (callOf «second_erases» (now («second_key» .entry)) (now («second_value» .entry))) r (now (frame .exit)) (now (out .exit)) (now (copy .exit)) (now («copy_out» .exit)) ⌝ }
+{
+    if copy.len() != frame.len() {
+        return Orders::Uncopied;
+    }
+    bytes::copy(frame, copy);
+    let forth = in_order(
+        frame,
+        out,
+        first_erases,
+        first_key,
+        first_value,
+        second_erases,
+        second_key,
+        second_value,
+    );
+    let back = in_order(
+        copy,
+        copy_out,
+        second_erases,
+        second_key,
+        second_value,
+        first_erases,
+        first_key,
+        first_value,
+    );
+    Orders::Made(forth, back)
+}
+
+// The numbers that packing gave for each of two frames.
+pub struct Packs {
+    pub first: u32,
+    pub second: u32,
+}
+
+// "Two good frames of equal length and slot capacity pack to the same bytes exactly when they hold the same records."
+pub fn pack_both(first: &[u8], first_out: &mut [u8], second: &[u8], second_out: &mut [u8]) -> Packs
+    ensures { λ r. ⌜ PackedBoth (now (first .entry)) (now («first_out» .entry)) (now (second .entry)) (now («second_out» .entry)) r (now («first_out» .exit)) (now («second_out» .exit)) ⌝ }
+{
+    let one = answers::pack_number(pack(first, first_out));
+    let other = answers::pack_number(pack(second, second_out));
+    Packs {
+        first: one,
+        second: other,
+    }
+}

@@ -1,0 +1,48 @@
+// Demand 2, read back: a record that was put is found with its value, in the frame and in the frame's packed image.
+use answers;
+use answers::LookUp;
+use pack::pack;
+use store::format::format;
+use store::look::look_up;
+use store::put::put;
+ghost use Rattle.demanded.specs.Readings.{ReadInNew, ReadInImage};
+
+pub struct InNew {
+    pub formatted: u32,
+    pub put: u32,
+    pub found: LookUp,
+}
+
+pub struct InImage {
+    pub put: u32,
+    pub packed: u32,
+    pub found: LookUp,
+}
+
+// Format, put, look-up.
+pub fn in_new(frame: &mut [u8], length: usize, capacity: usize, key: &[u8], value: &[u8]) -> InNew
+    ensures { λ r. ⌜ ReadInNew (now (frame .entry)) length capacity (now (key .entry)) (now (value .entry)) r (now (frame .exit)) ⌝ }
+{
+    let formatted = answers::format_number(format(frame, length, capacity));
+    let given = answers::put_number(put(frame, key, value));
+    let found = look_up(frame, key);
+    InNew {
+        formatted,
+        put: given,
+        found,
+    }
+}
+
+// Put, pack, look-up in the image.
+pub fn in_image(frame: &mut [u8], out: &mut [u8], key: &[u8], value: &[u8]) -> InImage
+    ensures { λ r. ⌜ ReadInImage (now (frame .entry)) (now (out .entry)) (now (key .entry)) (now (value .entry)) r (now (frame .exit)) (now (out .exit)) ⌝ }
+{
+    let given = answers::put_number(put(frame, key, value));
+    let packed = answers::pack_number(pack(frame, out));
+    let found = look_up(out, key);
+    InImage {
+        put: given,
+        packed,
+        found,
+    }
+}
