@@ -1,47 +1,7 @@
-//! Links the archive with the exported calls, as soon as `exported.txt` names one.
-
-use std::env;
-use std::path::{Path, PathBuf};
-
-const CALLS: [&str; 6] =
-    ["frame_format", "frame_check", "frame_look_up", "frame_put", "frame_erase", "frame_pack"];
-const FOLDER_VARIABLE: &str = "FRAME_EXPORTS_DIR";
-const DEFAULT_FOLDER: &str = "../target/staticlib";
-const ARCHIVE: &str = "libexports.a";
+//! Hands on where the archive with the exported calls stands: the C programs
+//! of the tests are linked with the one that the Rust bindings link.
 
 fn main() {
-    println!("cargo::rerun-if-changed=exported.txt");
-    println!("cargo::rerun-if-env-changed={FOLDER_VARIABLE}");
-    for call in CALLS {
-        println!("cargo::rustc-check-cfg=cfg(exported_{call})");
-    }
-    let list = std::fs::read_to_string("exported.txt").expect("exported.txt can be read");
-    let lines = list.lines().map(str::trim);
-    let names: Vec<&str> =
-        lines.filter(|line| !line.is_empty() && !line.starts_with('#')).collect();
-    for name in &names {
-        assert!(CALLS.contains(name), "exported.txt names {name}, which is none of {CALLS:?}");
-        println!("cargo::rustc-cfg=exported_{name}");
-    }
-    if !names.is_empty() {
-        link();
-    }
-}
-
-fn link() {
-    let package = env::var("CARGO_MANIFEST_DIR").expect("cargo names the package's folder");
-    let folder = match env::var(FOLDER_VARIABLE) {
-        Ok(folder) => PathBuf::from(folder),
-        Err(_) => Path::new(&package).join(DEFAULT_FOLDER),
-    };
-    let archive = folder.join(ARCHIVE);
-    println!("cargo::rerun-if-changed={}", archive.display());
-    assert!(
-        archive.is_file(),
-        "exported.txt names calls, but {} is missing: make it first with `rt staticlib exports`, \
-         or let {FOLDER_VARIABLE} name its folder",
-        archive.display()
-    );
-    println!("cargo::rustc-link-search=native={}", folder.display());
-    println!("cargo::rustc-link-lib=static=exports");
+    let archive = std::env::var("DEP_FRAME_STORE_ARCHIVE").expect("the bindings tell it");
+    println!("cargo::rustc-env=FRAME_ARCHIVE={archive}");
 }

@@ -1,10 +1,11 @@
 //! The six calls of both stores behind one type of function, so that they are
 //! measured in the same way.
 //!
-//! Trusted here: the C declarations of the exported calls. Which of them the
-//! archive has is told by the list that the tests keep; the others are absent.
+//! Trusted here: the C declarations of the exported calls. The bindings link
+//! the archive that has them.
 
 use crate::plain;
+use frame_store as _;
 
 /// A public call of document 01.
 #[derive(Clone, Copy, PartialEq, Eq, Debug)]
@@ -69,56 +70,74 @@ pub fn plain(call: Call) -> Function {
     }
 }
 
-/// None for a call that is not exported yet.
-pub fn proved(call: Call) -> Option<Function> {
+/// Every part is passed with its own length, and lives through the call.
+pub fn proved(call: Call) -> Function {
     match call {
-        Call::Format => exported::format(),
-        Call::Check => exported::check(),
-        Call::LookUp => exported::look_up(),
-        Call::Put => exported::put(),
-        Call::Erase => exported::erase(),
-        Call::Pack => exported::pack(),
+        Call::Format => |lent| unsafe {
+            let length = lent.frame.len();
+            exported::frame_format(lent.frame.as_mut_ptr(), length, length, lent.n)
+        },
+        Call::Check => {
+            |lent| unsafe { exported::frame_check(lent.frame.as_ptr(), lent.frame.len()) }
+        }
+        Call::LookUp => |lent| unsafe {
+            exported::frame_look_up(
+                lent.frame.as_ptr(),
+                lent.frame.len(),
+                lent.key.as_ptr(),
+                lent.key.len(),
+                lent.found.as_mut_ptr(),
+                lent.found.len(),
+            )
+        },
+        Call::Put => |lent| unsafe {
+            exported::frame_put(
+                lent.frame.as_mut_ptr(),
+                lent.frame.len(),
+                lent.key.as_ptr(),
+                lent.key.len(),
+                lent.value.as_ptr(),
+                lent.value.len(),
+            )
+        },
+        Call::Erase => |lent| unsafe {
+            let length = lent.frame.len();
+            exported::frame_erase(
+                lent.frame.as_mut_ptr(),
+                length,
+                lent.key.as_ptr(),
+                lent.key.len(),
+            )
+        },
+        Call::Pack => |lent| unsafe {
+            let (frame, out) = (lent.frame.as_ptr(), lent.out.as_mut_ptr());
+            exported::frame_pack(frame, lent.frame.len(), out, lent.out.len())
+        },
     }
 }
 
-/// Every part is passed with its own length, and lives through the call.
 mod exported {
-    use super::Function;
-
-    macro_rules! exported_call {
-        ($listed:meta, $call:ident, $symbol:ident($($kind:ty),*), $lent:ident => $($argument:expr),*) => {
-            #[cfg($listed)]
-            pub fn $call() -> Option<Function> {
-                extern "C" {
-                    fn $symbol($(_: $kind),*) -> u32;
-                }
-                Some(|$lent| unsafe { $symbol($($argument),*) })
-            }
-            #[cfg(not($listed))]
-            pub fn $call() -> Option<Function> {
-                None
-            }
-        };
+    extern "C" {
+        pub fn frame_format(frame: *mut u8, length: usize, f: usize, n: usize) -> u32;
+        pub fn frame_check(frame: *const u8, length: usize) -> u32;
+        pub fn frame_look_up(
+            frame: *const u8,
+            length: usize,
+            key: *const u8,
+            key_length: usize,
+            found: *mut u64,
+            numbers: usize,
+        ) -> u32;
+        pub fn frame_put(
+            frame: *mut u8,
+            length: usize,
+            key: *const u8,
+            key_length: usize,
+            value: *const u8,
+            value_length: usize,
+        ) -> u32;
+        pub fn frame_erase(frame: *mut u8, length: usize, key: *const u8, key_length: usize)
+            -> u32;
+        pub fn frame_pack(frame: *const u8, length: usize, out: *mut u8, out_length: usize) -> u32;
     }
-
-    exported_call!(exported_frame_format, format,
-        frame_format(*mut u8, usize, usize, usize),
-        lent => lent.frame.as_mut_ptr(), lent.frame.len(), lent.frame.len(), lent.n);
-    exported_call!(exported_frame_check, check,
-        frame_check(*const u8, usize),
-        lent => lent.frame.as_ptr(), lent.frame.len());
-    exported_call!(exported_frame_look_up, look_up,
-        frame_look_up(*const u8, usize, *const u8, usize, *mut u64, usize),
-        lent => lent.frame.as_ptr(), lent.frame.len(), lent.key.as_ptr(), lent.key.len(),
-            lent.found.as_mut_ptr(), lent.found.len());
-    exported_call!(exported_frame_put, put,
-        frame_put(*mut u8, usize, *const u8, usize, *const u8, usize),
-        lent => lent.frame.as_mut_ptr(), lent.frame.len(), lent.key.as_ptr(), lent.key.len(),
-            lent.value.as_ptr(), lent.value.len());
-    exported_call!(exported_frame_erase, erase,
-        frame_erase(*mut u8, usize, *const u8, usize),
-        lent => lent.frame.as_mut_ptr(), lent.frame.len(), lent.key.as_ptr(), lent.key.len());
-    exported_call!(exported_frame_pack, pack,
-        frame_pack(*const u8, usize, *mut u8, usize),
-        lent => lent.frame.as_ptr(), lent.frame.len(), lent.out.as_mut_ptr(), lent.out.len());
 }

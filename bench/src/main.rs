@@ -1,6 +1,5 @@
 //! The proved store beside the plain one: times, or with `stack` the stack.
 
-use std::fmt::Display;
 use store_bench::calls::{plain, proved, Call, Lent};
 use store_bench::deepest::{deep_trees, DeepTree};
 use store_bench::measure::measure;
@@ -19,11 +18,6 @@ fn main() {
             std::process::exit(2);
         }
     }
-}
-
-/// `-` stands for what a call that is not exported yet would give.
-fn shown(figure: Option<impl Display>) -> String {
-    figure.map_or("-".to_string(), |figure| figure.to_string())
 }
 
 fn times() {
@@ -53,19 +47,17 @@ fn times_of(workload: &Workload, what: &str) {
     let slots = workload.slots();
     for task in &workload.tasks {
         let measured = measure(workload, task);
-        let (time, proved) = (measured.plain, measured.proved);
-        let by_slot = |time: f64| format!("{:.1}", time / slots as f64);
         println!(
-            "{:<18} {:>7} {:<6} {:>6} {:>10.0} {:>10} {:>6} {:>10} {:>11}",
+            "{:<18} {:>7} {:<6} {:>6} {:>10.0} {:>10.0} {:>6.2} {:>10.1} {:>11.1}",
             task.name,
             workload.frame.len(),
             what,
             slots,
-            time,
-            shown(proved.as_ref().map(|it| format!("{:.0}", it.time))),
-            shown(proved.as_ref().map(|it| format!("{:.2}", it.ratio))),
-            by_slot(time),
-            shown(proved.as_ref().map(|it| by_slot(it.time))),
+            measured.plain,
+            measured.proved,
+            measured.ratio,
+            measured.plain / slots as f64,
+            measured.proved / slots as f64,
         );
     }
 }
@@ -81,14 +73,14 @@ fn stacks() {
                 bytes_used(function, &mut lent)
             };
             let (number, plain_bytes) = used(plain(call));
-            let proved = proved(call).map(used);
-            assert!(proved.is_none_or(|it| it.0 == number), "{} answers differ", call.name());
+            let (proved_number, proved_bytes) = used(proved(call));
+            assert_eq!(proved_number, number, "{} answers differ", call.name());
             println!(
                 "{:<16} {:<8} {:>12} {:>12}",
                 tree.name,
                 call.name(),
                 plain_bytes,
-                shown(proved.map(|it| it.1)),
+                proved_bytes,
             );
         }
     }

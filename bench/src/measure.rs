@@ -12,11 +12,7 @@ use std::time::{Duration, Instant};
 /// Medians, in nanoseconds a call.
 pub struct Measured {
     pub plain: f64,
-    pub proved: Option<Proved>,
-}
-
-pub struct Proved {
-    pub time: f64,
+    pub proved: f64,
     /// The median of the rounds' own ratios, proved to plain.
     pub ratio: f64,
 }
@@ -31,33 +27,29 @@ const COPIES_BYTES: usize = 16_384;
 
 pub fn measure(workload: &Workload, task: &Task) -> Measured {
     let mut sampler = Sampler::new(workload, task);
-    let plain = plain(task.call);
-    let proved = proved(task.call);
+    let (plain, proved) = (plain(task.call), proved(task.call));
     let (mut plain_times, mut proved_times, mut ratios) = (Vec::new(), Vec::new(), Vec::new());
     for round in 0..UNCOUNTED_ROUNDS + ROUNDS {
-        let proved_first = round % 2 == 1;
-        let mut proved_time = proved.filter(|_| proved_first).map(|it| sampler.sample(it, round));
-        let plain_time = sampler.sample(plain, round);
-        if !proved_first {
-            proved_time = proved.map(|it| sampler.sample(it, round));
+        let (plain_time, proved_time);
+        if round % 2 == 1 {
+            proved_time = sampler.sample(proved, round);
+            plain_time = sampler.sample(plain, round);
+        } else {
+            plain_time = sampler.sample(plain, round);
+            proved_time = sampler.sample(proved, round);
         }
         if round >= UNCOUNTED_ROUNDS {
             plain_times.push(plain_time);
-            proved_times.extend(proved_time);
-            ratios.extend(proved_time.map(|it| it / plain_time));
+            proved_times.push(proved_time);
+            ratios.push(proved_time / plain_time);
         }
     }
-    let time = median(proved_times);
-    let ratio = median(ratios);
-    Measured {
-        plain: median(plain_times).expect("there are rounds"),
-        proved: time.zip(ratio).map(|(time, ratio)| Proved { time, ratio }),
-    }
+    Measured { plain: median(plain_times), proved: median(proved_times), ratio: median(ratios) }
 }
 
-fn median(mut values: Vec<f64>) -> Option<f64> {
+fn median(mut values: Vec<f64>) -> f64 {
     values.sort_by(f64::total_cmp);
-    values.get(values.len() / 2).copied()
+    values[values.len() / 2]
 }
 
 struct Sampler<'a> {

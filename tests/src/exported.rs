@@ -1,34 +1,16 @@
 //! The exported C functions, behind the same six calls.
 //!
-//! Believed here: the C declarations. A call named in `exported.txt` goes to
-//! the linked archive; one that is not yet exported is served by the second
-//! store, so that the mix can be compared. Nothing else has to be changed
-//! when a call is added there.
+//! Believed here: the C declarations. The bindings link the archive that has
+//! them.
 
 use crate::compare::Calls;
 use crate::layout::number::{ABSENT, DONE};
+use frame_store as _;
 
-/// The calls that come from the archive, as `exported.txt` names them.
-pub fn names() -> Vec<&'static str> {
-    let lines = include_str!("../exported.txt").lines().map(str::trim);
-    lines.filter(|line| !line.is_empty() && !line.starts_with('#')).collect()
-}
-
-#[cfg(any(
-    exported_frame_format,
-    exported_frame_check,
-    exported_frame_look_up,
-    exported_frame_put,
-    exported_frame_erase,
-    exported_frame_pack
-))]
 mod c {
     extern "C" {
-        #[cfg(exported_frame_format)]
         pub fn frame_format(frame: *mut u8, frame_len: usize, f: usize, n: usize) -> u32;
-        #[cfg(exported_frame_check)]
         pub fn frame_check(frame: *const u8, frame_len: usize) -> u32;
-        #[cfg(exported_frame_look_up)]
         pub fn frame_look_up(
             frame: *const u8,
             frame_len: usize,
@@ -37,7 +19,6 @@ mod c {
             place_and_len: *mut u64,
             two: usize,
         ) -> u32;
-        #[cfg(exported_frame_put)]
         pub fn frame_put(
             frame: *mut u8,
             frame_len: usize,
@@ -46,10 +27,8 @@ mod c {
             value: *const u8,
             value_len: usize,
         ) -> u32;
-        #[cfg(exported_frame_erase)]
         pub fn frame_erase(frame: *mut u8, frame_len: usize, key: *const u8, key_len: usize)
             -> u32;
-        #[cfg(exported_frame_pack)]
         pub fn frame_pack(frame: *const u8, frame_len: usize, out: *mut u8, out_len: usize) -> u32;
     }
 }
@@ -59,29 +38,19 @@ pub struct Exported;
 // Every part is passed with its own length, and lives through the call.
 impl Calls for Exported {
     fn format(&self, frame: &mut [u8], f: usize, n: usize) -> u32 {
-        #[cfg(exported_frame_format)]
-        return unsafe { c::frame_format(frame.as_mut_ptr(), frame.len(), f, n) };
-        #[cfg(not(exported_frame_format))]
-        crate::compare::Second.format(frame, f, n)
+        unsafe { c::frame_format(frame.as_mut_ptr(), frame.len(), f, n) }
     }
 
     fn check(&self, frame: &[u8]) -> u32 {
-        #[cfg(exported_frame_check)]
-        return unsafe { c::frame_check(frame.as_ptr(), frame.len()) };
-        #[cfg(not(exported_frame_check))]
-        crate::compare::Second.check(frame)
+        unsafe { c::frame_check(frame.as_ptr(), frame.len()) }
     }
 
     fn look_up(&self, frame: &[u8], key: &[u8]) -> (u32, u64, u64) {
-        #[cfg(exported_frame_look_up)]
-        return look_up_by_all_lengths(frame, key);
-        #[cfg(not(exported_frame_look_up))]
-        crate::compare::Second.look_up(frame, key)
+        look_up_by_all_lengths(frame, key)
     }
 
     fn put(&self, frame: &mut [u8], key: &[u8], value: &[u8]) -> u32 {
-        #[cfg(exported_frame_put)]
-        return unsafe {
+        unsafe {
             c::frame_put(
                 frame.as_mut_ptr(),
                 frame.len(),
@@ -90,30 +59,21 @@ impl Calls for Exported {
                 value.as_ptr(),
                 value.len(),
             )
-        };
-        #[cfg(not(exported_frame_put))]
-        crate::compare::Second.put(frame, key, value)
+        }
     }
 
     fn erase(&self, frame: &mut [u8], key: &[u8]) -> u32 {
-        #[cfg(exported_frame_erase)]
-        return unsafe { c::frame_erase(frame.as_mut_ptr(), frame.len(), key.as_ptr(), key.len()) };
-        #[cfg(not(exported_frame_erase))]
-        crate::compare::Second.erase(frame, key)
+        unsafe { c::frame_erase(frame.as_mut_ptr(), frame.len(), key.as_ptr(), key.len()) }
     }
 
     fn pack(&self, frame: &[u8], out: &mut [u8]) -> u32 {
-        #[cfg(exported_frame_pack)]
-        return unsafe { c::frame_pack(frame.as_ptr(), frame.len(), out.as_mut_ptr(), out.len()) };
-        #[cfg(not(exported_frame_pack))]
-        crate::compare::Second.pack(frame, out)
+        unsafe { c::frame_pack(frame.as_ptr(), frame.len(), out.as_mut_ptr(), out.len()) }
     }
 }
 
 /// Place and length go into two numbers if two are lent and the call is not
 /// refused, and nowhere else. Told as the call's own result has them: both 0
 /// of a refusal.
-#[cfg(exported_frame_look_up)]
 fn look_up_by_all_lengths(frame: &[u8], key: &[u8]) -> (u32, u64, u64) {
     use std::hint::black_box;
     const KNOWN: u64 = 0xA5A5_A5A5_5A5A_5A5A;

@@ -5,6 +5,7 @@
 //! are two further readings of document 01, and the store is held to both.
 //! `compare` holds any six calls to all of them; `run` is what the gate runs.
 
+pub mod bindings;
 pub mod check;
 pub mod compare;
 pub mod crafted;

@@ -1,29 +1,32 @@
-//! The exported C functions held to everything.
+//! The exported C functions, and the Rust bindings over them, held to
+//! everything.
 
-use second_store::compare::Comparer;
-use second_store::exported::{names, Exported};
+use second_store::bindings::Bindings;
+use second_store::compare::{Calls, Comparer};
+use second_store::exported::Exported;
 use second_store::history;
-use second_store::run::{all_stages, printed_figures, Effort};
+use second_store::run::{all_stages, Effort};
 
-#[test]
-fn exported_calls_agree() {
-    println!("exported: {:?}", names());
+fn all_stages_agree(calls: &dyn Calls) {
     let effort = Effort::from_environment();
-    if names().is_empty() {
-        // All six calls are the second store's, which has its own tests.
-        printed_figures(&mut Comparer::new(&Exported)).unwrap_or_else(|told| panic!("{told}"));
-        return;
-    }
-    let tally = all_stages(&Exported, effort).unwrap_or_else(|told| panic!("{told}"));
+    let tally = all_stages(calls, effort).unwrap_or_else(|told| panic!("{told}"));
     let missed = tally.never_reached();
     assert!(missed.is_empty(), "{effort:?} never reaches {missed:#?}");
 }
 
 #[test]
+fn exported_calls_agree() {
+    all_stages_agree(&Exported);
+}
+
+#[test]
+fn bindings_agree() {
+    all_stages_agree(&Bindings);
+}
+
+#[test]
 fn exported_check_agrees_on_single_bytes() {
-    if names().contains(&"frame_check") {
-        let frames = history::small_frames();
-        let mut comparer = Comparer::new(&Exported);
-        history::single_bytes(&mut comparer, &frames).unwrap_or_else(|told| panic!("{told}"));
-    }
+    let frames = history::small_frames();
+    let mut comparer = Comparer::new(&Exported);
+    history::single_bytes(&mut comparer, &frames).unwrap_or_else(|told| panic!("{told}"));
 }

@@ -20,8 +20,9 @@ fn root() -> PathBuf {
     PathBuf::from(env!("CARGO_MANIFEST_DIR")).join("..")
 }
 
-fn stored(program: &str, stream: &str) -> Option<Vec<u8>> {
-    std::fs::read(root().join("crates").join(program).join(stream)).ok()
+fn stored(program: &str, stream: &str) -> Vec<u8> {
+    let file = root().join("crates").join(program).join(stream);
+    std::fs::read(&file).unwrap_or_else(|error| panic!("{}: {error}", file.display()))
 }
 
 /// The first line in which two outputs differ.
@@ -36,11 +37,6 @@ fn assert_same(found: &[u8], expected: &[u8], of: &str) {
     assert_eq!(found_lines.len(), expected_lines.len(), "{of}: number of lines");
 }
 
-/// Past the test harness, so that it is read even where the test passes.
-fn say(text: &str) {
-    let _ = writeln!(std::io::stderr(), "{text}");
-}
-
 #[test]
 fn the_printed_example_is_answered_as_printed() {
     let input = b"f 1024 8\np a 1\np b 2\ng a\ne c\nk\n";
@@ -48,19 +44,13 @@ fn the_printed_example_is_answered_as_printed() {
     for calls in [&Second as &dyn Calls, &Exported] {
         assert_same(&output(calls, input), printed, "the example of document 01");
     }
-    if let Some(stdin) = stored("session", "stdin") {
-        assert_eq!(stdin, input);
-    }
+    assert_eq!(stored("session", "stdin"), input);
 }
 
 #[test]
 fn stored_scripts_are_answered_as_stored() {
     for program in STORED {
-        let (Some(stdin), Some(stdout)) = (stored(program, "stdin"), stored(program, "stdout"))
-        else {
-            say(&format!("crates/{program} is not there: its script is not compared"));
-            continue;
-        };
+        let (stdin, stdout) = (stored(program, "stdin"), stored(program, "stdout"));
         for calls in [&Second as &dyn Calls, &Exported] {
             assert_same(&output(calls, &stdin), &stdout, program);
         }
@@ -71,10 +61,6 @@ fn stored_scripts_are_answered_as_stored() {
 fn the_built_program_agrees_on_random_scripts() {
     let built = root().join("target/bin/session");
     let program = std::env::var(PROGRAM_VARIABLE).map_or(built, PathBuf::from);
-    if !program.is_file() {
-        say(&format!("{} is not built: random scripts are not compared", program.display()));
-        return;
-    }
     let Effort { seed, rounds } = Effort::from_environment();
     for round in 0..rounds * SCRIPTS {
         let mut random = Random::new(seed.wrapping_mul(7_919).wrapping_add(round));
@@ -91,7 +77,7 @@ fn run(program: &PathBuf, input: &[u8], random: &mut Random) -> Vec<u8> {
         .stdin(Stdio::piped())
         .stdout(Stdio::piped())
         .spawn()
-        .expect("the program starts");
+        .unwrap_or_else(|error| panic!("{}: {error}", program.display()));
     let mut stdin = child.stdin.take().expect("the program has an input");
     let most = *random.pick(&[1, 7, 300, 5_000]);
     std::thread::scope(|scope| {

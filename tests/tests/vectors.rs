@@ -168,9 +168,8 @@ fn the_lines_have_the_printed_figures() {
 #[test]
 fn the_stored_lines_are_the_same() {
     let root = Path::new(env!("CARGO_MANIFEST_DIR")).join("..");
-    let Ok(stored) = std::fs::read_to_string(root.join("crates/vectors/stdout")) else {
-        return;
-    };
+    let stored = std::fs::read_to_string(root.join("crates/vectors/stdout"));
+    let stored = stored.expect("crates/vectors has its lines stored");
     for (at, (stored, told)) in stored.lines().zip(told().lines()).enumerate() {
         assert_eq!(stored, told, "line {at}");
     }

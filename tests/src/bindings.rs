@@ -1,0 +1,62 @@
+//! The Rust bindings, behind the same six calls.
+//!
+//! Believed here: how an answer of the bindings is read as a number. A frame
+//! is opened and then used, as a program does it.
+
+use crate::compare::Calls;
+use crate::layout::number::{ABSENT, DONE, LENGTHS, REPLACED};
+use frame_store::{check, Erase, Frame, Put, Refusal, View};
+
+pub struct Bindings;
+
+fn number(answer: Result<u32, Refusal>) -> u32 {
+    answer.unwrap_or_else(Refusal::number)
+}
+
+impl Calls for Bindings {
+    /// The bindings take all the bytes that they are lent: no other F can be
+    /// asked of them, and it would be refused.
+    fn format(&self, frame: &mut [u8], f: usize, n: usize) -> u32 {
+        if f != frame.len() {
+            return LENGTHS;
+        }
+        number(Frame::format(frame, n).map(|_| DONE))
+    }
+
+    fn check(&self, frame: &[u8]) -> u32 {
+        number(check(frame).map(|()| DONE))
+    }
+
+    fn look_up(&self, frame: &[u8], key: &[u8]) -> (u32, u64, u64) {
+        let found = View::open(frame).and_then(|view| Ok((view.place(key)?, view.look_up(key)?)));
+        match found {
+            Ok((Some(place), Some(value))) => {
+                assert_eq!(frame[place.clone()].as_ptr_range(), value.as_ptr_range());
+                (DONE, place.start as u64, place.len() as u64)
+            }
+            Ok((None, None)) => (ABSENT, 0, 0),
+            Ok(both) => panic!("one look-up finds the key, the other does not: {both:?}"),
+            Err(refused) => (refused.number(), 0, 0),
+        }
+    }
+
+    fn put(&self, frame: &mut [u8], key: &[u8], value: &[u8]) -> u32 {
+        let put = Frame::open(frame).and_then(|mut frame| frame.put(key, value));
+        number(put.map(|done| match done {
+            Put::New => DONE,
+            Put::Replaced => REPLACED,
+        }))
+    }
+
+    fn erase(&self, frame: &mut [u8], key: &[u8]) -> u32 {
+        let erased = Frame::open(frame).and_then(|mut frame| frame.erase(key));
+        number(erased.map(|done| match done {
+            Erase::Done => DONE,
+            Erase::Absent => ABSENT,
+        }))
+    }
+
+    fn pack(&self, frame: &[u8], out: &mut [u8]) -> u32 {
+        number(View::open(frame).and_then(|view| view.pack(out)).map(|_| DONE))
+    }
+}
