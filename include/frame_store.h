@@ -23,6 +23,15 @@
  * 1 to 7 are refusals: nothing was changed, not one byte. If several apply, the first in the order 1, 2, 3, 4, 5, 7, 6 is given.
  *
  * Every call but format begins with a check of the whole frame, so any bytes may be lent: what is not a good frame is answered 2.
+ * The check looks at how a frame is built, not at what the records say: bytes that were changed on the way can be a good frame with
+ * other records. Keep a checksum beside a frame that is stored, as examples/c/settings.c does; a packed image is one string of
+ * bytes for one set of records, so that its checksum also tells whether two frames hold the same.
+ *
+ * Blank bytes (all 0, all 255) of the right length hold no F: they are answered 1 and not 2. But a frame whose F was damaged is
+ * answered 1, too, so neither number alone says that nothing was ever stored there.
+ *
+ * The bytes of a record that was erased, and of a value that was replaced by one of another length, stay in the frame where
+ * nothing leads to them. They are gone from the packed image; until it is used, and the frame overwritten, a secret is still there.
  *
  * What the caller answers for, because no call can test it:
  *   - each pointer leads to as many bytes (for place_and_len: numbers) as the length after it says, and is not NULL even if that
@@ -69,7 +78,26 @@ uint32_t frame_check(const uint8_t *frame, size_t frame_len);
 uint32_t frame_look_up(const uint8_t *frame, size_t frame_len, const uint8_t *key, size_t key_len,
                        uint64_t *place_and_len, size_t two);
 
-/* Puts a record, new or in place of the one with this key. Gives 0, 9, or a refusal of 1 to 6. */
+/* The same, with no count to get wrong. Place and length are 0 with any number but 0. */
+struct frame_found {
+    uint64_t place;
+    uint64_t length;
+};
+
+static inline uint32_t frame_find(const uint8_t *frame, size_t frame_len, const uint8_t *key, size_t key_len,
+                                  struct frame_found *found) {
+    uint64_t place_and_len[2] = {0, 0};
+    uint32_t given = frame_look_up(frame, frame_len, key, key_len, place_and_len, 2);
+    found->place = place_and_len[0];
+    found->length = place_and_len[1];
+    return given;
+}
+
+/*
+ * Puts a record, new or in place of the one with this key. Gives 0, 9, or a refusal of 1 to 6. Neither key nor value may lie in the
+ * frame: a value that was found in it is copied out before it is put under another key. A value of another length needs room beside
+ * the old one, even if it is shorter; the old one's bytes are free only after a pack.
+ */
 uint32_t frame_put(uint8_t *frame, size_t frame_len, const uint8_t *key, size_t key_len, const uint8_t *value,
                    size_t value_len);
 

@@ -20,11 +20,11 @@ static void put(const char *key, const char *value) {
 }
 
 static void show(const uint8_t *from, const char *key) {
-    uint64_t place_and_len[2];
-    uint32_t given = frame_look_up(from, F, bytes(key), strlen(key), place_and_len, 2);
+    struct frame_found found;
+    uint32_t given = frame_find(from, F, bytes(key), strlen(key), &found);
     printf("look up %s: %u", key, (unsigned)given);
     if (given == FRAME_DONE) {
-        printf(" %.*s", (int)place_and_len[1], (const char *)from + place_and_len[0]);
+        printf(" %.*s", (int)found.length, (const char *)from + found.place);
     }
     printf("\n");
 }
@@ -41,7 +41,7 @@ int main(void) {
     printf("pack: %u\n", (unsigned)frame_pack(frame, F, packed, F));
     show(packed, "line.rate");
     printf("check: %u\n", (unsigned)frame_check(packed, F));
-    frame[20] ^= 1; /* a damaged frame is noticed, and refused by every call */
+    frame[20] ^= 1; /* U is wrong now: no good frame, and refused by every call */
     show(frame, "line.rate");
     return 0;
 }

@@ -18,7 +18,7 @@ fn main() -> Result<(), Refusal> {
     let packed = frame.pack(&mut packed)?;
     show(packed.view(), "line.rate")?;
 
-    // What is stored and comes back damaged is noticed.
+    // U is wrong now: no good frame. Damage to a value would pass; the example settings_file keeps a checksum.
     let mut stored = packed.bytes().to_vec();
     stored[20] ^= 1;
     println!("damaged: {:?}", View::open(&stored).err());

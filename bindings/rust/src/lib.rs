@@ -17,8 +17,12 @@
 //! # Ok::<(), Refusal>(())
 //! ```
 //!
-//! Any bytes may be lent: each call checks the whole frame first, and one that is not good is refused. A refused call has changed
-//! nothing. That lent bytes do not overlap, which the calls ask of a C program, follows here from Rust's borrows.
+//! A frame stands in anything that lends bytes: an array, a `Vec`, a box, a slice borrowed from elsewhere. Any bytes may be lent:
+//! each call checks the whole frame first, and one that is not good is refused. A refused call has changed nothing. That lent
+//! bytes do not overlap, which the calls ask of a C program, follows here from Rust's borrows.
+//!
+//! The check looks at how a frame is built, not at what the records say: a frame whose bytes were changed on the way can be a good
+//! frame with other records. Keep a checksum beside stored bytes; the example `settings_file` does.
 #![no_std]
 #![warn(missing_docs)]
 #![deny(unsafe_code)]
@@ -81,14 +85,15 @@ impl fmt::Display for Refusal {
     fn fmt(&self, to: &mut fmt::Formatter<'_>) -> fmt::Result {
         to.write_str(match self {
             Refusal::Length => {
-                "the frame's length or slots are outside the limits, or not those of the frame"
+                "a frame has a multiple of 8 bytes from 1,024 to 524,288, always as many as it was formatted with, \
+                 and an even number of slots from 8 to 10,240, for each of which 4 bytes are taken"
             }
             Refusal::Frame => "the bytes are not a good frame",
             Refusal::KeyLength => "the key has no byte, or more than 112",
             Refusal::KeyZero => "the key holds a byte 0",
             Refusal::ValueLength => "the value has more than 65,535 bytes",
             Refusal::Output => "the output is not as long as the frame",
-            Refusal::Room => "there is no room",
+            Refusal::Room => "too few slots or bytes are left for this call; packing gives back what is no longer used",
         })
     }
 }
@@ -117,17 +122,22 @@ const DONE: u32 = 0;
 const ABSENT: u32 = 8;
 const REPLACED: u32 = 9;
 
-/// A good frame over lent bytes, to read.
+/// A frame in borrowed bytes, to read.
 #[derive(Clone, Copy)]
 pub struct View<'a> {
     bytes: &'a [u8],
 }
 
 impl<'a> View<'a> {
-    /// Lends a frame that is there, if it is a good one.
+    /// Takes bytes that are a good frame.
     pub fn open(bytes: &'a [u8]) -> Result<View<'a>, Refusal> {
         check(bytes)?;
-        Ok(View { bytes })
+        Ok(View::over(bytes))
+    }
+
+    /// Takes any bytes without looking at them: if they are not a good frame, each call says so.
+    pub fn over(bytes: &'a [u8]) -> View<'a> {
+        View { bytes }
     }
 
     /// The value of a key, as a part of the lent bytes.
@@ -150,8 +160,8 @@ impl<'a> View<'a> {
 
     /// Writes the packed image of the records to `out`, which is as long as the frame: one string of bytes for one set of records,
     /// F and N, and itself a good frame with all room that can be had given back.
-    pub fn pack<'b>(self, out: &'b mut [u8]) -> Result<Frame<'b>, Refusal> {
-        match calls::pack(self.bytes, out) {
+    pub fn pack<B: AsMut<[u8]>>(self, mut out: B) -> Result<Frame<B>, Refusal> {
+        match calls::pack(self.bytes, out.as_mut()) {
             DONE => Ok(Frame { bytes: out }),
             refused => Err(Refusal::of_number(refused)),
         }
@@ -163,39 +173,55 @@ impl<'a> View<'a> {
     }
 }
 
-/// A good frame over lent bytes, to read and to change.
-pub struct Frame<'a> {
-    bytes: &'a mut [u8],
+impl fmt::Debug for View<'_> {
+    fn fmt(&self, to: &mut fmt::Formatter<'_>) -> fmt::Result {
+        write!(to, "View of {} bytes", self.bytes.len())
+    }
 }
 
-impl<'a> Frame<'a> {
+/// A frame to read and to change, in whatever lends its bytes: `[u8; F]`, `Vec<u8>`, `Box<[u8]>`, `&mut [u8]`. One that owns them
+/// can be kept and moved.
+#[derive(Clone, Copy)]
+pub struct Frame<B> {
+    bytes: B,
+}
+
+impl<B: AsRef<[u8]> + AsMut<[u8]>> Frame<B> {
     /// Makes an empty frame with this many slots out of all the bytes that are lent.
-    pub fn format(bytes: &'a mut [u8], slots: usize) -> Result<Frame<'a>, Refusal> {
-        let length = bytes.len();
-        match calls::format(bytes, length, slots) {
+    pub fn format(mut bytes: B, slots: usize) -> Result<Frame<B>, Refusal> {
+        let lent = bytes.as_mut();
+        match calls::format(lent, lent.len(), slots) {
             DONE => Ok(Frame { bytes }),
             refused => Err(Refusal::of_number(refused)),
         }
     }
 
-    /// Lends a frame that is there, if it is a good one.
-    pub fn open(bytes: &'a mut [u8]) -> Result<Frame<'a>, Refusal> {
-        check(bytes)?;
-        Ok(Frame { bytes })
+    /// Takes bytes that are a good frame. Others are dropped with a refusal: to keep them, [`check`] them and take them by
+    /// [`Frame::over`].
+    pub fn open(bytes: B) -> Result<Frame<B>, Refusal> {
+        check(bytes.as_ref())?;
+        Ok(Frame::over(bytes))
     }
 
-    /// Puts a record, new or in place of the one with this key.
+    /// Takes any bytes without looking at them: if they are not a good frame, each call says so.
+    pub fn over(bytes: B) -> Frame<B> {
+        Frame { bytes }
+    }
+
+    /// Puts a record, new or in place of the one with this key. With a value of another length the old one's bytes are not free
+    /// before the frame is packed.
     pub fn put(&mut self, key: &[u8], value: &[u8]) -> Result<Put, Refusal> {
-        match calls::put(self.bytes, key, value) {
+        match calls::put(self.bytes.as_mut(), key, value) {
             DONE => Ok(Put::New),
             REPLACED => Ok(Put::Replaced),
             refused => Err(Refusal::of_number(refused)),
         }
     }
 
-    /// Takes a record out. This can be refused for room: a smaller node or a longer prefix may be needed.
+    /// Takes a record out. This can be refused for room: a smaller node or a longer prefix may be needed. The record's bytes are
+    /// not overwritten; a packed frame does not have them.
     pub fn erase(&mut self, key: &[u8]) -> Result<Erase, Refusal> {
-        match calls::erase(self.bytes, key) {
+        match calls::erase(self.bytes.as_mut(), key) {
             DONE => Ok(Erase::Done),
             ABSENT => Ok(Erase::Absent),
             refused => Err(Refusal::of_number(refused)),
@@ -204,7 +230,7 @@ impl<'a> Frame<'a> {
 
     /// The same frame, to read.
     pub fn view(&self) -> View<'_> {
-        View { bytes: self.bytes }
+        View::over(self.bytes.as_ref())
     }
 
     /// The value of a key, as a part of the frame.
@@ -218,18 +244,24 @@ impl<'a> Frame<'a> {
     }
 
     /// Writes the packed image of the records to `out`; see [`View::pack`]. This frame stays as it is.
-    pub fn pack<'b>(&self, out: &'b mut [u8]) -> Result<Frame<'b>, Refusal> {
+    pub fn pack<O: AsMut<[u8]>>(&self, out: O) -> Result<Frame<O>, Refusal> {
         self.view().pack(out)
     }
 
     /// The frame's bytes, to be stored.
     pub fn bytes(&self) -> &[u8] {
-        self.bytes
+        self.bytes.as_ref()
     }
 
-    /// Gives the lent bytes back.
-    pub fn into_bytes(self) -> &'a mut [u8] {
+    /// Gives the bytes back.
+    pub fn into_bytes(self) -> B {
         self.bytes
+    }
+}
+
+impl<B: AsRef<[u8]>> fmt::Debug for Frame<B> {
+    fn fmt(&self, to: &mut fmt::Formatter<'_>) -> fmt::Result {
+        write!(to, "Frame of {} bytes", self.bytes.as_ref().len())
     }
 }
 

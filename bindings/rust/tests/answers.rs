@@ -6,7 +6,7 @@ use frame_store::{check, Erase, Frame, Put, Refusal, View};
 const F: usize = 1_024;
 const N: usize = 8;
 
-fn empty(bytes: &mut [u8]) -> Frame<'_> {
+fn empty(bytes: &mut [u8]) -> Frame<&mut [u8]> {
     Frame::format(bytes, N).expect("F and N are within the limits")
 }
 
@@ -21,9 +21,10 @@ fn format_and_open() {
     assert_eq!(check(&bytes), Ok(()));
     assert_eq!(check(&bytes[..F - 8]), Err(Refusal::Length));
     assert!(Frame::open(&mut bytes).is_ok());
-    bytes[20] = 2;
-    assert_eq!(check(&bytes), Err(Refusal::Frame));
-    assert_eq!(View::open(&bytes).err(), Some(Refusal::Frame));
+    assert_eq!(check(&no_good_frame()), Err(Refusal::Frame));
+    assert_eq!(View::open(&no_good_frame()).err(), Some(Refusal::Frame));
+    assert_eq!(check(&[0; F]), Err(Refusal::Length), "blank bytes hold no F");
+    assert_eq!(check(&[0xFF; F]), Err(Refusal::Length), "blank flash holds no F");
 }
 
 #[test]
@@ -47,6 +48,52 @@ fn put_look_up_and_erase() -> Result<(), Refusal> {
     empty(&mut fresh);
     assert_eq!(frame.into_bytes(), &fresh[..], "the last erase leaves what format leaves");
     Ok(())
+}
+
+/// A frame beside its bytes, which a device keeps as long as it runs.
+#[derive(Debug)]
+struct Device {
+    settings: Frame<Box<[u8]>>,
+}
+
+#[test]
+fn a_frame_stands_in_whatever_lends_bytes() -> Result<(), Refusal> {
+    let mut array = Frame::format([0; F], N)?;
+    array.put(b"a", b"1")?;
+    let copied = array;
+    array.put(b"a", b"2")?;
+    let packed = copied.pack(vec![0; F])?;
+    let mut moved = Device { settings: packed.pack(vec![0; F].into_boxed_slice())? };
+    moved.settings.put(b"b", b"3")?;
+    let device = moved;
+    assert_eq!(array.look_up(b"a")?, Some(&b"2"[..]));
+    assert_eq!(packed.look_up(b"a")?, Some(&b"1"[..]));
+    assert_eq!(device.settings.look_up(b"b")?, Some(&b"3"[..]));
+    let stored: Vec<u8> = packed.into_bytes();
+    assert_eq!(Frame::open(stored)?.erase(b"a")?, Erase::Done);
+    assert_eq!(format!("{device:?}"), "Device { settings: Frame of 1024 bytes }");
+    assert_eq!(format!("{:?}", device.settings.view()), "View of 1024 bytes");
+    Ok(())
+}
+
+#[test]
+fn bytes_that_were_not_looked_at_are_refused_by_each_call() {
+    for (bytes, refusal) in [([7; F], Refusal::Length), (no_good_frame(), Refusal::Frame)] {
+        let mut frame = Frame::over(bytes);
+        assert_eq!(frame.put(b"a", b"1"), Err(refusal));
+        assert_eq!(frame.erase(b"a"), Err(refusal));
+        assert_eq!(frame.look_up(b"a"), Err(refusal));
+        assert_eq!(View::over(&bytes).place(b"a"), Err(refusal));
+        assert_eq!(frame.pack([0; F]).err(), Some(refusal));
+        assert_eq!(frame.into_bytes(), bytes);
+    }
+}
+
+fn no_good_frame() -> [u8; F] {
+    let mut bytes = [0; F];
+    empty(&mut bytes);
+    bytes[20] = 2;
+    bytes
 }
 
 #[test]

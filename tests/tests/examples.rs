@@ -1,0 +1,216 @@
+//! The C header and the examples in C and Rust, compiled and run against the
+//! archive; the settings files of both through torn and damaged saves.
+
+use std::fs;
+use std::path::{Path, PathBuf};
+use std::process::{Command, Output};
+use std::sync::LazyLock;
+
+/// Where the bindings found the archive.
+const ARCHIVE: &str = env!("FRAME_ARCHIVE");
+/// Names the compiler, if it is not `cc`.
+const COMPILER_VARIABLE: &str = "CC";
+
+fn root() -> PathBuf {
+    PathBuf::from(env!("CARGO_MANIFEST_DIR")).join("..")
+}
+
+fn compile(words: &[&str], from: &Path) -> Output {
+    let compiler = std::env::var(COMPILER_VARIABLE).unwrap_or_else(|_| "cc".to_string());
+    let include = root().join("include");
+    let strict = ["-std=c99", "-Wall", "-Wextra", "-Werror", "-pedantic"];
+    let mut command = Command::new(&compiler);
+    command.args(strict).arg("-I").arg(include).arg(from).args(words);
+    command.output().unwrap_or_else(|error| {
+        panic!("no C compiler: `{compiler}`: {error}; let {COMPILER_VARIABLE} name one")
+    })
+}
+
+fn told(output: &Output) -> String {
+    String::from_utf8_lossy(&output.stderr).into_owned()
+}
+
+#[test]
+fn the_header_is_plain_c() {
+    let header = root().join("include/frame_store.h");
+    let compiled = compile(&["-fsyntax-only", "-x", "c"], &header);
+    assert!(compiled.status.success(), "{}", told(&compiled));
+}
+
+fn built(example: &str) -> PathBuf {
+    let source = root().join("examples/c").join(example).with_extension("c");
+    let program = scratch(example);
+    let words = [ARCHIVE, "-o", program.to_str().expect("a path")];
+    let compiled = compile(&words, &source);
+    assert!(compiled.status.success(), "{}", told(&compiled));
+    program
+}
+
+fn scratch(name: &str) -> PathBuf {
+    Path::new(env!("CARGO_TARGET_TMPDIR")).join(name)
+}
+
+#[test]
+fn the_example_writes_what_is_stored() {
+    let ran = Command::new(built("example")).output().expect("the example starts");
+    assert!(ran.status.success(), "{}", told(&ran));
+    let stored = fs::read_to_string(root().join("examples/c/stdout")).expect("stdout is stored");
+    assert_eq!(String::from_utf8_lossy(&ran.stdout), stored);
+}
+
+/// How the settings programs end.
+const DONE: i32 = 0;
+const ABSENT: i32 = 1;
+const REFUSED: i32 = 2;
+const NONE_STANDS: i32 = 3;
+
+/// A counter, a frame and a checksum.
+const GENERATION: usize = 8 + 2_048 + 4;
+
+/// A settings program and the file that it keeps.
+struct Settings {
+    program: PathBuf,
+    file: PathBuf,
+}
+
+impl Settings {
+    fn new(program: PathBuf, test: &str) -> Settings {
+        let file = program.file_name().expect("a program has a name").to_string_lossy();
+        let file = scratch(&format!("{file}.{test}"));
+        fs::write(&file, b"").expect("the file can be made");
+        Settings { program, file }
+    }
+
+    fn both(test: &str) -> [Settings; 2] {
+        static IN_C: LazyLock<PathBuf> = LazyLock::new(|| built("settings"));
+        [IN_C.clone(), PathBuf::from(env!("CARGO_BIN_EXE_settings_file"))]
+            .map(|program| Settings::new(program, test))
+    }
+
+    fn run(&self, words: &[&str]) -> (i32, String) {
+        let ran = Command::new(&self.program).arg(&self.file).args(words).output();
+        let ran = ran.expect("the program starts");
+        let ended = ran.status.code().expect("the program ends by itself");
+        (ended, String::from_utf8_lossy(&ran.stdout).into_owned())
+    }
+
+    fn does(&self, words: &[&str]) {
+        assert_eq!(self.run(words), (DONE, String::new()), "{words:?}");
+    }
+
+    fn get(&self, key: &str) -> (i32, String) {
+        self.run(&["get", key])
+    }
+
+    fn bytes(&self) -> Vec<u8> {
+        fs::read(&self.file).expect("the file can be read")
+    }
+
+    fn holding(&self, bytes: &[u8]) -> &Settings {
+        fs::write(&self.file, bytes).expect("the file can be written");
+        self
+    }
+
+    /// A file with `old` in its first generation and `new` in its second, and
+    /// the file before `new` was saved.
+    fn saved_over(&self) -> (Vec<u8>, Vec<u8>) {
+        self.does(&["init"]);
+        self.does(&["set", "rate", "oldest"]);
+        self.does(&["set", "rate", "old"]);
+        let before = self.bytes();
+        self.does(&["set", "rate", "new"]);
+        (before, self.bytes())
+    }
+}
+
+fn value(text: &str) -> (i32, String) {
+    (DONE, format!("{text}\n"))
+}
+
+#[test]
+fn settings_are_set_deleted_and_compacted() {
+    let files = Settings::both("changes").map(|settings| {
+        assert_eq!(settings.get("a"), (NONE_STANDS, String::new()));
+        settings.does(&["init"]);
+        assert_eq!(settings.run(&["init"]).0, REFUSED, "never over settings that stand");
+        settings.does(&["set", "line.rate", "100"]);
+        settings.does(&["set", "line.mode", "vdsl"]);
+        settings.does(&["set", "line.rate", "50000"]);
+        assert_eq!(settings.get("line.rate"), value("50000"));
+        settings.does(&["delete", "line.mode"]);
+        assert_eq!(settings.get("line.mode"), (ABSENT, String::new()));
+        assert_eq!(settings.run(&["delete", "line.mode"]).0, ABSENT);
+        assert_eq!(settings.run(&["set", "", "1"]).0, REFUSED);
+        settings.does(&["compact"]);
+        assert_eq!(settings.get("line.rate"), value("50000"));
+        settings.bytes()
+    });
+    assert_eq!(files[0].len(), 2 * GENERATION);
+    assert!(files[0] == files[1], "both programs keep the same file");
+}
+
+#[test]
+fn a_full_frame_is_packed_and_the_change_tried_again() {
+    for settings in Settings::both("full") {
+        settings.does(&["init"]);
+        for round in 0..200 {
+            // Every value is longer or shorter than the last, and leaves it dead.
+            let text = "v".repeat(1 + round % 90);
+            settings.does(&["set", "rate", &text]);
+            assert_eq!(settings.get("rate"), value(&text), "round {round}");
+        }
+        let before = settings.bytes();
+        assert_eq!(settings.run(&["set", "rate", &"v".repeat(2_000)]).0, REFUSED);
+        assert!(settings.bytes() == before, "what is refused is not saved");
+    }
+}
+
+#[test]
+fn a_torn_save_leaves_the_settings_before_it() {
+    for settings in Settings::both("torn") {
+        let (before, after) = settings.saved_over();
+        assert_eq!(before[..GENERATION], after[..GENERATION], "the save is of the second one");
+        for written in 0..=GENERATION {
+            let cut = GENERATION + written;
+            let torn = [&after[..cut], &before[cut..]].concat();
+            let expected = if torn == after { "new" } else { "old" };
+            assert_eq!(settings.holding(&torn).get("rate"), value(expected), "{written} bytes");
+        }
+        let cut = GENERATION + 1_000;
+        settings.holding(&[&after[..cut], &before[cut..]].concat());
+        settings.does(&["set", "rate", "newer"]);
+        assert_eq!(settings.get("rate"), value("newer"));
+        assert!(settings.bytes()[..GENERATION] == after[..GENERATION], "what stood still stands");
+    }
+}
+
+#[test]
+fn a_file_cut_at_any_length_gives_what_stands_or_nothing() {
+    for settings in Settings::both("cut") {
+        let (_, after) = settings.saved_over();
+        for length in 0..=after.len() {
+            let expected = match length / GENERATION {
+                0 => (NONE_STANDS, String::new()),
+                1 => value("old"),
+                _ => value("new"),
+            };
+            assert_eq!(settings.holding(&after[..length]).get("rate"), expected, "{length} bytes");
+        }
+        settings.holding(&after[..100]);
+        assert_eq!(settings.run(&["set", "rate", "1"]).0, NONE_STANDS);
+        assert!(settings.bytes() == after[..100], "nothing is made anew unasked");
+    }
+}
+
+#[test]
+fn a_damaged_generation_is_left_for_the_other() {
+    for settings in Settings::both("damaged") {
+        let (_, after) = settings.saved_over();
+        for at in 0..after.len() {
+            let mut damaged = after.clone();
+            damaged[at] ^= 1 << (at % 8);
+            let expected = if at < GENERATION { "new" } else { "old" };
+            assert_eq!(settings.holding(&damaged).get("rate"), value(expected), "byte {at}");
+        }
+    }
+}
