@@ -50,6 +50,9 @@
 extern "C" {
 #endif
 
+/* A length in bytes, or a count: 64 bits on every machine, where a pointer has 32 as well. */
+typedef uint64_t frame_length;
+
 enum {
     FRAME_DONE = 0,
     FRAME_BAD_LENGTH = 1,
@@ -64,10 +67,10 @@ enum {
 };
 
 /* Makes an empty frame of f bytes with n slots out of whatever stands there. frame_len is f. Gives 0 or 1. */
-uint32_t frame_format(uint8_t *frame, size_t frame_len, size_t f, size_t n);
+uint32_t frame_format(uint8_t *frame, frame_length frame_len, frame_length f, frame_length n);
 
 /* Gives 0 for a good frame, else 1 or 2. Reads only. */
-uint32_t frame_check(const uint8_t *frame, size_t frame_len);
+uint32_t frame_check(const uint8_t *frame, frame_length frame_len);
 
 /*
  * Finds a record. Gives 0, 8, or a refusal of 1 to 4. Reads only.
@@ -75,21 +78,23 @@ uint32_t frame_check(const uint8_t *frame, size_t frame_len);
  * frame's start, and place_and_len[1] is its length; 8 sets both to 0. If the call is refused, or two is not 2, nothing is written
  * there. The value is frame + place_and_len[0]; it stands there until the next put or erase.
  */
-uint32_t frame_look_up(const uint8_t *frame, size_t frame_len, const uint8_t *key, size_t key_len,
-                       uint64_t *place_and_len, size_t two);
+uint32_t frame_look_up(const uint8_t *frame, frame_length frame_len, const uint8_t *key, frame_length key_len,
+                       uint64_t *place_and_len, frame_length two);
 
-/* The same, with no count to get wrong. Place and length are 0 with any number but 0. */
+/* The same, with no count to get wrong: 8 sets place and length to 0, and a refused call leaves them as they are. */
 struct frame_found {
     uint64_t place;
     uint64_t length;
 };
 
-static inline uint32_t frame_find(const uint8_t *frame, size_t frame_len, const uint8_t *key, size_t key_len,
+static inline uint32_t frame_find(const uint8_t *frame, frame_length frame_len, const uint8_t *key, frame_length key_len,
                                   struct frame_found *found) {
     uint64_t place_and_len[2] = {0, 0};
     uint32_t given = frame_look_up(frame, frame_len, key, key_len, place_and_len, 2);
-    found->place = place_and_len[0];
-    found->length = place_and_len[1];
+    if (given == 0 || given == 8) {
+        found->place = place_and_len[0];
+        found->length = place_and_len[1];
+    }
     return given;
 }
 
@@ -98,18 +103,18 @@ static inline uint32_t frame_find(const uint8_t *frame, size_t frame_len, const 
  * frame: a value that was found in it is copied out before it is put under another key. A value of another length needs room beside
  * the old one, even if it is shorter; the old one's bytes are free only after a pack.
  */
-uint32_t frame_put(uint8_t *frame, size_t frame_len, const uint8_t *key, size_t key_len, const uint8_t *value,
-                   size_t value_len);
+uint32_t frame_put(uint8_t *frame, frame_length frame_len, const uint8_t *key, frame_length key_len, const uint8_t *value,
+                   frame_length value_len);
 
 /* Takes a record out. Gives 0, 8, or a refusal of 1 to 4 or 6: an erase can need room, for a smaller node or a longer prefix. */
-uint32_t frame_erase(uint8_t *frame, size_t frame_len, const uint8_t *key, size_t key_len);
+uint32_t frame_erase(uint8_t *frame, frame_length frame_len, const uint8_t *key, frame_length key_len);
 
 /*
  * Writes the packed image of the frame's records to out: one string of bytes for one set of records, F and N, whatever the order
  * of the calls that led there; itself a good frame, with all room that can be had given back. out_len is frame_len, else 7.
  * Gives 0, 1, 2 or 7, and never 6. The frame is only read.
  */
-uint32_t frame_pack(const uint8_t *frame, size_t frame_len, uint8_t *out, size_t out_len);
+uint32_t frame_pack(const uint8_t *frame, frame_length frame_len, uint8_t *out, frame_length out_len);
 
 #ifdef __cplusplus
 }

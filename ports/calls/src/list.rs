@@ -1,0 +1,197 @@
+//! The list of calls as `runner.c` and `runner.js` read it: where lent bytes stand, and one line for each command.
+
+use crate::random::Random;
+use std::fmt::{Display, Write};
+
+/// Bytes of the runner's arena.
+#[derive(Clone, Copy)]
+pub struct Bytes {
+    pub at: usize,
+    pub length: usize,
+}
+
+pub const LONGEST_FRAME: usize = 524_288;
+pub const LONGEST_VALUE: usize = 65_535;
+pub const LONGEST_KEY: usize = 112;
+/// A look-up writes its numbers only if it is lent so many.
+pub const LOOK_UP_NUMBERS: usize = 2;
+
+// Room for the longest thing that stands there, for an odd place, and for what the runner looks at beyond its ends.
+const BESIDE: usize = 64;
+const FRAME_AT: usize = BESIDE;
+const OUT_AT: usize = FRAME_AT + LONGEST_FRAME + BESIDE;
+const KEPT_AT: usize = OUT_AT + LONGEST_FRAME + BESIDE;
+const KEY_AT: usize = KEPT_AT + LONGEST_FRAME + BESIDE;
+const VALUE_AT: usize = KEY_AT + 256 + BESIDE;
+const END: usize = VALUE_AT + LONGEST_VALUE + 1 + BESIDE;
+const NUMBERS_AT: usize = (END + BESIDE) / 8 * 8;
+
+const DIRT: u8 = 0xA5;
+
+/// A value by its length and by what its bytes are made from.
+#[derive(Clone, Copy)]
+pub struct Value {
+    pub length: usize,
+    pub seed: u32,
+}
+
+/// The list, and the frame that its calls are about.
+pub struct List {
+    text: String,
+    frame: Bytes,
+    /// How far from a multiple of 8 each lent buffer stands: frame, output, key, value.
+    odd: [usize; 4],
+}
+
+impl List {
+    pub fn new() -> List {
+        List { text: String::new(), frame: Bytes { at: FRAME_AT, length: 0 }, odd: [0; 4] }
+    }
+
+    pub fn text(self) -> String {
+        self.text
+    }
+
+    fn line(&mut self, line: impl Display) {
+        writeln!(self.text, "{line}").expect("a string takes every line");
+    }
+
+    pub fn command(&mut self, command: &str) {
+        self.line(command);
+    }
+
+    /// Ends what was before with a hash of the whole arena; then new places, and bytes of any kind in a frame of another length.
+    pub fn scene(&mut self, name: &str, odd: [usize; 4], length: usize) {
+        self.line(format_args!("hash {FRAME_AT} {}", END - FRAME_AT));
+        self.line(format_args!("scene {name}"));
+        self.odd = odd;
+        self.frame = Bytes { at: FRAME_AT + odd[0], length };
+        let seed = Random::new(length as u64).seed();
+        self.random(self.frame, seed);
+        let out = self.out(length);
+        self.random(out, seed ^ 2);
+    }
+
+    pub fn frame(&self) -> Bytes {
+        self.frame
+    }
+
+    pub fn out(&self, length: usize) -> Bytes {
+        Bytes { at: OUT_AT + self.odd[1], length }
+    }
+
+    pub fn random(&mut self, bytes: Bytes, seed: u32) {
+        self.line(format_args!("random {} {} {seed}", bytes.at, bytes.length));
+    }
+
+    pub fn set(&mut self, at: usize, bytes: &[u8]) {
+        if bytes.is_empty() {
+            return;
+        }
+        let hex: String = bytes.iter().map(|byte| format!("{byte:02x}")).collect();
+        self.line(format_args!("bytes {at} {hex}"));
+    }
+
+    /// Keeps the frame as it stands, to come back to it.
+    pub fn keep(&mut self) {
+        let Bytes { at, length } = self.frame;
+        self.line(format_args!("copy {at} {KEPT_AT} {length}"));
+    }
+
+    pub fn restore(&mut self) {
+        let Bytes { at, length } = self.frame;
+        self.line(format_args!("copy {KEPT_AT} {at} {length}"));
+    }
+
+    pub fn flip(&mut self, place: usize, mask: u8) {
+        let at = self.frame.at + place;
+        self.line(format_args!("flip {at} {mask}"));
+    }
+
+    /// Goes on with what the last packing has written.
+    pub fn take_packed(&mut self) {
+        let Bytes { at, length } = self.frame;
+        let out = self.out(length);
+        self.line(format_args!("copy {} {at} {length}", out.at));
+    }
+
+    fn key(&mut self, key: &[u8]) -> Bytes {
+        let lent = Bytes { at: KEY_AT + self.odd[2], length: key.len() };
+        self.set(lent.at, key);
+        lent
+    }
+
+    fn lent(bytes: Bytes) -> String {
+        format!("{}:{}", bytes.at, bytes.length)
+    }
+
+    // One function for each exported call, over any bytes.
+
+    pub fn format_of(&mut self, frame: Bytes, f: u64, n: u64) {
+        self.line(format_args!("call frame_format {} ={f} ={n}", List::lent(frame)));
+    }
+
+    pub fn check_of(&mut self, frame: Bytes) {
+        self.line(format_args!("call frame_check {}", List::lent(frame)));
+    }
+
+    pub fn look_up_of(&mut self, frame: Bytes, key: &[u8], numbers: usize) {
+        let key = self.key(key);
+        self.line(format_args!("fill {} {} {DIRT}", NUMBERS_AT - 8, (numbers + 2) * 8));
+        let (frame, key) = (List::lent(frame), List::lent(key));
+        self.line(format_args!("call frame_look_up {frame} {key} {NUMBERS_AT}*{numbers}"));
+    }
+
+    pub fn put_of(&mut self, frame: Bytes, key: &[u8], value: Value) {
+        let key = self.key(key);
+        let lent = Bytes { at: VALUE_AT + self.odd[3], length: value.length };
+        self.random(lent, value.seed);
+        let (frame, key, value) = (List::lent(frame), List::lent(key), List::lent(lent));
+        self.line(format_args!("call frame_put {frame} {key} {value}"));
+    }
+
+    pub fn erase_of(&mut self, frame: Bytes, key: &[u8]) {
+        let key = self.key(key);
+        self.line(format_args!("call frame_erase {} {}", List::lent(frame), List::lent(key)));
+    }
+
+    pub fn pack_of(&mut self, frame: Bytes, out: Bytes) {
+        self.line(format_args!("call frame_pack {} {}", List::lent(frame), List::lent(out)));
+    }
+
+    // The same over the scene's own frame.
+
+    pub fn format(&mut self, n: usize) {
+        self.format_of(self.frame, self.frame.length as u64, n as u64);
+    }
+
+    pub fn check(&mut self) {
+        self.check_of(self.frame);
+    }
+
+    pub fn look_up(&mut self, key: &[u8]) {
+        self.look_up_of(self.frame, key, LOOK_UP_NUMBERS);
+    }
+
+    pub fn put(&mut self, key: &[u8], value: Value) {
+        self.put_of(self.frame, key, value);
+    }
+
+    pub fn erase(&mut self, key: &[u8]) {
+        self.erase_of(self.frame, key);
+    }
+
+    pub fn pack(&mut self) {
+        self.pack_of(self.frame, self.out(self.frame.length));
+    }
+
+    /// Every call that may meet a frame that is not good, and the frame again as it was kept.
+    pub fn every_call(&mut self, key: &[u8], value: Value) {
+        self.check();
+        self.look_up(key);
+        self.pack();
+        self.put(key, value);
+        self.erase(key);
+        self.restore();
+    }
+}

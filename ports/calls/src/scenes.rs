@@ -1,0 +1,378 @@
+//! What the list has calls for. Believed here: nothing but that these calls are worth making.
+//!
+//! A history does not know what its calls give: keys come from few enough that they meet again, and frames are tight enough that room
+//! runs out. Which answers a run must have met stands in `ports/answers.txt`.
+
+use crate::list::{Bytes, List, Value, LONGEST_FRAME, LONGEST_KEY, LONGEST_VALUE, LOOK_UP_NUMBERS};
+use crate::random::Random;
+
+const SHORTEST_FRAME: usize = 1_024;
+const MOST_SLOTS: usize = 10_240;
+const NONE: Value = Value { length: 0, seed: 1 };
+
+/// How keys of one history look.
+enum Keys {
+    /// Any bytes of these, up to a length.
+    Few { letters: &'static [u8], longest: usize },
+    /// A long common beginning, cut anywhere, and a few bytes more.
+    LongBeginning,
+    /// One or two bytes of all.
+    Wide,
+    /// As settings are called.
+    Text,
+}
+
+impl Keys {
+    fn key(&self, random: &mut Random) -> Vec<u8> {
+        match self {
+            Keys::Few { letters, longest } => {
+                let length = random.between(1, *longest);
+                (0..length).map(|_| letters[random.below(letters.len())]).collect()
+            }
+            Keys::LongBeginning => {
+                let start = [0, 1, 20, 50, 51, 52, 100, 110, 111][random.below(9)];
+                let mut key = vec![b'p'; start];
+                let more = random.between(1, 4).min(LONGEST_KEY - start);
+                key.extend((0..more).map(|_| b"pqr"[random.below(3)]));
+                key
+            }
+            Keys::Wide => match random.below(8) {
+                0 => vec![b'm'],
+                1 => vec![random.key_byte()],
+                _ => vec![b'm', random.key_byte()],
+            },
+            Keys::Text => {
+                let group = random.pick(&["line", "profile", "subscriber", "firmware"]);
+                let field = random.pick(&["rate", "mode", "margin", "name", "delay"]);
+                format!("{group}.{}.{field}", random.below(12)).into_bytes()
+            }
+        }
+    }
+}
+
+fn small_value(random: &mut Random) -> Value {
+    let length = if random.one_in(4) { random.below(60) } else { random.below(9) };
+    Value { length, seed: random.seed() }
+}
+
+/// Puts and erases at random, more of the ones or of the others in turn, with look-ups, checks and packings between them.
+fn history(list: &mut List, random: &mut Random, keys: &Keys, steps: usize) {
+    let wide = matches!(keys, Keys::Wide);
+    for step in 0..steps {
+        let shrinking = step * 4 / steps % 2 == 1;
+        let key = match random.below(60) {
+            0 => random.pick::<[u8]>(&[b"", b"a\0b", &[b'p'; 113], &[0; 200]]).to_vec(),
+            _ => keys.key(random),
+        };
+        if random.below(10) < if shrinking { 2 } else { 8 } {
+            let value = if wide { NONE } else { small_value(random) };
+            list.put(&key, value);
+        } else {
+            list.erase(&key);
+        }
+        match random.below(16) {
+            0 => list.check(),
+            1 | 2 => list.look_up(&key),
+            3 => {
+                list.pack();
+                if random.one_in(2) {
+                    list.take_packed();
+                }
+            }
+            _ => {}
+        }
+    }
+    list.pack();
+}
+
+fn odd(random: &mut Random) -> [usize; 4] {
+    [0; 4].map(|_| random.below(8))
+}
+
+/// Every refusal, alone and with others behind it in the order.
+fn refusals(list: &mut List) {
+    const F: usize = SHORTEST_FRAME;
+    list.scene("refusals", [0; 4], F);
+    let frame = list.frame();
+    let long = |length: usize| Bytes { at: frame.at, length };
+    let high = 1_u64 << 32;
+    for (f, n) in [
+        (F as u64, 8),
+        (F as u64, 7),
+        (F as u64, 9),
+        (F as u64, 6),
+        (F as u64, 238),
+        (F as u64, 240),
+        (F as u64, 0),
+        (F as u64 + 8, 8),
+        (0, 8),
+        (F as u64, u64::MAX),
+        (u64::MAX, 8),
+        // Lengths have 64 bits where a pointer has 32.
+        (F as u64 + high, 8),
+        (F as u64, 8 + high),
+        (high, high),
+        (F as u64, 8 + (1 << 63)),
+    ] {
+        list.format_of(frame, f, n);
+    }
+    for length in [0, 8, 64, 1_016, 1_023, 1_025, 1_032, LONGEST_FRAME] {
+        list.format_of(long(length), length as u64, 8);
+        list.format(8);
+        list.keep();
+        list.check_of(long(length));
+        list.look_up_of(long(length), b"", LOOK_UP_NUMBERS);
+        list.put_of(long(length), b"", Value { length: LONGEST_VALUE + 1, seed: 5 });
+        list.erase_of(long(length), b"a\0");
+        let out = list.out(8);
+        list.pack_of(long(length), out);
+    }
+    list.format(8);
+    list.put(b"a", Value { length: 3, seed: 7 });
+    list.keep();
+    let refused: [&[u8]; 6] = [b"", &[b'k'; 113], &[0; 113], b"\0", b"a\0", b"\0a"];
+    for key in refused {
+        list.every_call(key, Value { length: LONGEST_VALUE + 1, seed: 9 });
+    }
+    for length in [LONGEST_VALUE + 1, LONGEST_VALUE, 32_768, 32_767, 1_000] {
+        list.put(b"b", Value { length, seed: 11 });
+    }
+    for numbers in [0, 1, 2, 3, 4] {
+        list.look_up_of(frame, b"a", numbers);
+        list.look_up_of(frame, b"b", numbers);
+    }
+    for length in [0, 8, 1_023, 1_025, 1_032] {
+        let out = list.out(length);
+        list.pack_of(frame, out);
+    }
+    // Not good, with all that comes later in the order.
+    list.flip(4, 1);
+    list.keep();
+    for key in refused {
+        list.every_call(key, Value { length: LONGEST_VALUE + 1, seed: 13 });
+    }
+}
+
+fn histories(list: &mut List) {
+    let mut random = Random::new(1);
+    for (name, keys, f, n, steps) in [
+        ("history, two letters", Keys::Few { letters: b"ab", longest: 6 }, 4_096, 100, 600),
+        ("history, three letters", Keys::Few { letters: b"abc", longest: 40 }, 8_192, 64, 400),
+        ("history, long beginnings", Keys::LongBeginning, 8_192, 100, 600),
+        ("history, wide nodes", Keys::Wide, 16_384, 700, 1_600),
+        (
+            "history, low and high bytes",
+            Keys::Few { letters: b"a\xff\x01", longest: 3 },
+            1_024,
+            20,
+            600,
+        ),
+        ("history, settings", Keys::Text, 16_384, 600, 1_200),
+        ("history, 65,536 bytes", Keys::Text, 65_536, 2_000, 200),
+    ] {
+        let odd = odd(&mut random);
+        list.scene(name, odd, f);
+        list.format(n);
+        history(list, &mut random, &keys, steps);
+    }
+}
+
+/// Frames in which slots or bytes run out, at every distance from a multiple of 8.
+fn tight(list: &mut List) {
+    for round in 0..32 {
+        let mut random = Random::new(100 + round as u64);
+        let n = [8, 10, 12, 16, 20, 40, 200, 230][round / 4];
+        let keys = match round % 4 {
+            0 => Keys::Few { letters: b"ab", longest: 4 },
+            1 => Keys::LongBeginning,
+            2 => Keys::Few { letters: b"abcdefghijklmnopqrstuvwxyz", longest: 1 },
+            _ => Keys::Few { letters: b"xyz", longest: 12 },
+        };
+        let at = round % 8;
+        list.scene("tight", [at, (at + 3) % 8, (at + 5) % 8, (at + 7) % 8], SHORTEST_FRAME);
+        list.format(n);
+        history(list, &mut random, &keys, 110);
+    }
+}
+
+/// One node through every kind, up and down, in both orders of bytes.
+fn kinds(list: &mut List) {
+    list.scene("kinds", [1, 2, 3, 4], 16_384);
+    list.format(600);
+    for byte in 1..=255_u8 {
+        list.put(&[b'n', byte], NONE);
+    }
+    list.pack();
+    for byte in (1..=255_u8).rev() {
+        list.erase(&[b'n', byte]);
+        if byte % 16 == 5 {
+            list.check();
+            list.look_up(&[b'n', byte - 1]);
+        }
+    }
+}
+
+/// Values of 32,767, 32,768 and 65,535 bytes and beside, in frames that hold several, one or none; the longest keys.
+fn long_values(list: &mut List) {
+    const LENGTHS: [usize; 7] = [32_766, 32_767, 32_768, 32_769, 65_534, 65_535, 65_536];
+    for (f, at) in [(LONGEST_FRAME, 0), (32_896, 3), (65_664, 5)] {
+        list.scene("long values", [at, at / 2, at + 1, at + 2], f);
+        list.format(16);
+        for (place, length) in LENGTHS.into_iter().enumerate() {
+            let key = vec![b'k'; if place % 2 == 0 { 1 } else { LONGEST_KEY }];
+            list.put(&key, Value { length, seed: 17 + length as u32 });
+            list.look_up(&key);
+        }
+        list.check();
+        list.pack();
+        list.take_packed();
+        list.put(b"k", Value { length: 32_768, seed: 19 });
+        list.erase(&[b'k'; LONGEST_KEY]);
+        list.put(b"k", Value { length: 32_768, seed: 23 });
+        list.look_up(b"k");
+        list.erase(b"k");
+    }
+}
+
+/// The longest frame with the most slots.
+fn longest(list: &mut List) {
+    let mut random = Random::new(3);
+    list.scene("the longest frame", [0, 1, 2, 3], LONGEST_FRAME);
+    list.format(MOST_SLOTS);
+    history(list, &mut random, &Keys::Text, 24);
+    list.format(MOST_SLOTS + 2);
+    list.check();
+}
+
+/// A good frame with one byte changed, and each call on it.
+fn damaged(list: &mut List) {
+    const SMALL: [&[u8]; 6] = [b"long", b"lose", b"loss", b"lost", b"l", b"m"];
+    list.scene("damaged, 1,024 bytes", [5, 1, 0, 0], SHORTEST_FRAME);
+    list.format(20);
+    for key in SMALL {
+        list.put(key, Value { length: 1, seed: 29 });
+    }
+    list.erase(b"loss");
+    list.erase(b"m");
+    list.keep();
+    let mut random = Random::new(4);
+    for place in 0..440 {
+        let masks: &[u8] = if place < 64 { &[1, 0x80] } else { &[1] };
+        for mask in masks {
+            list.flip(place, *mask);
+            list.every_call(b"lost", Value { length: 2, seed: 31 });
+        }
+    }
+    list.scene("damaged, every kind", [2, 0, 1, 1], 8_192);
+    list.format(200);
+    for byte in 1..=60_u8 {
+        list.put(&[b'n', byte], Value { length: 2, seed: 37 });
+        if byte <= 30 {
+            list.put(&[b'o', b'o', byte], NONE);
+        }
+        if byte <= 10 {
+            list.put(&[b'p', byte, byte], NONE);
+        }
+    }
+    for byte in 1..=8_u8 {
+        list.erase(&[b'n', byte]);
+    }
+    list.keep();
+    for _ in 0..200 {
+        for _ in 0..random.between(1, 3) {
+            let place = if random.one_in(4) { random.below(864) } else { random.below(8_192) };
+            list.flip(place, 1 << random.below(8));
+        }
+        list.every_call(&[b'n', 40], Value { length: 3, seed: 41 });
+    }
+}
+
+/// Bytes of any kind.
+fn any_bytes(list: &mut List) {
+    let mut random = Random::new(5);
+    for round in 0..24 {
+        let length = if round % 3 == 0 { random.below(200) } else { random.between(128, 400) * 8 };
+        list.scene("any bytes", odd(&mut random), length);
+        if round % 3 == 2 {
+            // A header that could be one: edition 1 and F.
+            let at = list.frame().at;
+            list.set(at, &1_u32.to_le_bytes());
+            list.set(at + 4, &(length as u32).to_le_bytes());
+        }
+        list.keep();
+        list.every_call(b"key", Value { length: 5, seed: 43 });
+    }
+}
+
+/// What the machines are compared by.
+pub fn all(list: &mut List) {
+    refusals(list);
+    histories(list);
+    tight(list);
+    kinds(list);
+    long_values(list);
+    longest(list);
+    damaged(list);
+    any_bytes(list);
+    list.scene("the end", [0; 4], 8);
+}
+
+/// Trees as deep as a key is long: other keys leave the longest one after each byte, so that there is a node at each of its bytes.
+pub fn deepest(list: &mut List) {
+    const DOWN: u8 = b'z';
+    // Children of each node, and how many bytes from one to the next; for the widest there is not room down to the last byte.
+    for (children, distance, nodes) in
+        [(2, 1, 112), (2, 2, 56), (5, 1, 112), (17, 1, 112), (49, 1, 30)]
+    {
+        list.scene("deepest", [0; 4], LONGEST_FRAME);
+        list.command("write answers");
+        list.format(MOST_SLOTS);
+        list.put(&[DOWN; LONGEST_KEY], NONE);
+        for node in 0..nodes {
+            for byte in 1..children {
+                let mut key = vec![DOWN; (node + 1) * distance - 1];
+                key.push(byte);
+                list.put(&key, NONE);
+            }
+        }
+        list.command("write stack");
+        list.check();
+        list.look_up(&[DOWN; LONGEST_KEY]);
+        list.look_up(&[DOWN; LONGEST_KEY - 1]);
+        list.pack();
+        let mut aside = vec![DOWN; LONGEST_KEY - 1];
+        aside.push(children);
+        list.put(&aside, NONE);
+        list.put(&[DOWN; LONGEST_KEY], Value { length: 1, seed: 47 });
+        list.erase(&aside);
+        list.erase(&[DOWN; LONGEST_KEY]);
+        list.erase(&[DOWN; LONGEST_KEY]);
+    }
+}
+
+/// Each call many times over on one frame of settings, for its time.
+pub fn times(list: &mut List) {
+    let mut random = Random::new(6);
+    list.scene("times", [0; 4], 16_384);
+    list.command("write answers");
+    list.format(600);
+    for _ in 0..200 {
+        list.put(&Keys::Text.key(&mut random), Value { length: 8, seed: 53 });
+    }
+    list.pack();
+    list.take_packed();
+    list.put(b"line.rate", Value { length: 8, seed: 59 });
+    list.keep();
+    list.command("write time");
+    for _ in 0..200 {
+        list.check();
+        list.look_up(b"line.rate");
+        list.put(b"line.rate", Value { length: 8, seed: 61 });
+        list.erase(b"line.rate");
+        list.restore();
+        list.pack();
+    }
+    for _ in 0..200 {
+        list.format(600);
+    }
+}
