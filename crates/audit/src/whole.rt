@@ -4,6 +4,7 @@ use census::Sums;
 use census::freed::lists;
 use census::refused;
 use census::take;
+use fields::body::EmptyRoot;
 use fields::header::Header;
 use layout::entry::Entry;
 use layout::kind::Kind;
@@ -27,7 +28,7 @@ fn empty(f: &[u8], map: &mut [u64], o: usize, d: usize, u: usize, b: usize, t: S
     if !r.good {
         return refused();
     }
-    if !zero_eight(f, o) {
+    if !zero_eight(f, o + EmptyRoot::ZERO) {
         return refused();
     }
     r

@@ -341,9 +341,11 @@ impl Node256 {
     }
 }
 
-// Nothing but zeros.
 pub struct EmptyRoot;
 
 impl EmptyRoot {
+    // eight zero bytes
+    pub const ZERO: usize = 0;
+
     pub const SIZE: usize = kind::BODY_SIZES[Kind::EMPTY_ROOT];
 }
