@@ -1,6 +1,5 @@
 // The header of a packed frame.
 use fields::header::Header;
-use layout::entry::Entry;
 ghost use Prim.Native.Nat.{_≤_};
 ghost use lib.ListN.{length};
 ghost use Rattle.model.specs.Body.{Zero};
@@ -24,7 +23,7 @@ pub fn write(
     let header = Header {
         frame_length: frame_length,
         slot_capacity: capacity,
-        data_start: Header::SIZE + Entry::SIZE * capacity,
+        data_start: Header::data_start_of(capacity),
         next_byte: next_byte,
         slots_given: slots,
         records: records,
