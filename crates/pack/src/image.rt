@@ -2,7 +2,6 @@
 use crate::bodies::Next;
 use crate::walk;
 use fields::header::Header;
-use layout::entry::Entry;
 use node::moves;
 use pack_body::header;
 ghost use mathlib.Core.Path.{_≡_};
@@ -25,7 +24,7 @@ fn of_tree(f: &[u8], out: &mut [u8], capacity: usize, records: usize, root: usiz
     moves::clear(out, 0, bytes);
     let start = Next {
         slot: FIRST_SLOT,
-        place: Header::SIZE + Entry::SIZE * capacity,
+        place: Header::data_start_of(capacity),
     };
     let end = walk::tree(f, out, root, LONGEST_PATH, start);
     header::write(
