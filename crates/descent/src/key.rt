@@ -8,7 +8,7 @@ ghost use Rattle.model.specs.Edition.{edition1};
 
 const LONGEST: usize = 112;
 // the refusals of a key, by document 01's numbers
-pub const BAD_LENGTH: usize = 3;
+pub const BAD_KEY_LENGTH: usize = 3;
 
 const HOLDS_ZERO: usize = 4;
 
@@ -23,10 +23,10 @@ pub fn fault(key: &[u8]) -> usize
     ensures { λ r. ⌜ r ≡ edition1 .keyFault (now (key .entry)) ⌝ }
 {
     if key.len() == 0 {
-        return BAD_LENGTH;
+        return BAD_KEY_LENGTH;
     }
     if key.len() > LONGEST {
-        return BAD_LENGTH;
+        return BAD_KEY_LENGTH;
     }
     if has_zero(key) {
         return HOLDS_ZERO;

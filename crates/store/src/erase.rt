@@ -20,7 +20,7 @@ pub fn erase(frame: &mut [u8], key: &[u8]) -> Erase
         return Erase::Refused(Refusal::Frame);
     }
     let fault = key::fault(key);
-    if fault == key::BAD_LENGTH {
+    if fault == key::BAD_KEY_LENGTH {
         return Erase::Refused(Refusal::KeyLength);
     }
     if fault != 0 {

@@ -1,21 +1,13 @@
 // Format: "zeroes the frame, then sets slot 1 to an EmptyRoot at D".
 use answers::Format;
 use answers::Refusal;
+use fields::body::EmptyRoot;
 use fields::header::Header;
-use layout::entry::Entry;
 ghost use Rattle.answers.specs.Number.{formatNumber};
 ghost use Rattle.model.specs.Edition.{edition1};
 ghost use Rattle.model.specs.Promise.{FormatPromise};
 ghost use Rattle.pieces.specs.Decides.{Decides};
 ghost use Rattle.blank.specs.Limits.{Limits};
-
-const LEAST_LENGTH: usize = 1024;
-
-const MOST_LENGTH: usize = 524288;
-
-const LEAST_CAPACITY: usize = 8;
-
-const MOST_CAPACITY: usize = 10240;
 
 // "F or N against the limits (D + 8 above F among them)"
 fn limits_hold(length: usize, capacity: usize) -> bool
@@ -24,22 +16,22 @@ fn limits_hold(length: usize, capacity: usize) -> bool
     if length % 8 != 0 {
         return false;
     }
-    if length < LEAST_LENGTH {
+    if length < Header::LEAST_LENGTH {
         return false;
     }
-    if length > MOST_LENGTH {
+    if length > Header::MOST_LENGTH {
         return false;
     }
     if capacity % 2 != 0 {
         return false;
     }
-    if capacity < LEAST_CAPACITY {
+    if capacity < Header::LEAST_SLOTS {
         return false;
     }
-    if capacity > MOST_CAPACITY {
+    if capacity > Header::MOST_SLOTS {
         return false;
     }
-    if Header::SIZE + Entry::SIZE * capacity + 8 > length {
+    if Header::data_start_of(capacity) + EmptyRoot::SIZE > length {
         return false;
     }
     true

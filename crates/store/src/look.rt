@@ -37,7 +37,7 @@ pub fn look_up(frame: &[u8], key: &[u8]) -> LookUp
         return LookUp::Refused(Refusal::Frame);
     }
     let fault = key::fault(key);
-    if fault == key::BAD_LENGTH {
+    if fault == key::BAD_KEY_LENGTH {
         return LookUp::Refused(Refusal::KeyLength);
     }
     if fault != 0 {

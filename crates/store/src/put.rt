@@ -23,7 +23,7 @@ pub fn put(frame: &mut [u8], key: &[u8], value: &[u8]) -> Put
         return Put::Refused(Refusal::Frame);
     }
     let fault = key::fault(key);
-    if fault == key::BAD_LENGTH {
+    if fault == key::BAD_KEY_LENGTH {
         return Put::Refused(Refusal::KeyLength);
     }
     if fault != 0 {

@@ -23,14 +23,11 @@ returns-5 c = denied (λ h. omega arith)
 returns-6 : tie.Need-returns-6
 returns-6 c = denied (λ h. omega arith)
 
-mul-if7 : tie.Need-mul-if7
-mul-if7 c = search needs
+data-start-of-requires : tie.Need-data-start-of-requires
+data-start-of-requires c κs = search needs
 
 add-if7 : tie.Need-add-if7
 add-if7 c = search needs
-
-add-if7-2 : tie.Need-add-if7-2
-add-if7-2 c = search needs
 
 returns-7 : tie.Need-returns-7
 returns-7 c = denied (λ h. omega arith)
@@ -48,8 +45,7 @@ limits-hold-spec =
     returns-4
     returns-5
     returns-6
-    mul-if7
+    data-start-of-requires
     add-if7
-    add-if7-2
     returns-7
     returns-8)
