@@ -10,6 +10,7 @@ use borrow.Rule.Slice.PartMut.{putMid, midOf, postOf}
 use Rattle.layout.specs.Number.{byteAt}
 use Rattle.model.specs.Body.{Zero, Has}
 use Rattle.node.specs.Moved.{Only}
+use Rattle.room.specs.Step.{Pasted}
 
 module _ (a k : ℕ) (xs : List ℕ) (h : a + k ≤ length xs) where
   -- ---- the part
@@ -71,3 +72,11 @@ module _ (a k : ℕ) (xs : List ℕ) (h : a + k ≤ length xs) where
             | no q ↦ whole-above s x (omega arith)
           ];
         }
+
+    -- bytes pasted at the part's start
+    pub part-pasted : {n : ℕ} (p : List ℕ) → n ≤ k → Pasted (midOf a k xs) ys 0 n p → Pasted xs (putMid a k xs ys) a n p
+    part-pasted {n} p few P =
+        let s : length ys ≡ k = P .only .size ∙ part-long in
+        let x : a + 0 ≡ a = omega arith in
+        let y : a + (0 + n) ≡ a + n = omega arith in
+        record { only = rw (x, y) at (part-only (P .only)); text = λ b i l e. rw e (whole-in i (omega arith) ∙ P .text i i l (omega arith)) }

@@ -5,6 +5,7 @@ use mathlib.Core.List.{List, [], _∷_, _++_}
 use mathlib.Core.Logic.{inl, inr}
 use native.Mathlib.Omega.{arith}
 use lib.ListN.{length, take, drop, length-append, length-drop}
+use borrow.Rule.Slice.PartMut.{putMid, midOf}
 use lib.Seq.{length-take-le, ext-getD, getD-take, getD-drop}
 use Rattle.layout.specs.Number.{byteAt, le, put}
 use Rattle.layout.specs.Place.{leafExtent, leafKey, leafValue, prefixChild, dataStart}
@@ -23,6 +24,7 @@ use Rattle.node.specs.Moved.{Only}
 use Rattle.node.proofs.MoveLaws.{only-put, only-then}
 use Rattle.room.specs.Step.{Pasted}
 use Rattle.pack_body.specs.Part.{HeaderWritten, LeafCopies, LeafCopied, PrefixCopies, PrefixCopied}
+use Rattle.pack_body.proofs.PartLaws.{part-pasted}
 use Rattle.pack_body.proofs.HasLaws.{zero-at, has-one, has-join, has-padded, has-only, has-put, has-more}
 
 -- ---- the header
@@ -94,9 +96,26 @@ leaf-has m g at s k v room Z P =
     let a = 16 + length (k ++ v) + i in
     P .only .above a (omega arith) ∙ O .above a (omega arith) ∙ zero-at m (size (leaf k v)) Z a (omega arith)))
 
-pub leaf-copied : {f m h g : List ℕ} {o at r : ℕ} (C : LeafCopies f o m at) (x n w : ℕ) → x ≡ le 4 f (o + leafExtent) → n ≡ le 2 f (o + leafKey) → w ≡ le 2 f (o + leafValue)
-    → h ≡ putLeafBody m 0 (at + 16) n w → Pasted h g 16 (length (take (x + (n + w) - x) (drop x f))) (take (x + (n + w) - x) (drop x f)) → r ≡ up8 (n + w) → LeafCopied f o m g at (16 + r)
-leaf-copied {f} {m} {h} {g} {o} {at} {r} C x n w ex en ew eh P er =
+-- the extent's part has room for it
+pub leaf-lent : {f m h : List ℕ} {o at : ℕ} (C : LeafCopies f o m at) (x n w : ℕ) → x ≡ le 4 f (o + leafExtent) → n ≡ le 2 f (o + leafKey) → w ≡ le 2 f (o + leafValue)
+    → h ≡ putLeafBody m 0 (at + 16) n w → (16 + (length h - 16) ≤ length h) × (length (take (x + (n + w) - x) (drop x f)) ≤ length h - 16)
+leaf-lent {f} {m} {h} {o} {at} C x n w ex en ew eh =
+    let L = C .stands in
+    let kv = length-append (C .key) (C .value) in
+    let few = extent-fits (C .key) (C .value) in
+    let room : 16 + extentOf (C .key) (C .value) ≤ length m = C .room in
+    let long : length h ≡ length m = rw eh (length-putLeafBody m 0 (at + 16) n w) in
+    let z : x + (n + w) - x ≡ n + w = omega arith in
+    let all : length (take (n + w) (drop x f)) ≡ n + w = length-take-le (n + w) (drop x f) (omega (arith, length-drop x f, L .room, L .extent, L .keyLength, L .valueLength)) in
+    (omega arith, rw z (omega (arith, all, room, few, kv, long, L .keyLength, L .valueLength)))
+
+pub leaf-copied : {f m h ys : List ℕ} {o at r : ℕ} (C : LeafCopies f o m at) (x n w : ℕ) → x ≡ le 4 f (o + leafExtent) → n ≡ le 2 f (o + leafKey) → w ≡ le 2 f (o + leafValue)
+    → h ≡ putLeafBody m 0 (at + 16) n w → Pasted (midOf 16 (length h - 16) h) ys 0 (length (take (x + (n + w) - x) (drop x f))) (take (x + (n + w) - x) (drop x f)) → r ≡ up8 (n + w)
+    → LeafCopied f o m (putMid 16 (length h - 16) h ys) at (16 + r)
+leaf-copied {f} {m} {h} {ys} {o} {at} {r} C x n w ex en ew eh lent er =
+    let g = putMid 16 (length h - 16) h ys in
+    let lies = leaf-lent C x n w ex en ew eh in
+    let P : Pasted h g 16 (length (take (x + (n + w) - x) (drop x f))) (take (x + (n + w) - x) (drop x f)) = part-pasted 16 (length h - 16) h (lies .0) ys (take (x + (n + w) - x) (drop x f)) (lies .1) lent in
     let of : (e : ℕ) (k v : List ℕ) → LeafAt f o e k v → (length k ≡ n) × (length v ≡ w) × (e ≡ x) = λ e k v L. (sym (en ∙ L .keyLength), sym (ew ∙ L .valueLength), sym (ex ∙ L .extent)) in
     let mine = of (C .extent) (C .key) (C .value) (C .stands) in
     let all : size (leaf (C .key) (C .value)) ≡ 16 + up8 (n + w) = rw (mine .0, mine .1) in

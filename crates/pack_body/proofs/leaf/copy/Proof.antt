@@ -1,4 +1,4 @@
--- Fields read, the body written, the extent pasted behind it. Assumes nothing.
+-- Fields read, the body written, the extent pasted in the part behind it. Assumes nothing.
 use Rattle.pack_body.proofs.WriterLaws.{leaf-copied}
 use borrow.Author.Needs.{needs}
 use Rattle.pack_body.proofs.leaf.copy.Statement.{statement}
@@ -33,6 +33,15 @@ part-paste-start c = search needs
 
 part-paste-end : tie.Need-part-paste-end
 part-paste-end c = search needs
+
+sub-paste-2 : tie.Need-sub-paste-2
+sub-paste-2 c = search needs
+
+part-paste-start-2 : tie.Need-part-paste-start-2
+part-paste-start-2 c = search needs
+
+part-paste-end-2 : tie.Need-part-paste-end-2
+part-paste-end-2 c = search needs
 
 paste-requires : tie.Need-paste-requires
 paste-requires c κs = search needs
@@ -71,6 +80,9 @@ copy-spec =
     sub-paste
     part-paste-start
     part-paste-end
+    sub-paste-2
+    part-paste-start-2
+    part-paste-end-2
     paste-requires
     add-rounded
     rounded-requires
