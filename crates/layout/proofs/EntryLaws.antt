@@ -1,4 +1,4 @@
--- A packed entry gives its parts back, and an entry that was written is read. Assumes nothing.
+-- A packed entry gives its parts back, the parts give the entry, and an entry that was written is read. Assumes nothing.
 use Prim.Native.Nat.{ℕ, _+_, _%_, _<_, _≤_}
 use mathlib.Core.Path.{_≡_}
 use mathlib.Core.List.{List}
@@ -20,7 +20,10 @@ place-of-entry high place h e = omega arith
 pub entry-lt : (high place : ℕ) → high < 32768 → place < 1048576 → entryOf high place < 4294967296
 entry-lt high place h k = omega arith
 
--- ---- taken apart
+-- ---- taken apart, then packed
+
+pub entry-again : (e : ℕ) → entryOf (entryHigh e) (entryPlace e) ≡ e
+entry-again e = omega arith
 
 pub place-eighth : (e : ℕ) → entryPlace e % 8 ≡ 0
 place-eighth e = omega arith
