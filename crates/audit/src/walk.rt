@@ -16,6 +16,7 @@ ghost use mathlib.Core.List.{[]};
 ghost use mathlib.Core.Bool.{false};
 ghost use Prim.Native.Nat.{_+_, _*_, _%_, _<_, _≤_};
 ghost use lib.ListN.{length, take};
+ghost use Rattle.layout.specs.Place.{prefixBytes};
 ghost use Rattle.layout.specs.Entry.{placeOf, highOf};
 ghost use Rattle.pieces.specs.Decides.{Decides};
 ghost use Rattle.census.specs.Told.{Ground, Limits, Tally, Told};
@@ -68,14 +69,14 @@ fn inner_slot(f: &[u8], s: usize, u: usize) -> bool
     e.high <= Kind::NODE256
 }
 
-// n bytes of the frame from `at` on follow the first bytes of the path, as many as depth.
-fn extend(path: &mut [u8], depth: usize, f: &[u8], at: usize, n: usize)
-    requires { ⌜ (depth + n ≤ length (now path)) × (at + n ≤ length (now f)) ⌝ }
-    ensures { λ _. ⌜ Extended (now (f .entry)) at depth n (now (path .entry)) (now (path .exit)) ⌝ }
+// The first n bytes of the Prefix at o follow the first bytes of the path, as many as depth.
+fn extend(path: &mut [u8], depth: usize, f: &[u8], o: usize, n: usize)
+    requires { ⌜ (depth + n ≤ length (now path)) × (o + 128 ≤ length (now f)) × (n ≤ 112) ⌝ }
+    ensures { λ _. ⌜ Extended (now (f .entry)) (o + prefixBytes) depth n (now (path .entry)) (now (path .exit)) ⌝ }
 {
     let mut i = 0;
     while i < n {
-        path[depth + i] = f[at + i];
+        path[depth + i] = Prefix::byte(f, o, i);
         i += 1;
     }
 }
@@ -171,7 +172,7 @@ fn past_prefix(
     if !inner_slot(f, c, u) {
         return Inner::none();
     }
-    extend(path, depth, f, o + Prefix::BYTES, n);
+    extend(path, depth, f, o, n);
     let e = Entry::read(f, c);
     Inner {
         sums: r,
@@ -204,9 +205,9 @@ pub fn tree(f: &[u8], map: &mut [u64], s: usize, d: usize, u: usize, b: usize, t
     let mut n = 0;
     let mut i = 0;
     let mut from = 0;
-    let mut arriving = 1;
+    let mut arriving = true;
     loop {
-        if arriving == 1 {
+        if arriving {
             if kind == Kind::PREFIX {
                 let k = past_prefix(f, map, &mut path, depth, slot, place, d, u, b, sums);
                 sums = k.sums;
@@ -226,7 +227,7 @@ pub fn tree(f: &[u8], map: &mut [u64], s: usize, d: usize, u: usize, b: usize, t
             n = look::count(f, place);
             i = 0;
             from = 0;
-            arriving = 0;
+            arriving = false;
             continue;
         }
         if i < n {
@@ -256,7 +257,7 @@ pub fn tree(f: &[u8], map: &mut [u64], s: usize, d: usize, u: usize, b: usize, t
             place = e.place;
             kind = e.high;
             depth += 1;
-            arriving = 1;
+            arriving = true;
             continue;
         }
         if waiting == 0 {

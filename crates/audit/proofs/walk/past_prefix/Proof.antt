@@ -77,14 +77,11 @@ returns-4 c =
     let E = entry-made (p .7) (p .8) in
     (kept-same, prefix-refused (c .before .before .before .before .before .before .before .before .before .before .before .before .body .ensures) E (p .5) (p .6) (not-false _ (c .before .before .before .before .before .before .before .before .if1 .left)) (c .none4 .ensures) (prefix-child (refuted (c .before .before .inner-slot .ensures) (c .before .if4 .taken)) (c .before .before .before .child .ensures .0)))
 
-add-extend : tie.Need-add-extend
-add-extend c = search needs
-
 extend-requires : tie.Need-extend-requires
 extend-requires c κs =
     let p = c .before .before .before .before .before .before .before .before .before .before .before .before .before .before .before .before .before .pre in
     let h = c .before .before .before .before .before .before .before .before .before .before .before .before .body .ensures .high (not-false _ (c .before .before .before .before .before .before .before .before .if1 .left)) in
-    (omega (arith, p .3, c .before .before .before .before .if3 .left), omega (arith, p .0 .inside, h, c .before .before .before .before .if3 .left))
+    (omega (arith, p .3, c .before .before .before .before .if3 .left), omega (arith, p .0 .inside, h), omega (arith, c .before .before .before .before .if3 .left))
 
 read-requires : tie.Need-read-requires
 read-requires c κs =
@@ -133,7 +130,6 @@ past-prefix-spec =
     none-requires-4
     same-length-4
     returns-4
-    add-extend
     extend-requires
     read-requires
     add-t19

@@ -1,12 +1,15 @@
 -- The loop's invariant is `Coming` where the walk arrives at a slot, else `Walking`, with one law for each turn (WayLaws). Each turn but two counts a
 -- body; the way back makes the path shorter, and on the way down the walk arrives. Assumes nothing.
-use Prim.Native.Nat.{_+_, _-_, _*_, _≤_}
-use mathlib.Core.Path.{_≡_, refl, sym, _∙_}
+use Prim.Native.Nat.{ℕ, _+_, _-_, _*_}
+use mathlib.Core.Path.{_≡_, refl, sym, ap, _∙_}
+use mathlib.Core.Bool.{Bool, true, false}
 use mathlib.Core.List.{[]}
 use native.Mathlib.Omega.{arith}
 use lib.ListN.{length, length-set}
 use borrow.Author.Needs.{needs}
 use borrow.Author.Tests.{not-true, not-false}
+use Rattle.model.specs.Strings.{pick}
+use Rattle.pieces.proofs.DecideLaws.{clash}
 use Rattle.census.proofs.ToldLaws.{place-whole}
 use Rattle.audit.specs.Walk.{TreeItems}
 use Rattle.audit.proofs.WalkLaws.{path-length, slot-fails, slot-at}
@@ -17,11 +20,11 @@ use Rattle.audit.proofs.walk.tree.Tie as tie
 abbrev Inv-loop : tie.InvT-loop
 Inv-loop f map₀ s d u b path₀ slots₀ depths₀ turns₀ waiting₀ sums₀ slot₀ place₀ kind₀ depth₀ n₀ i₀ from₀ arriving₀ map path slots depths turns waiting sums slot place kind depth n i from arriving =
     (length map ≡ length map₀) × (length path ≡ 113) × (length slots ≡ 113) × (length depths ≡ 113) × (length turns ≡ 113)
-    × (arriving ≡ 1 → Coming (TreeItems f [] s) f d u b map₀ sums₀ map path slots depths turns waiting sums slot place kind depth)
-    × ((arriving ≡ 1 → ⊥) → Walking (TreeItems f [] s) f d u b map₀ sums₀ map path slots depths turns waiting sums slot place kind depth n i from) × (arriving ≤ 1)
+    × (arriving ≡ true → Coming (TreeItems f [] s) f d u b map₀ sums₀ map path slots depths turns waiting sums slot place kind depth)
+    × (arriving ≡ false → Walking (TreeItems f [] s) f d u b map₀ sums₀ map path slots depths turns waiting sums slot place kind depth n i from)
 
 abbrev μ-loop : tie.MeasureT-loop
-μ-loop f map₀ s d u b path₀ slots₀ depths₀ turns₀ waiting₀ sums₀ slot₀ place₀ kind₀ depth₀ n₀ i₀ from₀ arriving₀ map path slots depths turns waiting sums slot place kind depth n i from arriving = 512 * (u - sums .slots) + 256 * (1 - arriving) + depth
+μ-loop f map₀ s d u b path₀ slots₀ depths₀ turns₀ waiting₀ sums₀ slot₀ place₀ kind₀ depth₀ n₀ i₀ from₀ arriving₀ map path slots depths turns waiting sums slot place kind depth n i from arriving = 512 * (u - sums .slots) + 256 * pick arriving 0 1 + depth
 
 read-requires : tie.Need-read-requires Inv-loop μ-loop
 read-requires c κs = search needs
@@ -30,7 +33,7 @@ loop-holds : tie.Need-loop-holds Inv-loop μ-loop
 loop-holds c =
     let p = c .before .before .before .pre in
     let e = c .read .ensures in
-    (refl, refl, refl, refl, refl, λ q. walk-start _ _ _ _ (e .0) (e .1) (e .3) (p .3) (p .4) (λ y. p .5 (sym (e .0) ∙ y)) (p .2), λ q. absurd (q refl), omega arith)
+    (refl, refl, refl, refl, refl, λ q. walk-start _ _ _ _ (e .0) (e .1) (e .3) (p .3) (p .4) (λ y. p .5 (sym (e .0) ∙ y)) (p .2), λ q. clash q)
 
 slice-aggregate-past-prefix : tie.Need-slice-aggregate-past-prefix Inv-loop μ-loop
 slice-aggregate-past-prefix c = search needs
@@ -59,7 +62,7 @@ returns c =
 loop-less : tie.Need-loop-less Inv-loop μ-loop
 loop-less c =
     let L = c .before .before .before .before .before .before .past-prefix .ensures .1 .holds (not-false _ (c .if3 .left)) in
-    omega (arith, L .more, L .tally .slots, L .short, c .before .before .before .before .before .before .before .before .before .before .if1 .taken)
+    omega (arith, L .more, L .tally .slots, L .short)
 
 loop-again : tie.Need-loop-again Inv-loop μ-loop
 loop-again c =
@@ -68,7 +71,7 @@ loop-again c =
     let C = v .5 (c .before .before .before .before .before .before .before .before .before .before .if1 .taken) in
     let P = c .before .before .before .before .before .before .past-prefix in
     let L = P .ensures .1 .holds (not-false _ (c .if3 .left)) in
-    (omega (arith, v .0, P .kept), omega (arith, v .1, P .kept), v .2, v .3, v .4, λ q. come-prefix C (P .ensures .0) L, λ q. absurd (q (c .before .before .before .before .before .before .before .before .before .before .if1 .taken)), v .7)
+    (omega (arith, v .0, P .kept), omega (arith, v .1, P .kept), v .2, v .3, v .4, λ q. come-prefix C (P .ensures .0) L, λ q. clash (sym (c .before .before .before .before .before .before .before .before .before .before .if1 .taken) ∙ q))
 
 node-requires : tie.Need-node-requires Inv-loop μ-loop
 node-requires c κs =
@@ -99,7 +102,7 @@ count-requires c κs =
 loop-less-2 : tie.Need-loop-less-2 Inv-loop μ-loop
 loop-less-2 c =
     let N = c .before .before .before .before .before .node .ensures .holds (not-false _ (c .before .if4 .left)) in
-    omega (arith, N .more, N .tally .slots, c .before .before .before .before .before .before .before .before .if1 .taken)
+    omega (arith, N .more, N .tally .slots)
 
 loop-again-2 : tie.Need-loop-again-2 Inv-loop μ-loop
 loop-again-2 c =
@@ -107,7 +110,7 @@ loop-again-2 c =
     let p = c .before .before .before .before .before .before .before .before .before .before .before .before .before .pre in
     let C = v .5 (c .before .before .before .before .before .before .before .before .if1 .taken) in
     let N = c .before .before .before .before .before .node .ensures .holds (not-false _ (c .before .if4 .left)) in
-    (omega (arith, v .0, c .before .before .before .before .before .node .kept), v .1, v .2, v .3, v .4, λ q. absurd (omega (arith, q)), λ q. come-node C N (λ ks M. c .count .ensures .1 _ ks M), omega arith)
+    (omega (arith, v .0, c .before .before .before .before .before .node .kept), v .1, v .2, v .3, v .4, λ q. clash (sym q), λ q. come-node C N (λ ks M. c .count .ensures .1 _ ks M))
 
 child-at-requires : tie.Need-child-at-requires Inv-loop μ-loop
 child-at-requires c κs =
@@ -219,7 +222,7 @@ loop-again-3 c =
     let W = v .6 (c .before .before .before .before .before .before .before .before .before .before .before .before .before .before .before .before .before .before .if1 .left) in
     let r = c .before .before .before .before .before .before .before .before .before .before .read2 .ensures in
     let e = c .before .before .before .before .before .before .before .before .before .before .before .before .before .before .before .before .child-at .ensures .1 (W .kids) (W .node) (W .reached) in
-    (omega (arith, v .0, c .before .before .before .before .before .leaf .kept), simp length-set (v .1), v .2, v .3, v .4, λ q. absurd (c .before .before .before .before .before .before .before .before .before .before .before .before .before .before .before .before .before .before .if1 .left q), λ q. walk-leaf W (c .before .before .before .before .before .before .before .before .before .before .before .before .before .before .before .before .before .if5 .taken) (e .0) (e .1) (v .1) (slot-at (r .0) (r .1) (omega (arith, c .before .before .before .before .before .before .before .before .before .before .before .before .before .if6 .left)) (omega (arith, c .before .before .before .before .before .before .before .before .before .before .before .if7 .left)) (c .before .before .before .before .before .before .before .before .if8 .taken) (c .before .before .before .before .before .leaf .ensures)) (not-false _ (c .before .if9 .left)) refl refl (c .before .before .before .before .before .before .before .before .before .before .before .before .before .before .before .before .child-at .ensures .0), v .7)
+    (omega (arith, v .0, c .before .before .before .before .before .leaf .kept), simp length-set (v .1), v .2, v .3, v .4, λ q. clash (sym q ∙ c .before .before .before .before .before .before .before .before .before .before .before .before .before .before .before .before .before .before .if1 .left), λ q. walk-leaf W (c .before .before .before .before .before .before .before .before .before .before .before .before .before .before .before .before .before .if5 .taken) (e .0) (e .1) (v .1) (slot-at (r .0) (r .1) (omega (arith, c .before .before .before .before .before .before .before .before .before .before .before .before .before .if6 .left)) (omega (arith, c .before .before .before .before .before .before .before .before .before .before .before .if7 .left)) (c .before .before .before .before .before .before .before .before .if8 .taken) (c .before .before .before .before .before .leaf .ensures)) (not-false _ (c .before .if9 .left)) refl refl (c .before .before .before .before .before .before .before .before .before .before .before .before .before .before .before .before .child-at .ensures .0))
 
 cast-slots : tie.Need-cast-slots Inv-loop μ-loop
 cast-slots c =
@@ -286,10 +289,9 @@ add-depth c =
 
 loop-less-4 : tie.Need-loop-less-4 Inv-loop μ-loop
 loop-less-4 c =
-    let v = c .before .before .before .before .before .before .before .before .before .before .before .loop .inv in
-    let p = c .before .before .before .before .before .before .before .before .before .before .before .before .before .before .before .pre in
-    let n = c .before .before .before .before .before .before .before .before .before .before .if1 .left in
-    omega (arith, v .7, n)
+    let l = c .before .before .before .before .before .before .before .before .before .before .before .loop in
+    let e : _≡_ {A = ℕ} (pick (l .arriving) 0 1) 1 = ap (λ (t : Bool). pick {X = ℕ} t 0 1) (c .before .before .before .before .before .before .before .before .before .before .if1 .left) in
+    omega (arith, e)
 
 loop-again-4 : tie.Need-loop-again-4 Inv-loop μ-loop
 loop-again-4 c =
@@ -298,7 +300,7 @@ loop-again-4 c =
     let W = v .6 (c .before .before .before .before .before .before .before .before .before .before .if1 .left) in
     let r = c .before .before .read2 .ensures in
     let e = c .before .before .before .before .before .before .before .before .child-at .ensures .1 (W .kids) (W .node) (W .reached) in
-    (v .0, simp length-set (v .1), simp length-set (v .2), simp length-set (v .3), simp length-set (v .4), λ q. walk-down W (c .before .before .before .before .before .before .before .before .before .if5 .taken) (e .0) (e .1) (v .1) (c .before .before .before .before .before .before .before .before .child-at .ensures .0) (v .2) (v .3) (v .4) (r .0) (r .1) (r .3) (omega (arith, c .before .before .before .before .before .if6 .left)) (omega (arith, c .before .before .before .if7 .left)) (c .if8 .left) refl refl, λ q. absurd (q refl), omega arith)
+    (v .0, simp length-set (v .1), simp length-set (v .2), simp length-set (v .3), simp length-set (v .4), λ q. walk-down W (c .before .before .before .before .before .before .before .before .before .if5 .taken) (e .0) (e .1) (v .1) (c .before .before .before .before .before .before .before .before .child-at .ensures .0) (v .2) (v .3) (v .4) (r .0) (r .1) (r .3) (omega (arith, c .before .before .before .before .before .if6 .left)) (omega (arith, c .before .before .before .if7 .left)) (c .if8 .left) refl refl, λ q. clash q)
 
 same-length-6 : tie.Need-same-length-6 Inv-loop μ-loop
 same-length-6 c = search needs
@@ -427,7 +429,7 @@ loop-again-5 c =
     let v = c .before .before .before .before .before .loop .inv in
     let p = c .before .before .before .before .before .before .before .before .before .pre in
     let W = v .6 (c .before .before .before .before .if1 .left) in
-    (v .0, v .1, v .2, v .3, v .4, λ q. absurd (c .before .before .before .before .if1 .left q), λ q. (walk-back W {top = c .before .before .before .before .before .loop .waiting - 1} (omega (arith, c .before .before .before .if5 .left)) (omega (arith, c .before .before .if10 .left)) refl refl refl (c .before .read3 .ensures .0) (c .before .read3 .ensures .1) (λ h ls M. c .count2 .ensures .1 h ls M)) .1, v .7)
+    (v .0, v .1, v .2, v .3, v .4, λ q. clash (sym q ∙ c .before .before .before .before .if1 .left), λ q. (walk-back W {top = c .before .before .before .before .before .loop .waiting - 1} (omega (arith, c .before .before .before .if5 .left)) (omega (arith, c .before .before .if10 .left)) refl refl refl (c .before .read3 .ensures .0) (c .before .read3 .ensures .1) (λ h ls M. c .count2 .ensures .1 h ls M)) .1)
 
 pub tree-spec : {M : Type 1} → statement M
 tree-spec =
