@@ -40,7 +40,7 @@ use Rattle.descent.specs.declared.spot.Body.{Body}
 use Rattle.leaf_new.specs.Make.{Relinked}
 use Rattle.erase_remove.proofs.RemoveLaws.{booked-none}
 use Rattle.erase_join.specs.declared.lone.Lone.{Lone}
-use Rattle.prefix.specs.Prefix.{Spare, Joins}
+use Rattle.prefix_body.specs.Prefix.{Spare, Joins}
 use Rattle.erase_join.specs.Lone.{IsLeaf, IsPrefix, Site, pairOf}
 use Rattle.erase_join.proofs.DropLaws.{Release, besides, frees-first, freed-first}
 use Rattle.erase_join.proofs.SiteLaws.{leaves, lost, nodeBody, beside, site-change, site-open, site-left, Mid}

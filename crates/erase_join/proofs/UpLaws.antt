@@ -48,7 +48,7 @@ use Rattle.between.proofs.StayLaws.{stay-plug}
 use Rattle.leaf_new.specs.Make.{Relinked}
 use Rattle.erase_remove.proofs.RemoveLaws.{booked-none}
 use Rattle.erase_join.specs.declared.lone.Lone.{Lone}
-use Rattle.prefix.specs.Prefix.{Spare}
+use Rattle.prefix_body.specs.Prefix.{Spare}
 use Rattle.erase_join.specs.Lone.{IsLeaf, IsPrefix, Site, pairOf}
 use Rattle.erase_join.proofs.SiteLaws.{leaves, lost, nodeBody, beside, site-change, site-open, site-sum, site-left, Mid}
 

@@ -37,7 +37,7 @@ fn prefix_up(f: &mut [u8], key: &[u8], l: Lone, link: usize)
     requires { ⌜ Bare (IsPrefix (l .place)) (now f) (now key) l link ⌝ }
     ensures { λ _. ⌜ EraseStep (now (f .entry)) (now (key .entry)) (now (f .exit)) ⌝ }
 {
-    prefix::front(f, l.place, l.byte);
+    prefix_body::front(f, l.place, l.byte);
     leaf_new::relink(f, link, l.child);
     finish::drop_both(f, l.leaf, l.node, l.at);
 }
@@ -49,7 +49,7 @@ fn node_up(f: &mut [u8], key: &[u8], l: Lone, link: usize)
 {
     let s = heap::take(f, Kind::PREFIX);
     let e = Entry::read(f, s);
-    prefix::fresh(f, e.place, l.byte, l.child);
+    prefix_body::fresh(f, e.place, l.byte, l.child);
     leaf_new::relink(f, link, s);
     finish::drop_both(f, l.leaf, l.node, l.at);
 }
@@ -87,7 +87,7 @@ fn prefix_over(f: &mut [u8], key: &[u8], l: Lone, above: Body)
     requires { ⌜ Capped (IsPrefix (l .place)) (now f) (now key) l above ⌝ }
     ensures { λ _. ⌜ EraseStep (now (f .entry)) (now (key .entry)) (now (f .exit)) ⌝ }
 {
-    prefix::onto(f, above.place, l.byte, l.place);
+    prefix_body::onto(f, above.place, l.byte, l.place);
     heap::release(f, l.child, Kind::PREFIX);
     finish::drop_both(f, l.leaf, l.node, l.at);
 }
@@ -97,7 +97,7 @@ fn node_over(f: &mut [u8], key: &[u8], l: Lone, above: Body)
     requires { ⌜ Capped IsNode (now f) (now key) l above ⌝ }
     ensures { λ _. ⌜ EraseStep (now (f .entry)) (now (key .entry)) (now (f .exit)) ⌝ }
 {
-    prefix::back(f, above.place, l.byte, l.child);
+    prefix_body::back(f, above.place, l.byte, l.child);
     finish::drop_both(f, l.leaf, l.node, l.at);
 }
 

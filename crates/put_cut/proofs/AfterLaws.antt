@@ -43,7 +43,7 @@ use Rattle.put_split.proofs.EndLaws.{node4-kind, took-slot, end-work, end-since
 use Rattle.put_split.proofs.SplitLaws.{booked-two, from-two}
 use Rattle.put_split.proofs.PartedLaws.{begins-here}
 use Rattle.put_split.proofs.OtherLaws.{relink-ok}
-use Rattle.prefix.specs.Prefix.{Shortened}
+use Rattle.prefix_body.specs.Prefix.{Shortened}
 use Rattle.put_cut.specs.Cut.{AfterLeft}
 use Rattle.put_cut.proofs.ModelLaws.{madeOf, made-after, put-cut, touch-after, path-is}
 use Rattle.put_cut.proofs.SpotLaws.{front-none, front-gone, front-path, front-byte, takes-of, took-of, xs, old, own, w0, root-at, cut, word, tail-is, room-two}

@@ -37,7 +37,7 @@ use Rattle.leaf_new.specs.Put.{PutStep}
 use Rattle.leaf_new.proofs.LeafLaws.{counts-of}
 use Rattle.put_split.proofs.ForkLaws.{fork-marks}
 use Rattle.leaf_new.proofs.DoneLaws.{any-room, Edited, put-done}
-use Rattle.prefix.specs.Prefix.{PrefixWritten}
+use Rattle.prefix_body.specs.Prefix.{PrefixWritten}
 use Rattle.put_split.specs.Parts.{Forked}
 use Rattle.put_split.proofs.ForkLaws.{fork-art, fork-look}
 use Rattle.put_split.proofs.EndLaws.{node4-kind, prefix-look, took-slot}

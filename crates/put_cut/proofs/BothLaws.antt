@@ -41,14 +41,14 @@ use Rattle.leaf_new.specs.Put.{PutStep}
 use Rattle.leaf_new.proofs.LeafLaws.{counts-of}
 use Rattle.put_split.proofs.ForkLaws.{fork-marks}
 use Rattle.leaf_new.proofs.DoneLaws.{any-room, Edited, put-done}
-use Rattle.prefix.specs.Prefix.{PrefixWritten}
+use Rattle.prefix_body.specs.Prefix.{PrefixWritten}
 use Rattle.put_split.specs.Parts.{Forks, Forked}
 use Rattle.put_split.proofs.ForkLaws.{forkKids, fork-art, fork-look, fork-work, fork-since}
 use Rattle.put_split.proofs.EndLaws.{node4-kind, prefix-kind, leafy-not, prefix-look, took-slot, end-work, end-since, end-booked}
 use Rattle.put_split.proofs.SplitLaws.{booked-three, from-three}
 use Rattle.put_split.proofs.PartedLaws.{byte-here, begins-here}
 use Rattle.put_split.proofs.OtherLaws.{relink-ok}
-use Rattle.prefix.specs.Prefix.{Shortened}
+use Rattle.prefix_body.specs.Prefix.{Shortened}
 use Rattle.put_cut.specs.Cut.{BothLeft}
 use Rattle.put_cut.proofs.ModelLaws.{made-both, put-cut, touch-both, here-left, path-is}
 use Rattle.put_cut.proofs.SpotLaws.{takes-of, took-of, xs, old, own, w0, root-at, opened, cut, word, shares, tail-is, write-ok, room-three}

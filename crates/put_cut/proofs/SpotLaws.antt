@@ -34,11 +34,11 @@ use Rattle.between.proofs.LeadLaws.{leads-rest}
 use Rattle.between.proofs.BookedLaws.{room-same}
 use Rattle.descent.specs.declared.spot.Spot.{Spot}
 use Rattle.leaf_new.proofs.DoneLaws.{any-root, any-room, change-is, room-is}
-use Rattle.prefix.specs.Prefix.{PrefixWritten}
+use Rattle.prefix_body.specs.Prefix.{PrefixWritten}
 use Rattle.put_split.specs.Parts.{Forked}
 use Rattle.put_split.proofs.EndLaws.{tally-two, tally-three}
 use Rattle.put_split.proofs.PartedLaws.{byte-here, part-short, part-is}
-use Rattle.prefix.specs.Prefix.{Longer}
+use Rattle.prefix_body.specs.Prefix.{Longer}
 use Rattle.put_cut.specs.Cut.{AtPart}
 use Rattle.put_cut.proofs.ModelLaws.{no-bytes, shares-is, length-is}
 
@@ -188,7 +188,7 @@ module _ {f k v : List ℕ} {p : Spot} (A : AtPart f k v p) where
       let q : p .depth + p .shared - p .depth ≡ length (cut .w) = omega (arith, shares) in
       ap (λ i. take i (drop (p .depth) k)) q ∙ ap (λ i. take (length (cut .w)) (drop i k)) (A .put .way .deep) ∙ part-is k (pathOf xs) word cut (A .put .ready .legal .passes)
 
-  -- what `write_prefix` asks, and what it leaves
+  -- what `prefix_body::write` asks, and what it leaves
   pub write-ok : (g : List ℕ) (o m : ℕ) → 1 ≤ length (cut .w) → o + 128 ≤ length g → m < 65536
       → (let b = take (p .depth + p .shared - p .depth) (drop (p .depth) k) in (o + 128 ≤ length g) × (1 ≤ length b) × (length b ≤ 112) × (m < 4294967296))
   write-ok g o m some l u =

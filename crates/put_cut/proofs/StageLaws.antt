@@ -33,7 +33,7 @@ use Rattle.put_split.specs.Parts.{Forks, Forked}
 use Rattle.put_split.proofs.ForkLaws.{forkKids, fork-sum, fork-work, fork-since}
 use Rattle.put_split.proofs.EndLaws.{node4-kind, leafy-not}
 use Rattle.put_split.proofs.PartedLaws.{begins-here}
-use Rattle.prefix.specs.Prefix.{Shortened}
+use Rattle.prefix_body.specs.Prefix.{Shortened}
 use Rattle.put_cut.specs.Cut.{AtPart}
 use Rattle.put_cut.proofs.ModelLaws.{path-is, after-is}
 use Rattle.put_cut.proofs.SpotLaws.{takes-of, took-of, xs, own, w0, opened, parts, old-sum, cut, word, shares, tail-is, room-two}

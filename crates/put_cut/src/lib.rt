@@ -32,7 +32,7 @@ fn cut_after(f: &mut [u8], key: &[u8], value: &[u8], spot: Spot)
 {
     let here = spot.here;
     let to = spot.depth + spot.shared;
-    let c = prefix::cut_at(f, here.place, spot.shared);
+    let c = prefix_body::cut_at(f, here.place, spot.shared);
     let node = heap::take(f, Kind::NODE4);
     parts::fork(f, node, key, value, to, c, here.slot);
     leaf_new::relink(f, here.link, node);
@@ -51,7 +51,7 @@ fn cut_before(f: &mut [u8], key: &[u8], value: &[u8], spot: Spot)
     let child = Prefix::child(f, here.place);
     let node = heap::take(f, Kind::NODE4);
     parts::fork(f, node, key, value, to, c, child);
-    prefix::write(f, here.place, node, &key[from..to]);
+    prefix_body::write(f, here.place, node, &key[from..to]);
     leaf_new::count_record(f);
 }
 
@@ -63,12 +63,12 @@ fn cut_both(f: &mut [u8], key: &[u8], value: &[u8], spot: Spot)
     let here = spot.here;
     let from = spot.depth;
     let to = from + spot.shared;
-    let c = prefix::cut_at(f, here.place, spot.shared);
+    let c = prefix_body::cut_at(f, here.place, spot.shared);
     let node = heap::take(f, Kind::NODE4);
     let top = heap::take(f, Kind::PREFIX);
     parts::fork(f, node, key, value, to, c, here.slot);
     let body = Entry::read(f, top);
-    prefix::write(f, body.place, node, &key[from..to]);
+    prefix_body::write(f, body.place, node, &key[from..to]);
     leaf_new::relink(f, here.link, top);
     leaf_new::count_record(f);
 }

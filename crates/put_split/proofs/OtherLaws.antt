@@ -39,7 +39,7 @@ use Rattle.leaf_new.specs.Put.{PutStep}
 use Rattle.leaf_new.proofs.LeafLaws.{counts-of}
 use Rattle.leaf_new.proofs.OpenLaws.{leaf-loose, leaf-lies, leaf-room}
 use Rattle.leaf_new.proofs.DoneLaws.{any-root, any-room, change-is, room-is, put-done}
-use Rattle.prefix.specs.Prefix.{PrefixWritten}
+use Rattle.prefix_body.specs.Prefix.{PrefixWritten}
 use Rattle.put_split.specs.Parts.{LeafHere, Forks, Forked}
 use Rattle.put_split.specs.Split.{AtOther, Beside}
 use Rattle.put_split.proofs.PartedLaws.{shared-is, byte-here, byte-there, part-short, part-is}

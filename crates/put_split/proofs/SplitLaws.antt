@@ -38,7 +38,7 @@ use Rattle.between.proofs.BookedLaws.{booked-row, booked-as, booked-extend}
 use Rattle.leaf_new.specs.Make.{Counted, Relinked}
 use Rattle.leaf_new.proofs.OpenLaws.{leaf-opened}
 use Rattle.leaf_new.proofs.DoneLaws.{Edited}
-use Rattle.prefix.specs.Prefix.{PrefixWritten}
+use Rattle.prefix_body.specs.Prefix.{PrefixWritten}
 use Rattle.put_split.specs.Parts.{Forked}
 use Rattle.put_split.specs.Split.{Beside}
 use Rattle.put_split.proofs.PartedLaws.{byte-here, begins-here, begins-there, put-leaf, touch-leaf}

@@ -28,7 +28,7 @@ pub fn split_leaf(f: &mut [u8], key: &[u8], value: &[u8], spot: Spot)
     let top = heap::take(f, Kind::PREFIX);
     parts::fork(f, node, key, value, to, c, here.slot);
     let body = Entry::read(f, top);
-    prefix::write(f, body.place, node, &key[from..to]);
+    prefix_body::write(f, body.place, node, &key[from..to]);
     leaf_new::relink(f, here.link, top);
     leaf_new::count_record(f);
 }

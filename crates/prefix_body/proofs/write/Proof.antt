@@ -1,8 +1,8 @@
 -- `write` zeroes the body, then writes child, length and bytes. Assumes nothing.
-use Rattle.prefix.proofs.PrefixLaws.{prefix-law}
+use Rattle.prefix_body.proofs.PrefixLaws.{prefix-law}
 use borrow.Author.Needs.{needs}
-use Rattle.prefix.proofs.write.Statement.{statement}
-use Rattle.prefix.proofs.write.Tie as tie
+use Rattle.prefix_body.proofs.write.Statement.{statement}
+use Rattle.prefix_body.proofs.write.Tie as tie
 
 clear-requires : tie.Need-clear-requires
 clear-requires c κs = search needs

@@ -1,8 +1,8 @@
 -- `cut_at` reads the byte and drops it with those before it. Assumes nothing.
 use native.Mathlib.Omega.{arith}
 use borrow.Author.Needs.{needs}
-use Rattle.prefix.proofs.cut_at.Statement.{statement}
-use Rattle.prefix.proofs.cut_at.Tie as tie
+use Rattle.prefix_body.proofs.cut_at.Statement.{statement}
+use Rattle.prefix_body.proofs.cut_at.Tie as tie
 
 byte-requires : tie.Need-byte-requires
 byte-requires c κs = let P = c .before .before .pre in (P .at .room, omega (arith, P .at .most, P .more))

@@ -1,8 +1,8 @@
 -- A byte and the bytes of another Prefix join at the end. Assumes nothing.
-use Rattle.prefix.proofs.PrefixLaws.{joins-spare, onto-done}
+use Rattle.prefix_body.proofs.PrefixLaws.{joins-spare, onto-done}
 use borrow.Author.Needs.{needs}
-use Rattle.prefix.proofs.onto.Statement.{statement}
-use Rattle.prefix.proofs.onto.Tie as tie
+use Rattle.prefix_body.proofs.onto.Statement.{statement}
+use Rattle.prefix_body.proofs.onto.Tie as tie
 
 length-requires : tie.Need-length-requires
 length-requires c κs = search needs

@@ -1,8 +1,8 @@
 -- A byte joins at the end. Assumes nothing.
-use Rattle.prefix.proofs.PrefixLaws.{back-done}
+use Rattle.prefix_body.proofs.PrefixLaws.{back-done}
 use borrow.Author.Needs.{needs}
-use Rattle.prefix.proofs.back.Statement.{statement}
-use Rattle.prefix.proofs.back.Tie as tie
+use Rattle.prefix_body.proofs.back.Statement.{statement}
+use Rattle.prefix_body.proofs.back.Tie as tie
 
 length-requires : tie.Need-length-requires
 length-requires c κs = search needs

@@ -12,7 +12,7 @@ use Rattle.layout.proofs.NumberLaws.{le-put}
 use Rattle.node.specs.Moved.{Only, Moved, Cleared}
 use Rattle.node.proofs.MoveLaws.{only-put, only-then}
 use Rattle.room.proofs.HeapLaws.{le-below}
-use Rattle.prefix.specs.Prefix.{Shortened}
+use Rattle.prefix_body.specs.Prefix.{Shortened}
 
 module _ {f f1 f2 g : List ℕ} (o q n left at : ℕ) (en : n ≡ le 2 f (o + prefixLength)) (el : left ≡ n - q) (ea : at ≡ o + 16) (few : q ≤ n) (most : n ≤ 112) (fits : o + 128 ≤ length f) (M : Moved f f1 (at + q) at left)
     (C : Cleared f1 f2 (at + left) q) (eg : g ≡ put 2 f2 (o + prefixLength) left) where

@@ -1,8 +1,8 @@
 -- A byte joins in front. Assumes nothing.
-use Rattle.prefix.proofs.PrefixLaws.{front-done}
+use Rattle.prefix_body.proofs.PrefixLaws.{front-done}
 use borrow.Author.Needs.{needs}
-use Rattle.prefix.proofs.front.Statement.{statement}
-use Rattle.prefix.proofs.front.Tie as tie
+use Rattle.prefix_body.proofs.front.Statement.{statement}
+use Rattle.prefix_body.proofs.front.Tie as tie
 
 length-requires : tie.Need-length-requires
 length-requires c κs = search needs

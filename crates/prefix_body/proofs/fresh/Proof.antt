@@ -1,8 +1,8 @@
 -- A Prefix of one byte. Assumes nothing.
-use Rattle.prefix.proofs.PrefixLaws.{fresh-law}
+use Rattle.prefix_body.proofs.PrefixLaws.{fresh-law}
 use borrow.Author.Needs.{needs}
-use Rattle.prefix.proofs.fresh.Statement.{statement}
-use Rattle.prefix.proofs.fresh.Tie as tie
+use Rattle.prefix_body.proofs.fresh.Statement.{statement}
+use Rattle.prefix_body.proofs.fresh.Tie as tie
 
 clear-requires : tie.Need-clear-requires
 clear-requires c κs = search needs

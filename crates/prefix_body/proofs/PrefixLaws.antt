@@ -17,7 +17,7 @@ use Rattle.node.proofs.MoveLaws.{only-set, only-put, only-then, keeps-outside}
 use Rattle.room.specs.Step.{Pasted}
 use Rattle.room.proofs.HeapLaws.{le-below, le-above}
 use Rattle.between.proofs.BodyLaws.{prefix-keeps}
-use Rattle.prefix.specs.Prefix.{PrefixWritten, Spare, Joins}
+use Rattle.prefix_body.specs.Prefix.{PrefixWritten, Spare, Joins}
 
 -- a text and one more
 text-app : (f : List ℕ) (o : ℕ) (p q : List ℕ) → Text f o p → ((i a : ℕ) → i < length q → a ≡ o + length p + i → byteAt f a ≡ getD q i 0) → Text f o (p ++ q)

@@ -10,7 +10,7 @@ ghost use Rattle.layout.specs.Number.{byteAt};
 ghost use Rattle.layout.specs.Place.{prefixBytes};
 ghost use Rattle.model.specs.Body.{PrefixAt};
 ghost use Rattle.node.specs.Moved.{Only, Moved};
-ghost use Rattle.prefix.specs.Prefix.{PrefixWritten, Spare, Joins, Longer, Shortened};
+ghost use Rattle.prefix_body.specs.Prefix.{PrefixWritten, Spare, Joins, Longer, Shortened};
 
 // ---- written whole
 

@@ -2,10 +2,10 @@
 use Prim.Native.Nat.{_+_, _-_}
 use mathlib.Core.Path.{refl}
 use native.Mathlib.Omega.{arith}
-use Rattle.prefix.proofs.FrontLaws.{shortened}
+use Rattle.prefix_body.proofs.FrontLaws.{shortened}
 use borrow.Author.Needs.{needs}
-use Rattle.prefix.proofs.drop_front.Statement.{statement}
-use Rattle.prefix.proofs.drop_front.Tie as tie
+use Rattle.prefix_body.proofs.drop_front.Statement.{statement}
+use Rattle.prefix_body.proofs.drop_front.Tie as tie
 
 length-requires : tie.Need-length-requires
 length-requires c κs = search needs
