@@ -23,7 +23,7 @@
 
 #include "frame_store.h"
 
-enum { F = 2048, N = 64 };                            /* the frame: docs/USING.md says how to choose them */
+enum { F = 1024, N = 32 };                            /* the frame: docs/USING.md says how to choose them */
 enum { COUNTER = 8, CHECKSUM = 4, SUMMED = COUNTER + F, GENERATION = SUMMED + CHECKSUM };
 enum { DONE = 0, ABSENT = 1, REFUSED = 2, NONE_STANDS = 3, BAD_FILE = 4 };
 

@@ -1,7 +1,6 @@
 //! The Rust bindings, behind the same six calls.
 //!
-//! Believed here: how an answer of the bindings is read as a number. A frame
-//! is opened and then used, as a program does it.
+//! Believed here: how an answer of the bindings is read as a number.
 
 use crate::compare::Calls;
 use crate::layout::number::{ABSENT, DONE, LENGTHS, REPLACED};
@@ -28,8 +27,8 @@ impl Calls for Bindings {
     }
 
     fn look_up(&self, frame: &[u8], key: &[u8]) -> (u32, u64, u64) {
-        let found = View::open(frame).and_then(|view| Ok((view.place(key)?, view.look_up(key)?)));
-        match found {
+        let view = View::over(frame);
+        match view.place(key).and_then(|place| Ok((place, view.look_up(key)?))) {
             Ok((Some(place), Some(value))) => {
                 assert_eq!(frame[place.clone()].as_ptr_range(), value.as_ptr_range());
                 (DONE, place.start as u64, place.len() as u64)
@@ -41,22 +40,20 @@ impl Calls for Bindings {
     }
 
     fn put(&self, frame: &mut [u8], key: &[u8], value: &[u8]) -> u32 {
-        let put = Frame::open(frame).and_then(|mut frame| frame.put(key, value));
-        number(put.map(|done| match done {
+        number(Frame::over(frame).put(key, value).map(|done| match done {
             Put::New => DONE,
             Put::Replaced => REPLACED,
         }))
     }
 
     fn erase(&self, frame: &mut [u8], key: &[u8]) -> u32 {
-        let erased = Frame::open(frame).and_then(|mut frame| frame.erase(key));
-        number(erased.map(|done| match done {
+        number(Frame::over(frame).erase(key).map(|done| match done {
             Erase::Done => DONE,
             Erase::Absent => ABSENT,
         }))
     }
 
     fn pack(&self, frame: &[u8], out: &mut [u8]) -> u32 {
-        number(View::open(frame).and_then(|view| view.pack(out)).map(|_| DONE))
+        number(View::over(frame).pack(out).map(|_| DONE))
     }
 }

@@ -15,8 +15,12 @@ fn root() -> PathBuf {
     PathBuf::from(env!("CARGO_MANIFEST_DIR")).join("..")
 }
 
+fn compiler() -> String {
+    std::env::var(COMPILER_VARIABLE).unwrap_or_else(|_| "cc".to_string())
+}
+
 fn compile(words: &[&str], from: &Path) -> Output {
-    let compiler = std::env::var(COMPILER_VARIABLE).unwrap_or_else(|_| "cc".to_string());
+    let compiler = compiler();
     let include = root().join("include");
     let strict = ["-std=c99", "-Wall", "-Wextra", "-Werror", "-pedantic"];
     let mut command = Command::new(&compiler);
@@ -58,6 +62,41 @@ fn the_example_writes_what_is_stored() {
     assert_eq!(String::from_utf8_lossy(&ran.stdout), stored);
 }
 
+/// The words of a line of a pkg-config file, with the variables of the file
+/// put in.
+fn words_of(file: &str, line: &str) -> Vec<String> {
+    let start = format!("{line}: ");
+    let found = file.lines().find_map(|it| it.strip_prefix(&start));
+    let mut text = found.expect("the line is there").to_string();
+    for (name, value) in file.lines().rev().filter_map(|it| it.split_once('=')) {
+        text = text.replace(&format!("${{{name}}}"), value);
+    }
+    text.split(' ').map(str::to_string).collect()
+}
+
+#[test]
+fn an_installed_archive_is_linked_by_its_pkg_config_file() {
+    let prefix = scratch("installed");
+    let installed = Command::new(root().join("install")).arg(&prefix).arg(ARCHIVE).output();
+    let installed = installed.expect("install starts");
+    assert!(installed.status.success(), "{}", told(&installed));
+    let file = fs::read_to_string(prefix.join("lib/pkgconfig/frame_store.pc"));
+    let file = file.expect("there is a pkg-config file");
+    let program = prefix.join("example");
+    let compiled = Command::new(compiler())
+        .args(words_of(&file, "Cflags"))
+        .arg(root().join("examples/c/example.c"))
+        .args(words_of(&file, "Libs"))
+        .arg("-o")
+        .arg(&program)
+        .output()
+        .expect("the compiler starts");
+    assert!(compiled.status.success(), "{}", told(&compiled));
+    assert!(Command::new(&program).status().expect("the example starts").success());
+    let missing = Command::new(root().join("install")).arg(&prefix).arg("nowhere.a").status();
+    assert!(!missing.expect("install starts").success(), "installed without an archive");
+}
+
 /// How the settings programs end.
 const DONE: i32 = 0;
 const ABSENT: i32 = 1;
@@ -65,7 +104,7 @@ const REFUSED: i32 = 2;
 const NONE_STANDS: i32 = 3;
 
 /// A counter, a frame and a checksum.
-const GENERATION: usize = 8 + 2_048 + 4;
+const GENERATION: usize = 8 + 1_024 + 4;
 
 /// A settings program and the file that it keeps.
 struct Settings {
@@ -169,14 +208,14 @@ fn a_full_frame_is_packed_and_the_change_tried_again() {
 fn a_torn_save_leaves_the_settings_before_it() {
     for settings in Settings::both("torn") {
         let (before, after) = settings.saved_over();
-        assert_eq!(before[..GENERATION], after[..GENERATION], "the save is of the second one");
+        assert!(before[..GENERATION] == after[..GENERATION], "the second one is written");
         for written in 0..=GENERATION {
             let cut = GENERATION + written;
             let torn = [&after[..cut], &before[cut..]].concat();
             let expected = if torn == after { "new" } else { "old" };
             assert_eq!(settings.holding(&torn).get("rate"), value(expected), "{written} bytes");
         }
-        let cut = GENERATION + 1_000;
+        let cut = GENERATION + 500;
         settings.holding(&[&after[..cut], &before[cut..]].concat());
         settings.does(&["set", "rate", "newer"]);
         assert_eq!(settings.get("rate"), value("newer"));

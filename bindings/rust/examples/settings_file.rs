@@ -21,8 +21,8 @@ use std::io::{self, Read, Seek, SeekFrom, Write};
 use std::process::ExitCode;
 
 /// The frame: docs/USING.md says how to choose them.
-const F: usize = 2_048;
-const N: usize = 64;
+const F: usize = 1_024;
+const N: usize = 32;
 
 const COUNTER: usize = 8;
 const CHECKSUM: usize = 4;
