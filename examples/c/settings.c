@@ -11,7 +11,7 @@
  * frame and a checksum over both. In use is the one with the higher counter, of those whose checksum is right and whose frame is
  * good. A change is made in memory; then the frame is written over the other generation, with the next counter, and flushed. If
  * the plug is pulled meanwhile, that generation's checksum is wrong and the one in use stays in use. On a device the generations
- * are two erase blocks, and the three calls on the file are those of its flash.
+ * are two erase blocks, and the calls on the file those of its flash. One program at a time uses a file.
  *
  * It ends with 0; 1: no such key; 2: refused, nothing was saved; 3: no generation stands; 4: the file cannot be read or written.
  */
@@ -66,7 +66,7 @@ static int stands(const uint8_t *generation) {
 static int in_use(void) {
     int first = stands(generations[0]), second = stands(generations[1]);
     if (first && second) {
-        return number(generations[1], COUNTER) > number(generations[0], COUNTER);
+        return number(generations[1], COUNTER) >= number(generations[0], COUNTER);
     }
     return first ? 0 : second ? 1 : -1;
 }
@@ -175,12 +175,15 @@ static int run(int file, int words, char **word) {
 }
 
 int main(int count, char **words) {
-    int file, ended;
+    int file, ended, made = 0;
     if (count < 3) {
         fprintf(stderr, "settings FILE init | get KEY | set KEY VALUE | delete KEY | compact\n");
         return REFUSED;
     }
-    file = open(words[1], O_RDWR | O_CREAT, 0644);
+    if (strcmp(words[2], "init") == 0) {
+        made = O_CREAT;
+    }
+    file = open(words[1], O_RDWR | made, 0644);
     if (file < 0) {
         return BAD_FILE;
     }

@@ -102,6 +102,7 @@ const DONE: i32 = 0;
 const ABSENT: i32 = 1;
 const REFUSED: i32 = 2;
 const NONE_STANDS: i32 = 3;
+const BAD_FILE: i32 = 4;
 
 /// A counter, a frame and a checksum.
 const GENERATION: usize = 8 + 1_024 + 4;
@@ -116,7 +117,7 @@ impl Settings {
     fn new(program: PathBuf, test: &str) -> Settings {
         let file = program.file_name().expect("a program has a name").to_string_lossy();
         let file = scratch(&format!("{file}.{test}"));
-        fs::write(&file, b"").expect("the file can be made");
+        let _ = fs::remove_file(&file);
         Settings { program, file }
     }
 
@@ -169,7 +170,8 @@ fn value(text: &str) -> (i32, String) {
 #[test]
 fn settings_are_set_deleted_and_compacted() {
     let files = Settings::both("changes").map(|settings| {
-        assert_eq!(settings.get("a"), (NONE_STANDS, String::new()));
+        assert_eq!(settings.get("a"), (BAD_FILE, String::new()));
+        assert!(!settings.file.exists(), "only init makes the file");
         settings.does(&["init"]);
         assert_eq!(settings.run(&["init"]).0, REFUSED, "never over settings that stand");
         settings.does(&["set", "line.rate", "100"]);

@@ -9,8 +9,8 @@
 //! The store itself keeps away from files; everything about them stands here. The file holds two generations, each a counter, a
 //! frame and a checksum over both. In use is the one with the higher counter, of those whose checksum is right and whose frame is
 //! good. A change is made in memory; then the frame is written over the other generation, with the next counter, and flushed. If
-//! the plug is pulled meanwhile, that generation's checksum is wrong and the one in use stays in use. The file is the one that
-//! `examples/c/settings.c` keeps.
+//! the plug is pulled meanwhile, that generation's checksum is wrong and the one in use stays in use. One program at a time uses a
+//! file; `examples/c/settings.c` keeps the same one.
 //!
 //! It ends with 0; 1: no such key; 2: refused, nothing was saved; 3: no generation stands; 4: the file cannot be read or written.
 #![forbid(unsafe_code)]
@@ -91,9 +91,10 @@ struct Settings {
 }
 
 impl Settings {
-    fn load(path: &str) -> io::Result<Settings> {
+    /// Reads the file, which only `init` may make.
+    fn load(path: &str, make: bool) -> io::Result<Settings> {
         let mut options = OpenOptions::new();
-        let mut file = options.read(true).write(true).create(true).truncate(false).open(path)?;
+        let mut file = options.read(true).write(true).create(make).truncate(false).open(path)?;
         let mut bytes = Vec::new();
         file.read_to_end(&mut bytes)?;
         let generations = bytes.chunks(GENERATION).take(2).enumerate();
@@ -174,7 +175,7 @@ fn run(words: &[String]) -> Result<(), Ended> {
         eprintln!("settings_file FILE init | get KEY | set KEY VALUE | delete KEY | compact");
         return Err(Ended::Refused);
     };
-    let mut settings = Settings::load(path)?;
+    let mut settings = Settings::load(path, command == ["init"])?;
     match command {
         ["init"] => settings.init(),
         ["get", key] => get(&settings, key.as_bytes()),
