@@ -254,6 +254,8 @@ static const struct {
 static uint64_t step, wrong_answer, wrong_byte;
 static enum { BUFFERS, ANSWERS, STACK, TIME } written;
 static const char *const WRITTEN[] = {"buffers", "answers", "stack", "time"};
+/* The words of the stack that are painted, from its lowest place on: what one call has used is painted again for the next. */
+static size_t painted;
 
 static uint64_t nanoseconds(void) {
     long now[2];
@@ -272,8 +274,6 @@ __attribute__((noinline)) static uint64_t measured(uint64_t (*call)(const lent *
         *answer = call(l);
         return 0;
     }
-    /* What is painted stays so from call to call: what one has used is painted again for the next. */
-    static size_t painted;
     volatile uintptr_t *words = (volatile uintptr_t *)(void *)stack;
     size_t top = (size_t)(stack_pointer() - stack) / sizeof *words;
     while (painted < top) words[painted++] = PAINT;
@@ -391,6 +391,7 @@ static void carry_out(const char *command) {
         const char *what = read_word();
         for (written = BUFFERS; !same(what, WRITTEN[written]); written++)
             if (written == TIME) refuse("nothing to write is called so");
+        painted = 0;
     } else if (same(command, "wrong")) {
         uint64_t *which = same(read_word(), "answer") ? &wrong_answer : &wrong_byte;
         *which = read_number();

@@ -116,7 +116,7 @@ fn refusals(list: &mut List) {
     ] {
         list.format_of(frame, f, n);
     }
-    for length in [0, 8, 64, 1_016, 1_023, 1_025, 1_032, LONGEST_FRAME] {
+    for length in [0, 8, 64, 1_016, 1_023, 1_025, 1_032, 32_767, 32_768, 65_535, LONGEST_FRAME] {
         list.format_of(long(length), length as u64, 8);
         list.format(8);
         list.keep();
@@ -156,10 +156,10 @@ fn refusals(list: &mut List) {
 fn histories(list: &mut List) {
     let mut random = Random::new(1);
     for (name, keys, f, n, steps) in [
-        ("history, two letters", Keys::Few { letters: b"ab", longest: 6 }, 4_096, 100, 600),
+        ("history, two letters", Keys::Few { letters: b"ab", longest: 6 }, 4_096, 100, 1_500),
         ("history, three letters", Keys::Few { letters: b"abc", longest: 40 }, 8_192, 64, 400),
-        ("history, long beginnings", Keys::LongBeginning, 8_192, 100, 600),
-        ("history, wide nodes", Keys::Wide, 16_384, 700, 1_600),
+        ("history, long beginnings", Keys::LongBeginning, 8_192, 100, 1_000),
+        ("history, wide nodes", Keys::Wide, 16_384, 700, 3_000),
         (
             "history, low and high bytes",
             Keys::Few { letters: b"a\xff\x01", longest: 3 },
@@ -167,7 +167,7 @@ fn histories(list: &mut List) {
             20,
             600,
         ),
-        ("history, settings", Keys::Text, 16_384, 600, 1_200),
+        ("history, settings", Keys::Text, 16_384, 600, 3_000),
         ("history, 65,536 bytes", Keys::Text, 65_536, 2_000, 200),
     ] {
         let odd = odd(&mut random);
