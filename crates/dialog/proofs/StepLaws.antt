@@ -11,6 +11,7 @@ use denote.Enum.Declared.{tagOf}
 use Rattle.lines.proofs.command.Command.{the-type}
 use Rattle.lines.specs.declared.command.Command.{Command}
 use Rattle.lines.specs.declared.command.Command.the-variants.{Format, Put, Get, Erase, Pack, Unknown}
+use Rattle.lines.specs.Input.{Held}
 use Rattle.lines.specs.Line.{meant, said}
 use Rattle.model.specs.Edition.{Edition}
 use Rattle.dialog.proofs.AnswerLaws.{back}
@@ -49,10 +50,11 @@ bounded {F = F} {long' = long'} s h = ⊎-elim (λ z. low z) (λ p. omega (arith
     low : s .n ≡ 0 → long' ≤ 16384
     low z = ⊎-elim (λ w. omega (arith, s .done z)) (λ w. absurd (omega (arith, s .above (omega arith)))) (eq-zero-or-pos (F - 16384))
 
--- a line that is too long, and one that is not
-pub tooLong : {E : Edition} {b held text : List ℕ} {long have : ℕ} → 1024 < have → text ≡ question → Replies E b long held have b long text
-tooLong h q = record { over = λ _. ((q, refl), refl); line = λ k. absurd (omega arith) }
+-- a line that was gathered: it is too long, or not
+pub tooLong : {E : Edition} {b held text : List ℕ} {long have : ℕ} → 1024 < have → text ≡ question → (line : List ℕ) → Held line held have
+    → Replies E b long line b long text
+tooLong h q line k = record { over = λ _. ((q, refl), refl); steps = λ l. absurd (omega (arith, k .count)) }
 
 pub notTooLong : {E : Edition} {b b' held text : List ℕ} {long long' have : ℕ} → have ≤ 1024 → Steps E b long (said (take have held)) b' long' text
-    → Replies E b long held have b' long' text
-notTooLong h s = record { over = λ k. absurd (omega arith); line = λ _. s }
+    → (line : List ℕ) → Held line held have → Replies E b long line b' long' text
+notTooLong h s line k = record { over = λ l. absurd (omega (arith, k .count)); steps = λ l. rw (k .kept l) at s }

@@ -17,9 +17,9 @@ use Rattle.lines.specs.Text.{decimal}
 abbrev pub digits : ℕ → List ℕ
 digits n = decimal 20 n
 
--- the buffer for answers holds any of them
+-- the buffer for an answer holds any: a value of any frame, and what is written around it
 abbrev pub Wide : List ℕ → Type 0
-Wide out = 20480 ≤ length out
+Wide out = 16640 ≤ length out
 
 -- the first r bytes of it are this answer
 pub record Answer (out : List ℕ) (r : ℕ) (P : List ℕ → Type 0) : Type 0 where
@@ -106,7 +106,7 @@ Steps E b long (erase k) b' long' text = Goes E b long (erase k) b' long' text
 Steps E b long pack b' long' text = Goes E b long pack b' long' text
 Steps E b long unknown b' long' text = Goes E b long unknown b' long' text
 
--- "one over 1,024 bytes before its newline .. is answered `?`"; any other is the line that stands in `held`
-pub record Replies (E : Edition) (b : List ℕ) (long : ℕ) (held : List ℕ) (have : ℕ) (b' : List ℕ) (long' : ℕ) (text : List ℕ) : Type 0 where
-  pub over : 1024 < have → Asks b b' text × (long' ≡ long)
-  pub line : have ≤ 1024 → Steps E b long (said (take have held)) b' long' text
+-- "one over 1,024 bytes before its newline .. is answered `?`"; any other does what it says
+pub record Replies (E : Edition) (b : List ℕ) (long : ℕ) (line b' : List ℕ) (long' : ℕ) (text : List ℕ) : Type 0 where
+  pub over : 1024 < length line → Asks b b' text × (long' ≡ long)
+  pub steps : length line ≤ 1024 → Steps E b long (said line) b' long' text

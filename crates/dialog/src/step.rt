@@ -1,5 +1,4 @@
-// One line of the session: the command that it is, carried out on the frame in use, and the answer to write (document 01, end of
-// "Worked frames").
+// One line of the session: the command that it is, carried out on the frame in use, and the answer to write.
 use answers;
 use fields::header::Header;
 use lines::command::Command;
@@ -14,15 +13,20 @@ use store::look::look_up;
 use store::look::value;
 use store::put::put;
 ghost use mathlib.Core.Path.{_≡_};
-ghost use Prim.Native.Nat.{_+_, _≤_};
+ghost use mathlib.Core.List.{List};
+ghost use Prim.Native.Nat.{ℕ, _+_, _≤_};
 ghost use lib.ListN.{length as List·length};
 ghost use Rattle.model.specs.Edition.{edition1};
+ghost use Rattle.lines.specs.Input.{Held};
 ghost use Rattle.lines.specs.Line.{Places, meant, said};
 ghost use Rattle.lines.specs.Text.{Appended};
 ghost use Rattle.dialog.specs.Answer.{Wide, Answer, alone, question as Answer·question, count as Answer·count, withCounts, Formats, Puts, Gets, Erases, Packs, Does, Steps, Replies};
 
 // "a frame of at most 16,384 bytes"
 pub const MOST_FRAME: usize = 16384;
+
+// Bytes for one answer: a value of any frame, and what is written around it.
+pub const ANSWER: usize = 16640;
 
 // The frame in use is the first `long` bytes of the buffer; 0 before the first `f` that is not refused.
 pub struct Stepped {
@@ -31,7 +35,7 @@ pub struct Stepped {
     pub written: usize,
 }
 
-fn question(out: &mut [u8]) -> usize
+pub fn question(out: &mut [u8]) -> usize
     requires { ⌜ Wide (now out) ⌝ }
     ensures { λ r. ⌜ Answer (now (out .exit)) r (λ t. t ≡ Answer·question) ⌝ }
 {
@@ -183,7 +187,7 @@ pub fn reply(
     out: &mut [u8],
 ) -> Stepped
     requires { ⌜ Wide (now out) × (16384 ≤ List·length (now buffer)) × (16384 ≤ List·length (now packed)) × (1024 ≤ List·length (now held)) × (long ≤ 16384) ⌝ }
-    ensures { λ r. ⌜ Answer (now (out .exit)) (r .written) (λ t. Replies edition1 (now (buffer .entry)) long (now (held .entry)) have (now (buffer .exit)) (r .long) t) × (r .long ≤ 16384) ⌝ }
+    ensures { λ r. ⌜ Answer (now (out .exit)) (r .written) (λ t. ((line : List ℕ) → Held line (now (held .entry)) have → Replies edition1 (now (buffer .entry)) long line (now (buffer .exit)) (r .long) t)) × (r .long ≤ 16384) ⌝ }
 {
     if have > MOST {
         return Stepped {

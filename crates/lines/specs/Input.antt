@@ -1,12 +1,22 @@
--- Lines gathered from pieces: "each ends in a newline", and a line may have 1,024 bytes before it.
+-- The lines of what is read: "each ends in a newline", and a line may have 1,024 bytes before it. They are gathered from pieces.
 use Prim.Native.Nat.{ℕ, _+_, _<_, _≤_, min}
 use mathlib.Core.Path.{_≡_}
-use mathlib.Core.List.{List, _++_}
+use mathlib.Core.List.{List, [], _∷_, _++_}
 use mathlib.Core.Bool.{cond}
 use lib.ListN.{length, take, drop}
-use lib.Dec.{ltb}
+use lib.Dec.{ltb, eqb}
 use Rattle.bytes.specs.Bytes.{indexOf}
 use Rattle.lines.specs.declared.input.Taking.{Taking}
+
+-- the lines that end in what is read, each without its newline; `begun` had come of the first before
+unfoldable pub linesAfter : List ℕ → List ℕ → List (List ℕ)
+linesAfter begun [] = []
+linesAfter begun (b ∷ l) = cond (eqb b 10) (begun ∷ linesAfter [] l) (linesAfter (begun ++ (b ∷ [])) l)
+
+-- what has come of a line whose newline has not
+unfoldable pub restAfter : List ℕ → List ℕ → List ℕ
+restAfter begun [] = begun
+restAfter begun (b ∷ l) = cond (eqb b 10) (restAfter [] l) (restAfter (begun ++ (b ∷ [])) l)
 
 -- what is kept of a line of which these bytes have come
 pub record Held (line held : List ℕ) (have : ℕ) : Type 0 where

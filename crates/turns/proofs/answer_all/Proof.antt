@@ -1,20 +1,26 @@
--- `answer_all` is safe and ends: the turns that are left fall. Assumes nothing.
-use Prim.Native.Nat.{_≤_}
-use mathlib.Core.Path.{_≡_}
+-- `answer_all` meets its contract: each turn reads a piece more, and the turns that are left fall. Assumes nothing.
+use Prim.Native.Nat.{ℕ, _≤_}
+use mathlib.Core.Path.{_≡_, refl}
+use mathlib.Core.List.{List, []}
+use native.Mathlib.Omega.{arith}
 use lib.ListN.{length}
 use borrow.Author.Needs.{needs}
-use Rattle.dialog.proofs.answer_all.Statement.{statement}
-use Rattle.dialog.proofs.answer_all.Tie as tie
+use Rattle.model.specs.Edition.{edition1}
+use Rattle.turns.specs.Part.{Part}
+use Rattle.turns.proofs.PartLaws.{fresh, begins, read-on}
+use Rattle.turns.proofs.answer_all.Statement.{statement}
+use Rattle.turns.proofs.answer_all.Tie as tie
 
 abbrev Inv-loop : tie.InvT-loop
 Inv-loop buffer₀ packed₀ held₀ out₀ kept₀ turns₀ buffer packed held out kept turns =
-    (kept .long ≤ 16384) × (length buffer ≡ length buffer₀) × (length packed ≡ length packed₀) × (length held ≡ length held₀) × (length out ≡ length out₀)
+    (length buffer ≡ length buffer₀) × (length packed ≡ length packed₀) × (length held ≡ length held₀) × (length out ≡ length out₀)
+    × (kept .long ≤ 16384) × ((input : List ℕ) × (text : List ℕ) × Part edition1 buffer₀ 0 [] input buffer (kept .long) held (kept .have) text)
 
 abbrev μ-loop : tie.MeasureT-loop
 μ-loop buffer₀ packed₀ held₀ out₀ kept₀ turns₀ buffer packed held out kept turns = turns
 
 loop-holds : tie.Need-loop-holds Inv-loop μ-loop
-loop-holds c = search needs
+loop-holds c = (refl, refl, refl, refl, omega arith, ([], [], begins [] 0 [] (fresh (c .before .before .before .before .args .held .now))))
 
 buffer-requires : tie.Need-buffer-requires Inv-loop μ-loop
 buffer-requires c κs = search needs
@@ -47,7 +53,9 @@ loop-less : tie.Need-loop-less Inv-loop μ-loop
 loop-less c = search needs
 
 loop-again : tie.Need-loop-again Inv-loop μ-loop
-loop-again c = search needs
+loop-again c =
+    let a = c .before .before .before .before .before .before .before .before .answer-piece .ensures in
+    (search needs, search needs, search needs, search needs, a .0, read-on _ (c .before .before .before .before .before .before .before .before .before .before .before .before .before .before .before .before .before .before .before .before .before .before .loop .inv .5) (a .1))
 
 same-length : tie.Need-same-length Inv-loop μ-loop
 same-length c = search needs
