@@ -78,6 +78,10 @@ fn taken(image: &[u8]) -> (usize, usize) {
     (get32(image, AT_U), get32(image, AT_B) - data_start(get32(image, AT_N)))
 }
 
+fn text_of(settings: &[Setting]) -> usize {
+    settings.iter().map(|(key, value)| key.len() + value.len()).sum()
+}
+
 /// Settings; the slots and bytes they take when packed; a frame for them.
 const TABLE: [(usize, usize, usize, usize, usize); 5] = [
     (25, 38, 1_912, 3_072, 50),
@@ -96,6 +100,9 @@ fn frames_for_dotted_settings() {
     for (count, slots, bytes, f, n) in TABLE {
         let mut frame = frame_of(f, n, &all[..count]);
         assert_eq!(taken(&packed(&frame)), (slots, bytes), "{count} settings");
+        let given_out = data_start(n) + bytes;
+        assert!(n == 2 * count && 4 * f >= 5 * given_out, "{count} settings");
+        assert!(slots <= n && given_out <= text_of(&all[..count]) + 85 * count, "{count} settings");
         let mut random = Random::new(SEED);
         let mut packings = 0;
         for turn in 0..count * CHANGES {
@@ -109,7 +116,7 @@ fn frames_for_dotted_settings() {
             }
             assert_eq!(given, REPLACED, "{count} settings, change {turn}");
         }
-        println!("{count} settings, {} changes: {packings} packings", count * CHANGES);
+        assert!((2..=4).contains(&packings), "{count} settings: {packings} packings");
     }
 }
 
@@ -124,8 +131,7 @@ fn bodies_of_500_settings() {
     assert_eq!(of(Kind::Prefix), (81, 10_368));
     assert_eq!(of(Kind::Node4), (115, 2_760));
     assert_eq!(of(Kind::Node16), (78, 6_864));
-    let text: usize = settings().iter().map(|(key, value)| key.len() + value.len()).sum();
-    assert_eq!(text, 12_049);
+    assert_eq!(text_of(&settings()), 12_049);
 }
 
 /// What the order of a name's parts does.
