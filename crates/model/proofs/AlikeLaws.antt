@@ -14,7 +14,7 @@ use Rattle.layout.specs.Kind.{Leaf, Prefix, EmptyRoot}
 use Rattle.model.specs.Strings.{pick, same}
 use Rattle.model.specs.Edition.{Edition}
 use Rattle.model.specs.Tree.{extentOf}
-use Rattle.model.specs.State.{State, onPut, onErase}
+use Rattle.model.specs.State.{State}
 use Rattle.model.specs.Item.{Item, body, extent, onSlot, sum}
 use Rattle.model.specs.Frame.{Lay, LayKids, Root, Begins, bare, tree, rootArt, items, itemsAll, rootItems, RootAt, Tree, freed, Stands}
 use Rattle.model.specs.Frame.Lay.{leaf, prefix, node}
@@ -28,7 +28,6 @@ use Rattle.model.proofs.ItemLaws.{in-yes, in-under, in-over, sum-app, s
 use Rattle.model.proofs.MarkLaws.{find, weight-in, only, Stay, Like, leaf-marks, prefix-marks, node-marks, kid-marks, nil-marks, tree-marks, bare-marks, is-same, like-of, stay-each}
 use Rattle.model.proofs.PlaceLaws.{begins-self, begins-long, Names, tree-once}
 use Rattle.model.proofs.CutLaws.{Knot, root-spans, root-follows, byte-more, both-begin, clear, parted}
-use Rattle.model.proofs.KnotLaws.{erase-knot}
 
 string-cases : {A : Type 0} (a b : List ℕ) → (a ≡ b → A) → ((a ≡ b → ⊥) → A) → A
 string-cases a b yes' no' = bool-cases (same a b) (λ t. yes' (same-true a b t)) (λ t. no' (λ e. let z : true ≡ false = sym (same-refl b) ∙ ap (λ (x : List ℕ). same x b) (sym e) ∙ t in clash (cc)))
@@ -348,29 +347,12 @@ slot-stays {r = r} {r' = r'} {goes = goes} R s h n =
 pub arts-same : {E : Edition} {f' f'' : List ℕ} {s : State} (w' : Stands E f' s) (w'' : Stands E f'' s) → rootArt (w' .root) ≡ rootArt (w'' .root)
 arts-same w' w'' = sym (ap (λ (z : State). z .tree) (w' .state)) ∙ ap (λ (z : State). z .tree) (w'' .state)
 
--- each is like the other
-pub record Both (E : Edition) (f' f'' : List ℕ) (s : State) (alike : Root → Root → Type 0) : Type 0 where
-  pub one : Stands E f' s
-  pub other : Stands E f'' s
-  pub forth : alike (one .root) (other .root)
-  pub back : alike (other .root) (one .root)
-
 module _ {E : Edition} {f k v : List ℕ} {n m : ℕ} {f' f'' : List ℕ} (P : PutPromise E f k v n f') (Q : PutPromise E f k v m f'') {s : State} (w : Stands E f s) where
   pub put-number : n ≡ m
   put-number = P .answer s w ∙ sym (Q .answer s w)
 
   pub put-refused : changes n ≡ false → f' ≡ f''
   put-refused h = P .kept h ∙ sym (Q .kept (rw (← put-number) h))
-
-  pub put-alike : changes n ≡ true → Both E f' f'' (onPut E s k v .state) (λ r' r''. Alike (Cut (w .root) r' r'') (w .root) r' r'')
-  put-alike h =
-      let A = P .after s w in
-      let B = Q .after s w in
-      let h' : changes m ≡ true = rw (← put-number) h in
-      let R = result-of (w .root) (A .0) (A .1 h) in
-      let S = result-of (w .root) (B .0) (B .1 h') in
-      let e = arts-same (A .0) (B .0) in
-      record { one = A .0; other = B .0; forth = alike R S e; back = alike S R (sym e) }
 
 module _ {E : Edition} {f k : List ℕ} {n m : ℕ} {f' f'' : List ℕ} (P : ErasePromise E f k n f') (Q : ErasePromise E f k m f'') {s : State} (w : Stands E f s) where
   pub erase-number : n ≡ m
@@ -382,12 +364,3 @@ module _ {E : Edition} {f k : List ℕ} {n m : ℕ} {f' f'' : List ℕ} (P : Era
   -- of the only record every byte is settled
   pub erase-only : n ≡ 0 → s .R ≡ 1 → f' ≡ f''
   erase-only h e = P .only s w h e ∙ sym (Q .only s w (sym erase-number ∙ h) e)
-
-  pub erase-alike : n ≡ 0 → 2 ≤ s .R → Both E f' f'' (onErase E s k .state) (Alike Uncut (w .root))
-  erase-alike h l =
-      let A = P .after s w in
-      let B = Q .after s w in
-      let R = result-of (w .root) (A .0) (A .1 h l) in
-      let S = result-of (w .root) (B .0) (B .1 (sym erase-number ∙ h) l) in
-      let e = arts-same (A .0) (B .0) in
-      record { one = A .0; other = B .0; forth = uncut f R S (erase-knot k w (A .0)) (erase-knot k w (B .0)) (w .rootAt) e; back = uncut f S R (erase-knot k w (B .0)) (erase-knot k w (A .0)) (w .rootAt) (sym e) }

@@ -10,7 +10,7 @@ use lib.ListN.{length, getD, drop, length-append}
 use lib.Dec.{eqb}
 use borrow.Author.Tests.{eq-eqb}
 use Rattle.layout.specs.Number.{le, byteAt, Bytes}
-use Rattle.layout.specs.Place.{atB, atU, atR, atX, atRoot, atHead, atSpare, entryAt}
+use Rattle.layout.specs.Place.{atEdition, atF, atN, atD, dataStart, atB, atU, atR, atX, atRoot, atHead, atSpare, entryAt}
 use Rattle.layout.specs.Kind.{Leaf, Prefix, EmptyRoot, bodySize}
 use Rattle.layout.specs.Entry.{highOf}
 use Rattle.layout.proofs.NumberLaws.{le-inj}
@@ -64,6 +64,29 @@ placed (some c) = c .at
 abbrev sized : Option Part → ℕ
 sized none = 0
 sized (some c) = c .long
+
+-- the numbers that two frames of one state have in common
+pub record SameNumbers (n m : Numbers) : Type 0 where
+  pub edition : n .edition ≡ m .edition
+  pub F : n .F ≡ m .F
+  pub N : n .N ≡ m .N
+  pub B : n .B ≡ m .B
+  pub U : n .U ≡ m .U
+  pub R : n .R ≡ m .R
+  pub X : n .X ≡ m .X
+
+pub same-numbers : {E : Edition} {f f' : List ℕ} {s s' : State} (w : Stands E f s) (w' : Stands E f' s') → s ≡ s' → SameNumbers (w .nums) (w' .nums)
+same-numbers w w' e =
+    let st : stateOf (w .nums) (w .lists) (w .root) ≡ stateOf (w' .nums) (w' .lists) (w' .root) = sym (w .state) ∙ e ∙ w' .state in
+    record {
+      edition = w .editionIs ∙ sym (w' .editionIs);
+      F = ap (λ (z : State). z .F) st;
+      N = ap (λ (z : State). z .N) st;
+      B = ap (λ (z : State). z .B) st;
+      U = ap (λ (z : State). z .U) st;
+      R = ap (λ (z : State). z .R) st;
+      X = ap (λ (z : State). z .X) st;
+    }
 
 module _ (E : Edition) (f g : List ℕ) (F : Bytes f) (G : Bytes g) (a : ℕ) where
   here : (s k o : ℕ) → 1 ≤ stood a (body s k o) → Entry f s k o → Entry g s k o → ((b : ℕ) → o ≤ b → b < o + bodySize k → byteAt f b ≡ byteAt g b) → byteAt f a ≡ byteAt g a
@@ -138,22 +161,36 @@ module _ (E : Edition) (f g : List ℕ) (F : Bytes f) (G : Bytes g) (a : ℕ) wh
       let q : i < 8 = omega arith in
       le-inj 2 f g (atHead (i + 1)) F G (chain-head f g (le 2 f (atHead (i + 1))) (le 2 g (atHead (i + 1))) (getD ls i []) (L .chains i q) (M .chains i q)) a (omega arith) (omega arith)
 
-  fields-agree : (ls : List (List (ℕ × ℕ))) (n m : Numbers) → Header f n → Header g m → Lists f ls → Lists g ls → n .B ≡ m .B → n .U ≡ m .U → n .R ≡ m .R → n .X ≡ m .X → n .root ≡ m .root
-      → atB ≤ a → a < atSpare → byteAt f a ≡ byteAt g a
-  fields-agree ls n m H K L M eb eu er ex es l u = elim (decLt a 20) [
-    | yes h ↦ le-inj 4 f g atB F G (H .bumpAt ∙ eb ∙ sym (K .bumpAt)) a (omega arith) (omega arith)
-    | no h ↦ elim (decLt a 24) [
-      | yes i ↦ le-inj 4 f g atU F G (H .givenAt ∙ eu ∙ sym (K .givenAt)) a (omega arith) (omega arith)
-      | no i ↦ elim (decLt a 28) [
-        | yes j ↦ le-inj 4 f g atR F G (H .recordsAt ∙ er ∙ sym (K .recordsAt)) a (omega arith) (omega arith)
-        | no j ↦ elim (decLt a 32) [
-          | yes t ↦ le-inj 4 f g atX F G (H .deadAt ∙ ex ∙ sym (K .deadAt)) a (omega arith) (omega arith)
-          | no t ↦ elim (decLt a 34) [
-            | yes v ↦ le-inj 2 f g atRoot F G (H .rootAt ∙ es ∙ sym (K .rootAt)) a (omega arith) (omega arith)
-            | no v ↦ heads-agree ls L M (omega arith) (omega arith)
+  pub numbers-agree : (n m : Numbers) → Header f n → Header g m → SameNumbers n m → a < atRoot → byteAt f a ≡ byteAt g a
+  numbers-agree n m H K e u = elim (decLt a 4) [
+    | yes h ↦ le-inj 4 f g atEdition F G (H .edition ∙ e .edition ∙ sym (K .edition)) a (omega arith) (omega arith)
+    | no h ↦ elim (decLt a 8) [
+      | yes i ↦ le-inj 4 f g atF F G (H .stored ∙ e .F ∙ sym (K .stored)) a (omega arith) (omega arith)
+      | no i ↦ elim (decLt a 12) [
+        | yes j ↦ le-inj 4 f g atN F G (H .slotsAt ∙ e .N ∙ sym (K .slotsAt)) a (omega arith) (omega arith)
+        | no j ↦ elim (decLt a 16) [
+          | yes t ↦ le-inj 4 f g atD F G (H .dataAt ∙ ap dataStart (e .N) ∙ sym (K .dataAt)) a (omega arith) (omega arith)
+          | no t ↦ elim (decLt a 20) [
+            | yes v ↦ le-inj 4 f g atB F G (H .bumpAt ∙ e .B ∙ sym (K .bumpAt)) a (omega arith) (omega arith)
+            | no v ↦ elim (decLt a 24) [
+              | yes x ↦ le-inj 4 f g atU F G (H .givenAt ∙ e .U ∙ sym (K .givenAt)) a (omega arith) (omega arith)
+              | no x ↦ elim (decLt a 28) [
+                | yes y ↦ le-inj 4 f g atR F G (H .recordsAt ∙ e .R ∙ sym (K .recordsAt)) a (omega arith) (omega arith)
+                | no y ↦ le-inj 4 f g atX F G (H .deadAt ∙ e .X ∙ sym (K .deadAt)) a (omega arith) (omega arith)
+              ]
+            ]
           ]
         ]
       ]
+    ]
+  ]
+
+  fields-agree : (ls : List (List (ℕ × ℕ))) (n m : Numbers) → Header f n → Header g m → Lists f ls → Lists g ls → SameNumbers n m → n .root ≡ m .root → a < atSpare → byteAt f a ≡ byteAt g a
+  fields-agree ls n m H K L M e er u = elim (decLt a 32) [
+    | yes h ↦ numbers-agree n m H K e h
+    | no h ↦ elim (decLt a 34) [
+      | yes i ↦ le-inj 2 f g atRoot F G (H .rootAt ∙ er ∙ sym (K .rootAt)) a (omega arith) (omega arith)
+      | no i ↦ heads-agree ls L M (omega arith) (omega arith)
     ]
   ]
 
@@ -214,7 +251,7 @@ is-body-few s k o s' k' o' = go (eqb s s') (eqb k k') (eqb o o')
     go true false z = omega arith
     go false y z = omega arith
 
-is-body-self : (s k o : ℕ) → isBody s k o (body s k o) ≡ 1
+pub is-body-self : (s k o : ℕ) → isBody s k o (body s k o) ≡ 1
 is-body-self s k o = rw (eq-eqb s s refl, eq-eqb k k refl, eq-eqb o o refl) refl
 
 -- a body that is there has its weight
@@ -318,10 +355,8 @@ module _ {E : Edition} {f f' f'' : List ℕ} {r r' : Root} {ls ls' : List (List 
   numbers : 1 ≤ inside atB (atSpare - atB) a → byteAt f' a ≡ byteAt f'' a
   numbers h =
       let i = in-where atB (atSpare - atB) a .is h in
-      let st : stateOf (w' .nums) (w' .lists) (w' .root) ≡ stateOf (w'' .nums) (w'' .lists) (w'' .root) = sym (w' .state) ∙ es ∙ w'' .state in
-      fields-agree E f' f'' (w' .bytes) (w'' .bytes) a ls' (w' .nums) (w'' .nums) (w' .heap .header) (w'' .heap .header) (rw l' at (w' .heap .lists)) (rw l'' at (w'' .heap .lists))
-      (ap (λ (z : State). z .B) st) (ap (λ (z : State). z .U) st) (ap (λ (z : State). z .R) st) (ap (λ (z : State). z .X) st)
-      (w' .rootIs ∙ ap rootSlot (e' ∙ sym e'') ∙ sym (w'' .rootIs)) (i .0) (omega (arith, i .1))
+      fields-agree E f' f'' (w' .bytes) (w'' .bytes) a ls' (w' .nums) (w'' .nums) (w' .heap .header) (w'' .heap .header) (rw l' at (w' .heap .lists)) (rw l'' at (w'' .heap .lists)) (same-numbers w' w'' es)
+      (w' .rootIs ∙ ap rootSlot (e' ∙ sym e'') ∙ sym (w'' .rootIs)) (omega (arith, i .1))
 
   links : 1 ≤ sum (onEntry a) (ofKinds kinds (freed 1 ls')) → byteAt f' a ≡ byteAt f'' a
   links h =

@@ -1,0 +1,173 @@
+-- Two frames that one promise permits of one frame, key and value are equal up to what docs/ lists. Assumes nothing.
+use Prim.Native.Nat.{ℕ, _+_, _≤_}
+use mathlib.Core.Path.{_≡_, refl, sym, _∙_}
+use mathlib.Core.List.{List, [], _∷_, _++_}
+use mathlib.Core.Bool.{Bool, true}
+use mathlib.Core.Logic.{inl, inr, ⊎-elim}
+use native.Mathlib.Omega.{arith}
+use native.Mathlib.Decide.{decLe}
+use lib.ListN.{length}
+use Rattle.layout.specs.Number.{Bytes}
+use Rattle.model.specs.Edition.{Edition}
+use Rattle.model.specs.State.{State, putChange, onPut, onErase}
+use Rattle.model.specs.Item.{Item, body, extent, onSlot, sum}
+use Rattle.model.specs.Body.{LeafAt, PrefixAt}
+use Rattle.model.specs.Frame.{Lay, LayKids, slotOf, art, artKids, Root, bare, tree, rootArt, rootItems, RootAt, Tree, Trees, NodeOf, freed, Stands}
+use Rattle.model.specs.Frame.Lay.{leaf, prefix, node}
+use Rattle.model.specs.Frame.LayKids.{nil, kid}
+use Rattle.model.specs.Touch.{Touch, isBody, putTouch, eraseTouch, findAt, extentAt, Outside}
+use Rattle.model.specs.Promise.{changes, eraseKinds, PutPromise, ErasePromise}
+use Rattle.model.specs.Freedom.{Cut, Uncut, Alike, LeafTwins, PrefixTwins, NodeTwins, Twins, TwinsAll, RootTwins, UpTo}
+use Rattle.model.proofs.StringLaws.{clash}
+use Rattle.model.proofs.ItemLaws.{in-where, sum-app, slot-once}
+use Rattle.model.proofs.KnotLaws.{erase-knot}
+use Rattle.model.proofs.AlikeLaws.{alike, uncut, result-of, arts-same, put-number, erase-number}
+use Rattle.model.proofs.BytesLaws.{leaf-twin, text-twin, prefix-twin, node-twin}
+use Rattle.model.proofs.SettledLaws.{is-body, is-body-self, slot-of-body, same-numbers, numbers-agree}
+
+-- ---- body by body
+
+module _ (E : Edition) (f g : List ℕ) (F : Bytes f) (G : Bytes g) where
+  leaf-twins : (o e o' e' : ℕ) (k v k' v' : List ℕ) → k ≡ k' → v ≡ v' → LeafAt f o e k v → LeafAt g o' e' k' v' → LeafTwins f o e g o' e' (length k + length v)
+  leaf-twins o e o' e' k v k' v' ek ev A B =
+      let B' : LeafAt g o' e' k v = rw (ek, ev) B in
+      record { names = (A .extent, B .extent); copied = leaf-twin f g F G o o' e e' k v A B'; text = text-twin f g F G o o' e e' k v A B' }
+
+  prefix-twins : (o o' c c' : ℕ) (q q' : List ℕ) → q ≡ q' → PrefixAt f o q c → PrefixAt g o' q' c' → PrefixTwins f o c g o' c'
+  prefix-twins o o' c c' q q' e A B =
+      let B' : PrefixAt g o' q c' = rw e B in record { names = (A .child, B .child); copied = prefix-twin f g F G o o' q c c' A B' }
+
+  node-twins : (o o' kind kind' : ℕ) (ks ks' : LayKids) → kind ≡ kind' → artKids ks ≡ artKids ks' → NodeOf f o kind ks → NodeOf g o' kind' ks' → NodeTwins f o g o' kind ks ks'
+  node-twins o o' kind kind' ks ks' e h A B = let B' : NodeOf g o' kind ks' = rw e B in node-twin f g F G ks ks' h o o' kind A B'
+
+  mutual
+    unfolding Tree Trees Twins TwinsAll
+
+    twins : (l : Lay) (p p' : List ℕ) (l' : Lay) → Tree E f p l → Tree E g p' l' → art l ≡ art l' → Twins f g l l'
+    twins (leaf s o e k v) p p' (leaf s' o' e' k' v') T U h = leaf-twins o e o' e' k v k' v' (cc) (cc) (T .1 .at) (U .1 .at)
+    twins (leaf s o e k v) p p' (prefix s' o' q' l') T U h = clash (cc)
+    twins (leaf s o e k v) p p' (node s' o' kind' ks') T U h = clash (cc)
+    twins (prefix s o q l) p p' (leaf s' o' e' k' v') T U h = clash (cc)
+    twins (prefix s o q l) p p' (prefix s' o' q' l') T U h =
+        let e : art l ≡ art l' = cc in (prefix-twins o o' (slotOf l) (slotOf l') q q' (cc) (T .1) (U .1), twins l (p ++ q) (p' ++ q') l' (T .3) (U .3) e)
+    twins (prefix s o q l) p p' (node s' o' kind' ks') T U h = clash (cc)
+    twins (node s o kind ks) p p' (leaf s' o' e' k' v') T U h = clash (cc)
+    twins (node s o kind ks) p p' (prefix s' o' q' l') T U h = clash (cc)
+    twins (node s o kind ks) p p' (node s' o' kind' ks') T U h =
+        let e : artKids ks ≡ artKids ks' = cc in (node-twins o o' kind kind' ks ks' (cc) e (T .1) (U .1), twins-all ks p p' ks' (T .2) (U .2) e)
+
+    twins-all : (ks : LayKids) (p p' : List ℕ) (ks' : LayKids) → Trees E f p ks → Trees E g p' ks' → artKids ks ≡ artKids ks' → TwinsAll f g ks ks'
+    twins-all nil p p' nil T U h = tt
+    twins-all nil p p' (kid b' j' l' ks') T U h = clash (cc)
+    twins-all (kid b j l ks) p p' nil T U h = clash (cc)
+    twins-all (kid b j l ks) p p' (kid b' j' l' ks') T U h =
+        let e : art l ≡ art l' = cc in
+        let i : artKids ks ≡ artKids ks' = cc in
+        (twins l (p ++ b ∷ []) (p' ++ b' ∷ []) l' (T .0) (U .0) e, twins-all ks p p' ks' (T .1) (U .1) i)
+
+  root-twins : (r r' : Root) → RootAt E f r → RootAt E g r' → rootArt r ≡ rootArt r' → RootTwins f g r r'
+  unfolding RootAt RootTwins
+  root-twins (bare s o) (bare s' o') T U h = λ j l u. T .1 j u ∙ sym (U .1 j u)
+  root-twins (bare s o) (tree l') T U h = clash (cc)
+  root-twins (tree l) (bare s' o') T U h = clash (cc)
+  root-twins (tree l) (tree l') T U h = let e : art l ≡ art l' = cc in twins l [] [] l' T U e
+
+-- ---- a slot that was live has its place
+
+slot-find : (s : ℕ) (is : List Item) → 1 ≤ sum (onSlot s) is → (k : ℕ) × (o : ℕ) × (1 ≤ sum (isBody s k o) is)
+unfolding sum onSlot
+slot-find s [] h = absurd (omega arith)
+slot-find s (extent e n ∷ is) h = let B = slot-find s is (omega arith) in (B .0, B .1, omega (arith, B .2))
+slot-find s (body t k o ∷ is) h = elim (decLe 1 (onSlot s (body t k o))) [
+  | yes q ↦
+      let w = in-where t 1 s .is q in
+      let e : s ≡ t = omega arith in
+      let z : isBody s k o (body t k o) ≡ 1 = rw e (is-body-self t k o) in
+      (k, o, omega arith)
+  | no q ↦ let B = slot-find s is (omega arith) in (B .0, B .1, omega (arith, B .2))
+]
+
+one-place : (s k o k' o' : ℕ) (is : List Item) → sum (onSlot s) is ≤ 1 → 1 ≤ sum (isBody s k o) is → 1 ≤ sum (isBody s k' o') is → o ≡ o'
+unfolding sum
+one-place s k o k' o' [] h p q = absurd (omega arith)
+one-place s k o k' o' (extent e n ∷ is) h p q = one-place s k o k' o' is (omega arith) (omega arith) (omega arith)
+one-place s k o k' o' (body t c a ∷ is) h p q =
+    let u = slot-of-body s k o (body t c a ∷ []) in
+    let v = slot-of-body s k' o' (body t c a ∷ []) in
+    elim (decLe 1 (isBody s k o (body t c a))) [
+      | yes x ↦ elim (decLe 1 (isBody s k' o' (body t c a))) [
+        | yes y ↦ is-body s k o t c a x .2 ∙ sym (is-body s k' o' t c a y .2)
+        | no y ↦ absurd (omega (arith, slot-of-body s k' o' is))
+      ]
+      | no x ↦ elim (decLe 1 (isBody s k' o' (body t c a))) [
+        | yes y ↦ absurd (omega (arith, slot-of-body s k o is))
+        | no y ↦ one-place s k o k' o' is (omega arith) (omega arith) (omega arith)
+      ]
+    ]
+
+-- ---- two results of one step
+
+module _ {E : Edition} {f f' f'' : List ℕ} {r : Root} {ls : List (List (ℕ × ℕ))} {kinds : List ℕ} {t : Touch} {xs' xs'' : List Item} {new : Bool} {s' : State} (w' : Stands E f' s') (w'' : Stands E f'' s')
+    (O : Outside f f' r (w' .root) ls (w' .lists) kinds t xs' new) (Q : Outside f f'' r (w'' .root) ls (w'' .lists) kinds t xs'' new) where
+  place-one : (s k o k0 o0 : ℕ) → 1 ≤ sum (isBody s k0 o0) (rootItems r) → 1 ≤ sum (isBody s k o) (rootItems (w' .root)) → o ≡ o0
+  place-one s k o k0 o0 h p =
+      let R = rootItems (w' .root) in
+      let L = freed 1 (w' .lists) in
+      one-place s k o k0 o0 (R ++ L) (slot-once (w' .heap .sound) s) (omega (arith, sum-app (isBody s k o) R L)) (O .keeps s k0 o0 (omega (arith, sum-app (isBody s k0 o0) (rootItems r) (freed 1 ls))))
+
+  place-other : (s k o k0 o0 : ℕ) → 1 ≤ sum (isBody s k0 o0) (rootItems r) → 1 ≤ sum (isBody s k o) (rootItems (w'' .root)) → o ≡ o0
+  place-other s k o k0 o0 h p =
+      let R = rootItems (w'' .root) in
+      let L = freed 1 (w'' .lists) in
+      one-place s k o k0 o0 (R ++ L) (slot-once (w'' .heap .sound) s) (omega (arith, sum-app (isBody s k o) R L)) (Q .keeps s k0 o0 (omega (arith, sum-app (isBody s k0 o0) (rootItems r) (freed 1 ls))))
+
+  up-to : (cut : ℕ → Type 0) → Alike cut r (w' .root) (w'' .root) → Alike cut r (w'' .root) (w' .root) → UpTo cut r kinds t f' f'' (w' .root) (w'' .root) (w' .lists) (w'' .lists) xs' xs''
+  up-to cut A B =
+      let N = same-numbers w' w'' refl in
+      record {
+        forth = A;
+        back = B;
+        places = λ s k o k' o' h p q. let I = slot-find s (rootItems r) h in place-one s k o (I .0) (I .1) (I .2) p ∙ sym (place-other s k' o' (I .0) (I .1) (I .2) q);
+        bodies = root-twins E f' f'' (w' .bytes) (w'' .bytes) (w' .root) (w'' .root) (w' .rootAt) (w'' .rootAt) (arts-same w' w'');
+        size = w' .heap .header .size ∙ N .F ∙ sym (w'' .heap .header .size);
+        numbers = λ a l. numbers-agree E f' f'' (w' .bytes) (w'' .bytes) a (w' .nums) (w'' .nums) (w' .heap .header) (w'' .heap .header) N l;
+        other = λ a h g. O .other a h ∙ sym (Q .other a g);
+      }
+
+-- ---- put and erase
+
+swapped : {r r' r'' : Root} → Alike (Cut r r'' r') r r'' r' → Alike (Cut r r' r'') r r'' r'
+swapped A = record { shape = A .shape; same = λ x y hx hy k a b l. ⊎-elim (λ e. inl e) (λ c. inr (⊎-elim (λ h. inr h) (λ h. inl h) c)) (A .same x y hx hy k a b l) }
+
+module _ {E : Edition} {f k v : List ℕ} {n m : ℕ} {f' f'' : List ℕ} (P : PutPromise E f k v n f') (Q : PutPromise E f k v m f'') {s : State} (w : Stands E f s) (done : changes n ≡ true) where
+  abbrev one : Stands E f' (onPut E s k v .state)
+  one = P .after s w .0
+
+  abbrev other : Stands E f'' (onPut E s k v .state)
+  other = Q .after s w .0
+
+  pub put-up-to : UpTo (Cut (w .root) (one .root) (other .root)) (w .root) (putChange E s k v .takes ++ putChange E s k v .frees) (putTouch E (w .root) k v) f' f'' (one .root) (other .root) (one .lists) (other .lists)
+      (extentAt (length k) (findAt E (one .root) k)) (extentAt (length k) (findAt E (other .root) k))
+  put-up-to =
+      let O = P .after s w .1 done in
+      let O' = Q .after s w .1 (rw (← put-number P Q w) done) in
+      let R = result-of (w .root) one O in
+      let S = result-of (w .root) other O' in
+      let e = arts-same one other in
+      up-to one other O O' (Cut (w .root) (one .root) (other .root)) (alike R S e) (swapped (alike S R (sym e)))
+
+module _ {E : Edition} {f k : List ℕ} {n m : ℕ} {f' f'' : List ℕ} (P : ErasePromise E f k n f') (Q : ErasePromise E f k m f'') {s : State} (w : Stands E f s) (done : n ≡ 0) (more : 2 ≤ s .R) where
+  abbrev eone : Stands E f' (onErase E s k .state)
+  eone = P .after s w .0
+
+  abbrev eother : Stands E f'' (onErase E s k .state)
+  eother = Q .after s w .0
+
+  pub erase-up-to : UpTo Uncut (w .root) (eraseKinds E (w .root) k) (eraseTouch E (w .root) k) f' f'' (eone .root) (eother .root) (eone .lists) (eother .lists) [] []
+  erase-up-to =
+      let O = P .after s w .1 done more in
+      let O' = Q .after s w .1 (sym (erase-number P Q w) ∙ done) more in
+      let R = result-of (w .root) eone O in
+      let S = result-of (w .root) eother O' in
+      let e = arts-same eone eother in
+      up-to eone eother O O' Uncut (uncut f R S (erase-knot k w eone) (erase-knot k w eother) (w .rootAt) e) (uncut f S R (erase-knot k w eother) (erase-knot k w eone) (w .rootAt) (sym e))
