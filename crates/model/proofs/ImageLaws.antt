@@ -27,7 +27,7 @@ use Rattle.model.specs.Frame.{Lay, tree, pairs, items, Entry, Places, No
 use Rattle.model.proofs.Well.{Well, WellKids, Zeros, Placed}
 use Rattle.model.proofs.GoodState.{TreeOk, treeSlots, treeSize}
 use Rattle.model.proofs.StringLaws.{bool-cases}
-use Rattle.model.proofs.UniqueLaws.{look-first, look-later, stands-unique}
+use Rattle.model.proofs.UniqueLaws.{look-first, look-later}
 use Rattle.model.proofs.StandsGood.{records-items}
 use Rattle.model.proofs.TextLaws.{has-left, has-right, has-at, has-three, has-number, padded-left, padded-zero, padded-past, length-numbers, length-padded}
 use Rattle.model.proofs.NodeImage.{firsts, seconds, orZero, placed, inner-at}
@@ -310,12 +310,3 @@ pub image-stands : (E : Edition) (f n : ℕ) (t : Option Art) → FitsFields E �
     → Stands E (imageOf E f n (length (recordsOf t)) t) (imageState f n t)
 image-stands E f n none fit W O F = empty-stands E f n (fit .number) (F .limits) (F .cap) (F .room)
 image-stands E f n (some a) fit W O F = laid-stands E f n a (imageOf E f n (length (records a)) (some a)) fit W O F (image-laid E f n a W F)
-
--- ---- reading back
-
-pub read-back : (E : Edition) (f n : ℕ) (t t' : Option Art) → FitsFields E → TreeOk E t → TreeOk E t' → TreeInOrder t → TreeInOrder t' → ImageFits f n t → ImageFits f n t'
-    → imageOf E f n (length (recordsOf t)) t ≡ imageOf E f n (length (recordsOf t')) t' → t ≡ t'
-read-back E f n t t' fit W W' O O' F F' e =
-    ap (λ (s : State). s .tree)
-    (stands-unique E (imageOf E f n (length (recordsOf t)) t) (imageState f n t) (imageState f n t') (image-stands E f n t fit W O F)
-    (subst (λ (m : List ℕ). Stands E m (imageState f n t')) (sym e) (image-stands E f n t' fit W' O' F')))

@@ -1,23 +1,30 @@
 -- A live body that the step neither frees nor rewrites keeps its bytes; so a Leaf of another key keeps its extent's place. Assumes nothing.
 use Prim.Native.Nat.{ℕ, _+_, _-_, _<_, _≤_}
-use mathlib.Core.Path.{_≡_, refl}
+use mathlib.Core.Path.{_≡_, refl, sym, ap, _∙_}
 use mathlib.Core.List.{List, [], _∷_, _++_}
-use mathlib.Core.Bool.{Bool, false}
+use mathlib.Core.Bool.{Bool, true, false}
+use mathlib.Core.Option.{Option, none, some}
 use native.Mathlib.Omega.{arith}
 use native.Mathlib.Decide.{decLe, decLt}
+use lib.ListN.{length, drop, getD}
 use lib.Dec.{eqb}
 use borrow.Author.Tests.{ne-eqb}
 use Rattle.layout.specs.Number.{byteAt}
 use Rattle.layout.specs.Place.{atB, atSpare, entryAt, dataStart}
-use Rattle.model.specs.Edition.{Edition}
-use Rattle.model.specs.State.{State}
+use Rattle.layout.specs.Kind.{bodySize}
+use Rattle.model.specs.Strings.{same, shared}
+use Rattle.model.specs.Edition.{Edition, valueFault}
+use Rattle.model.specs.Tree.{Art, Change, Left, gone, one, kept, up8, findTree}
+use Rattle.model.specs.State.{State, Done, room, unless, putChange, callPut, onPut, eraseChange, eraseDone, eraseFound, eraseIn, callErase, onErase}
 use Rattle.model.specs.Item.{Item, body, extent, onSlot, cover, onEntry, sum}
-use Rattle.model.specs.Frame.{rootItems, freed, Stands}
-use Rattle.model.specs.Touch.{Touch, among, notIn, those, isBody, Outside}
-use Rattle.model.proofs.StringLaws.{bool-cases}
-use Rattle.model.proofs.ItemLaws.{in-yes, in-over, sum-app, slot-once}
+use Rattle.model.specs.Frame.{Lay, LayKids, Root, bare, tree, items, itemsAll, rootItems, freed, Stands}
+use Rattle.model.specs.Frame.Lay.{leaf, prefix, node}
+use Rattle.model.specs.Frame.LayKids.{nil, kid}
+use Rattle.model.specs.Touch.{Touch, Part, among, notIn, those, isBody, findLay, findLayKids, findAt, extentAt, Outside}
+use Rattle.model.proofs.StringLaws.{clash, bool-cases, same-true}
+use Rattle.model.proofs.ItemLaws.{in-yes, in-over, sum-app, sum-add, slot-once}
 use Rattle.model.proofs.AlikeLaws.{slot-stays, result-of}
-use Rattle.model.proofs.SettledLaws.{is-body, body-weighs, slot-of-body, kinds-less}
+use Rattle.model.proofs.SettledLaws.{placed, sized, is-body, body-weighs, slot-of-body, kinds-less}
 
 -- no entry of a slot up to n stands at D or above
 low-entry : (a n s k o : ℕ) → dataStart n ≤ a → ((t : ℕ) → n < t → onSlot t (body s k o) ≡ 0) → onEntry a (body s k o) ≡ 0
@@ -124,3 +131,115 @@ module _ {E : Edition} {f f' : List ℕ} {st st' : State} (w : Stands E f st) (w
           sum-app (cover a) R (freed 1 (w .lists)),
           sum-app (cover a) R' (freed 1 (w' .lists)),
         ))
+
+pub not-gone : (s : ℕ) (gs rs : List ℕ) → among s (gs ++ rs) ≡ false → among s gs ≡ false
+not-gone s [] rs h = refl
+not-gone s (g ∷ gs) rs h = bool-cases (eqb s g) (λ t. let z : true ≡ false = rw t at h in clash (cc)) (λ t. rw t (not-gone s gs rs (rw t at h)))
+
+pub cover-at : (s k o j : ℕ) → j < bodySize k → 1 ≤ cover (o + j) (body s k o)
+unfolding cover
+cover-at s k o j h = omega (arith, in-yes o (bodySize k) (o + j) (omega arith) (omega arith))
+
+-- ---- the extent of a key, beside the bodies
+
+unfoldable bodyCover : ℕ → Item → ℕ
+bodyCover a (body s k o) = cover a (body s k o)
+bodyCover a (extent e n) = 0
+
+unfoldable extentCover : ℕ → Item → ℕ
+extentCover a (body s k o) = 0
+extentCover a (extent e n) = cover a (extent e n)
+
+cover-split : (a : ℕ) (i : Item) → cover a i ≡ bodyCover a i + extentCover a i
+unfolding bodyCover extentCover
+cover-split a (body s k o) = omega arith
+cover-split a (extent e n) = omega arith
+
+cover-body : (a s k o : ℕ) → bodyCover a (body s k o) ≡ cover a (body s k o)
+unfolding bodyCover
+cover-body a s k o = refl
+
+leaf-extent : (a e at n long m : ℕ) → at ≡ e + n → n + long ≡ m → sum (cover a) (extent (at - n) (up8 (n + long)) ∷ []) ≡ extentCover a (extent e (up8 m))
+unfolding sum extentCover
+leaf-extent a e at n long m p q = let z : at - n ≡ e = omega arith in rw (z, q) (omega arith)
+
+module _ (E : Edition) (k : List ℕ) (c : Part) (a : ℕ) where
+  mutual
+    unfolding items itemsAll sum
+
+    find-extent : (l : Lay) (d : ℕ) → findLay E l d k ≡ some c → sum (cover a) (extentAt (length k) (some c)) ≤ sum (extentCover a) (items l)
+    find-extent (leaf s o e k' v') d h = bool-cases (same k k')
+        (λ t.
+        let q : some (record { at = e + length k'; long = length v' }) ≡ some c = rw t at h in
+        let x : c .at ≡ e + length k' = ap (λ (z : Option Part). placed z) (sym q) in
+        let y : c .long ≡ length v' = ap (λ (z : Option Part). sized z) (sym q) in
+        let n : length k ≡ length k' = ap length (same-true k k' t) in
+        omega (arith, leaf-extent a e (c .at) (length k) (c .long) (length k' + length v') (omega arith) (omega arith)))
+        (λ t. let q : none ≡ some c = rw t at h in clash (cc))
+    find-extent (prefix s o q l) d h = bool-cases (eqb (shared q (drop d (E .walked k))) (length q))
+        (λ t. omega (arith, find-extent l (d + length q) (rw t at h)))
+        (λ t. let z : none ≡ some c = rw t at h in clash (cc))
+    find-extent (node s o kind ks) d h = omega (arith, finds-extent ks d h)
+
+    finds-extent : (ks : LayKids) (d : ℕ) → findLayKids E ks d k ≡ some c → sum (cover a) (extentAt (length k) (some c)) ≤ sum (extentCover a) (itemsAll ks)
+    finds-extent nil d h = clash (cc)
+    finds-extent (kid b j l ks) d h =
+        let p = sum-app (extentCover a) (items l) (itemsAll ks) in
+        bool-cases (eqb b (getD (E .walked k) d 0)) (λ t. omega (arith, find-extent l (d + 1) (rw t at h))) (λ t. omega (arith, finds-extent ks d (rw t at h)))
+
+  root-extent : (r : Root) → findAt E r k ≡ some c → sum (cover a) (extentAt (length k) (some c)) ≤ sum (extentCover a) (rootItems r)
+  unfolding rootItems
+  root-extent (bare s o) h = clash (cc)
+  root-extent (tree l) h = find-extent l 0 h
+
+found-beside : (E : Edition) (k : List ℕ) (a : ℕ) (r : Root) (c : Option Part) → findAt E r k ≡ c → sum (cover a) (extentAt (length k) c) ≤ sum (extentCover a) (rootItems r)
+unfolding sum
+found-beside E k a r none h = omega arith
+found-beside E k a r (some c) h = root-extent E k c a r h
+
+pub extent-beside : (E : Edition) (x : List ℕ) (r : Root) (s k o a : ℕ) → 1 ≤ sum (isBody s k o) (rootItems r) → sum (cover a) (extentAt (length x) (findAt E r x)) + cover a (body s k o) ≤ sum (cover a) (rootItems r)
+extent-beside E x r s k o a h = omega (
+  arith,
+  found-beside E x a r (findAt E r x) refl,
+  body-weighs (bodyCover a) s k o (rootItems r) h,
+  cover-body a s k o,
+  sum-add (bodyCover a) (extentCover a) (cover a) (cover-split a) (rootItems r),
+)
+
+pub none-beside : (r : Root) (s k o a : ℕ) → 1 ≤ sum (isBody s k o) (rootItems r) → sum (cover a) [] + cover a (body s k o) ≤ sum (cover a) (rootItems r)
+unfolding sum
+none-beside r s k o a h = omega (arith, body-weighs (cover a) s k o (rootItems r) h)
+
+-- ---- no call changes N
+
+unless-cap : (n : ℕ) (s : State) (d : Done) → d .state .N ≡ s .N → unless n s d .state .N ≡ s .N
+unless-cap n s d h = bool-cases (eqb n 0) (λ t. rw t h) (λ t. rw t refl)
+
+module _ (E : Edition) (s : State) (k : List ℕ) where
+  put-cap : (v : List ℕ) → onPut E s k v .state .N ≡ s .N
+  put-cap v = unless-cap (E .keyFault k) s (unless (valueFault v) s (callPut E s k v)) (unless-cap (valueFault v) s (callPut E s k v) (bool-cases (room s (putChange E s k v)) (λ t. rw t refl) (λ t. rw t refl)))
+
+  done-cap : (c : Change Left) (l : Left) → eraseDone s c l .state .N ≡ s .N
+  done-cap c gone = refl
+  done-cap c (one b a) = refl
+  done-cap c (kept a) = bool-cases (room s c) (λ t. rw t refl) (λ t. rw t refl)
+
+  found-cap : (a : Art) (x : Option (List ℕ)) → eraseFound E s k a x .state .N ≡ s .N
+  found-cap a none = refl
+  found-cap a (some v) = done-cap (eraseChange E a k) (eraseChange E a k .now)
+
+  in-cap : (t : Option Art) → eraseIn E s k t .state .N ≡ s .N
+  in-cap none = refl
+  in-cap (some a) = found-cap a (findTree E a 0 k)
+
+  erase-cap : onErase E s k .state .N ≡ s .N
+  erase-cap = unless-cap (E .keyFault k) s (callErase E s k) (in-cap (s .tree))
+
+cap-of : {E : Edition} {f : List ℕ} {s : State} (w : Stands E f s) → s .N ≡ w .nums .N
+cap-of w = ap (λ (z : State). z .N) (w .state)
+
+pub put-same-cap : {E : Edition} {f f' : List ℕ} (k v : List ℕ) {s : State} (w : Stands E f s) (w' : Stands E f' (onPut E s k v .state)) → w' .nums .N ≡ w .nums .N
+put-same-cap {E} k v {s} w w' = sym (cap-of w') ∙ put-cap E s k v ∙ cap-of w
+
+pub erase-same-cap : {E : Edition} {f f' : List ℕ} (k : List ℕ) {s : State} (w : Stands E f s) (w' : Stands E f' (onErase E s k .state)) → w' .nums .N ≡ w .nums .N
+erase-same-cap {E} k {s} w w' = sym (cap-of w') ∙ erase-cap E s k ∙ cap-of w

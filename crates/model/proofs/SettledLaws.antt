@@ -57,11 +57,11 @@ unfolding Chain
 chain-head f g h h' [] C D = C ∙ sym D
 chain-head f g h h' (x ∷ xs) C D = C .0 ∙ sym (D .0)
 
-abbrev placed : Option Part → ℕ
+abbrev pub placed : Option Part → ℕ
 placed none = 0
 placed (some c) = c .at
 
-abbrev sized : Option Part → ℕ
+abbrev pub sized : Option Part → ℕ
 sized none = 0
 sized (some c) = c .long
 

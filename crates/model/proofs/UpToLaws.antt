@@ -1,21 +1,22 @@
 -- Two frames that one promise permits of one frame, key and value are equal up to what docs/ lists. Assumes nothing.
-use Prim.Native.Nat.{ℕ, _+_, _≤_}
+use Prim.Native.Nat.{ℕ, _+_, _<_, _≤_}
 use mathlib.Core.Path.{_≡_, refl, sym, _∙_}
 use mathlib.Core.List.{List, [], _∷_, _++_}
-use mathlib.Core.Bool.{Bool, true}
+use mathlib.Core.Bool.{Bool, true, false}
 use mathlib.Core.Logic.{inl, inr, ⊎-elim}
 use native.Mathlib.Omega.{arith}
 use native.Mathlib.Decide.{decLe}
 use lib.ListN.{length}
-use Rattle.layout.specs.Number.{Bytes}
+use Rattle.layout.specs.Number.{byteAt, Bytes}
+use Rattle.layout.specs.Kind.{bodySize}
 use Rattle.model.specs.Edition.{Edition}
 use Rattle.model.specs.State.{State, putChange, onPut, onErase}
-use Rattle.model.specs.Item.{Item, body, extent, onSlot, sum}
+use Rattle.model.specs.Item.{Item, body, extent, onSlot, cover, sum}
 use Rattle.model.specs.Body.{LeafAt, PrefixAt}
 use Rattle.model.specs.Frame.{Lay, LayKids, slotOf, art, artKids, Root, bare, tree, rootArt, rootItems, RootAt, Tree, Trees, NodeOf, freed, Stands}
 use Rattle.model.specs.Frame.Lay.{leaf, prefix, node}
 use Rattle.model.specs.Frame.LayKids.{nil, kid}
-use Rattle.model.specs.Touch.{Touch, isBody, putTouch, eraseTouch, findAt, extentAt, Outside}
+use Rattle.model.specs.Touch.{Touch, among, isBody, putTouch, eraseTouch, findAt, extentAt, Outside}
 use Rattle.model.specs.Promise.{changes, eraseKinds, PutPromise, ErasePromise}
 use Rattle.model.specs.Freedom.{Cut, Uncut, Alike, LeafTwins, PrefixTwins, NodeTwins, Twins, TwinsAll, RootTwins, UpTo}
 use Rattle.model.proofs.StringLaws.{clash}
@@ -24,6 +25,7 @@ use Rattle.model.proofs.KnotLaws.{erase-knot}
 use Rattle.model.proofs.AlikeLaws.{alike, uncut, result-of, arts-same, put-number, erase-number}
 use Rattle.model.proofs.BytesLaws.{leaf-twin, text-twin, prefix-twin, node-twin}
 use Rattle.model.proofs.SettledLaws.{is-body, is-body-self, slot-of-body, same-numbers, numbers-agree}
+use Rattle.model.proofs.KeptLaws.{still-there, kept-byte, not-gone, cover-at, extent-beside, none-beside, put-same-cap, erase-same-cap}
 
 -- ---- body by body
 
@@ -105,29 +107,40 @@ one-place s k o k' o' (body t c a ∷ is) h p q =
       ]
     ]
 
--- ---- two results of one step
+-- ---- one result of a step
 
-module _ {E : Edition} {f f' f'' : List ℕ} {r : Root} {ls : List (List (ℕ × ℕ))} {kinds : List ℕ} {t : Touch} {xs' xs'' : List Item} {new : Bool} {s' : State} (w' : Stands E f' s') (w'' : Stands E f'' s')
-    (O : Outside f f' r (w' .root) ls (w' .lists) kinds t xs' new) (Q : Outside f f'' r (w'' .root) ls (w'' .lists) kinds t xs'' new) where
-  place-one : (s k o k0 o0 : ℕ) → 1 ≤ sum (isBody s k0 o0) (rootItems r) → 1 ≤ sum (isBody s k o) (rootItems (w' .root)) → o ≡ o0
-  place-one s k o k0 o0 h p =
+module _ {E : Edition} {f f' : List ℕ} {s s' : State} (w : Stands E f s) (w' : Stands E f' s') {kinds : List ℕ} {t : Touch} {xs : List Item} {new : Bool}
+    (O : Outside f f' (w .root) (w' .root) (w .lists) (w' .lists) kinds t xs new) where
+  place-kept : (s k o k0 o0 : ℕ) → 1 ≤ sum (isBody s k0 o0) (rootItems (w .root)) → 1 ≤ sum (isBody s k o) (rootItems (w' .root)) → o ≡ o0
+  place-kept s k o k0 o0 h p =
       let R = rootItems (w' .root) in
       let L = freed 1 (w' .lists) in
-      one-place s k o k0 o0 (R ++ L) (slot-once (w' .heap .sound) s) (omega (arith, sum-app (isBody s k o) R L)) (O .keeps s k0 o0 (omega (arith, sum-app (isBody s k0 o0) (rootItems r) (freed 1 ls))))
+      one-place s k o k0 o0 (R ++ L) (slot-once (w' .heap .sound) s) (omega (arith, sum-app (isBody s k o) R L))
+      (O .keeps s k0 o0 (omega (arith, sum-app (isBody s k0 o0) (rootItems (w .root)) (freed 1 (w .lists)))))
 
-  place-other : (s k o k0 o0 : ℕ) → 1 ≤ sum (isBody s k0 o0) (rootItems r) → 1 ≤ sum (isBody s k o) (rootItems (w'' .root)) → o ≡ o0
-  place-other s k o k0 o0 h p =
-      let R = rootItems (w'' .root) in
-      let L = freed 1 (w'' .lists) in
-      one-place s k o k0 o0 (R ++ L) (slot-once (w'' .heap .sound) s) (omega (arith, sum-app (isBody s k o) R L)) (Q .keeps s k0 o0 (omega (arith, sum-app (isBody s k0 o0) (rootItems r) (freed 1 ls))))
+  -- the key's extent lies beside every body
+  abbrev Beside : Type 0
+  Beside = (s k o a : ℕ) → 1 ≤ sum (isBody s k o) (rootItems (w' .root)) → sum (cover a) xs + cover a (body s k o) ≤ sum (cover a) (rootItems (w' .root))
 
-  up-to : (cut : ℕ → Type 0) → Alike cut r (w' .root) (w'' .root) → Alike cut r (w'' .root) (w' .root) → UpTo cut r kinds t f' f'' (w' .root) (w'' .root) (w' .lists) (w'' .lists) xs' xs''
-  up-to cut A B =
+  bytes-kept : w' .nums .N ≡ w .nums .N → Beside → (s k o : ℕ) → 1 ≤ sum (isBody s k o) (rootItems (w .root)) → among s (t .goes ++ t .rewrites) ≡ false → (j : ℕ) → j < bodySize k
+      → byteAt f' (o + j) ≡ byteAt f (o + j)
+  bytes-kept cap beside s k o h n j u =
+      let g = not-gone s (t .goes) (t .rewrites) n in
+      kept-byte w w' O cap s k o h g n (o + j) (cover-at s k o j u) (beside s k o (o + j) (still-there w w' O cap s k o h g n))
+
+-- ---- two results of one step
+
+module _ {E : Edition} {f f' f'' : List ℕ} {s s' : State} (w : Stands E f s) (w' : Stands E f' s') (w'' : Stands E f'' s') {kinds : List ℕ} {t : Touch} {xs' xs'' : List Item} {new : Bool}
+    (O : Outside f f' (w .root) (w' .root) (w .lists) (w' .lists) kinds t xs' new) (Q : Outside f f'' (w .root) (w'' .root) (w .lists) (w'' .lists) kinds t xs'' new) where
+  up-to : (cut : ℕ → Type 0) → Alike cut (w .root) (w' .root) (w'' .root) → Alike cut (w .root) (w'' .root) (w' .root) → w' .nums .N ≡ w .nums .N → Beside w w' O → Beside w w'' Q
+      → UpTo cut (w .root) kinds t f' f'' (w' .root) (w'' .root) (w' .lists) (w'' .lists) xs' xs''
+  up-to cut A B cap I J =
       let N = same-numbers w' w'' refl in
       record {
         forth = A;
         back = B;
-        places = λ s k o k' o' h p q. let I = slot-find s (rootItems r) h in place-one s k o (I .0) (I .1) (I .2) p ∙ sym (place-other s k' o' (I .0) (I .1) (I .2) q);
+        places = λ s k o k' o' h p q. let F = slot-find s (rootItems (w .root)) h in place-kept w w' O s k o (F .0) (F .1) (F .2) p ∙ sym (place-kept w w'' Q s k' o' (F .0) (F .1) (F .2) q);
+        kept = λ s k o h n j l u. bytes-kept w w' O cap I s k o h n j u ∙ sym (bytes-kept w w'' Q (sym (N .N) ∙ cap) J s k o h n j u);
         bodies = root-twins E f' f'' (w' .bytes) (w'' .bytes) (w' .root) (w'' .root) (w' .rootAt) (w'' .rootAt) (arts-same w' w'');
         size = w' .heap .header .size ∙ N .F ∙ sym (w'' .heap .header .size);
         numbers = λ a l. numbers-agree E f' f'' (w' .bytes) (w'' .bytes) a (w' .nums) (w'' .nums) (w' .heap .header) (w'' .heap .header) N l;
@@ -154,7 +167,7 @@ module _ {E : Edition} {f k v : List ℕ} {n m : ℕ} {f' f'' : List ℕ} (P : P
       let R = result-of (w .root) one O in
       let S = result-of (w .root) other O' in
       let e = arts-same one other in
-      up-to one other O O' (Cut (w .root) (one .root) (other .root)) (alike R S e) (swapped (alike S R (sym e)))
+      up-to w one other O O' (Cut (w .root) (one .root) (other .root)) (alike R S e) (swapped (alike S R (sym e))) (put-same-cap k v w one) (extent-beside E k (one .root)) (extent-beside E k (other .root))
 
 module _ {E : Edition} {f k : List ℕ} {n m : ℕ} {f' f'' : List ℕ} (P : ErasePromise E f k n f') (Q : ErasePromise E f k m f'') {s : State} (w : Stands E f s) (done : n ≡ 0) (more : 2 ≤ s .R) where
   abbrev eone : Stands E f' (onErase E s k .state)
@@ -170,4 +183,5 @@ module _ {E : Edition} {f k : List ℕ} {n m : ℕ} {f' f'' : List ℕ} (P : Era
       let R = result-of (w .root) eone O in
       let S = result-of (w .root) eother O' in
       let e = arts-same eone eother in
-      up-to eone eother O O' Uncut (uncut f R S (erase-knot k w eone) (erase-knot k w eother) (w .rootAt) e) (uncut f S R (erase-knot k w eother) (erase-knot k w eone) (w .rootAt) (sym e))
+      up-to w eone eother O O' Uncut (uncut f R S (erase-knot k w eone) (erase-knot k w eother) (w .rootAt) e) (uncut f S R (erase-knot k w eother) (erase-knot k w eone) (w .rootAt) (sym e)) (erase-same-cap k w eone)
+      (none-beside (eone .root)) (none-beside (eother .root))
