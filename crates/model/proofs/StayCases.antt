@@ -162,65 +162,65 @@ grow-exchanged = record { model = refl; clause = refl }
 
 -- ---- erase: a child leaves, a node shrinks
 
-less : Erase ((node 1 0 4 (row [] 11 20 3 nil))) (22 ∷ []) ((node 1 0 4 (row [] 11 20 2 nil))) true
+less : Erase (node 1 0 4 (row [] 11 20 3 nil)) (22 ∷ []) (node 1 0 4 (row [] 11 20 2 nil)) true
 unfolding marks marksAll rootMarks count
 less = record { model = refl; clause = refl }
 
-shrink-256 : Erase ((node 1 0 7 (row [] 11 20 38 nil))) (57 ∷ []) ((node 2 0 6 (row48 11 20 1 37 nil))) true
+shrink-256 : Erase (node 1 0 7 (row [] 11 20 38 nil)) (57 ∷ []) (node 2 0 6 (row48 11 20 1 37 nil)) true
 unfolding marks marksAll rootMarks count
 shrink-256 = record { model = refl; clause = refl }
 
-shrink-48 : Erase ((node 1 0 6 (row48 11 20 1 13 nil))) (32 ∷ []) ((node 2 0 5 (row [] 11 20 12 nil))) true
+shrink-48 : Erase (node 1 0 6 (row48 11 20 1 13 nil)) (32 ∷ []) (node 2 0 5 (row [] 11 20 12 nil)) true
 unfolding marks marksAll rootMarks count
 shrink-48 = record { model = refl; clause = refl }
 
-shrink-16 : Erase ((node 1 0 5 (row [] 11 20 4 nil))) (23 ∷ []) ((node 2 0 4 (row [] 11 20 3 nil))) true
+shrink-16 : Erase (node 1 0 5 (row [] 11 20 4 nil)) (23 ∷ []) (node 2 0 4 (row [] 11 20 3 nil)) true
 unfolding marks marksAll rootMarks count
 shrink-16 = record { model = refl; clause = refl }
 
 -- a Node16 shrinks under a Node4 root; the same with the two Node4 exchanged
-shrink-under : Erase ((node 1 0 4 (kid 3 0 (node 2 0 5 (row (3 ∷ []) 31 20 4 nil)) (row [] 11 20 2 nil)))) (3 ∷ 23 ∷ []) ((node 1 0 4 (kid 3 0 (node 3 0 4 (row (3 ∷ []) 31 20 3 nil)) (row [] 11 20 2 nil)))) true
+shrink-under : Erase (node 1 0 4 (kid 3 0 (node 2 0 5 (row (3 ∷ []) 31 20 4 nil)) (row [] 11 20 2 nil))) (3 ∷ 23 ∷ []) (node 1 0 4 (kid 3 0 (node 3 0 4 (row (3 ∷ []) 31 20 3 nil)) (row [] 11 20 2 nil))) true
 unfolding marks marksAll rootMarks count
 shrink-under = record { model = refl; clause = refl }
 
-shrink-exchanged : Erase ((node 1 0 4 (kid 3 0 (node 2 0 5 (row (3 ∷ []) 31 20 4 nil)) (row [] 11 20 2 nil)))) (3 ∷ 23 ∷ []) ((node 3 0 4 (kid 3 0 (node 1 0 4 (row (3 ∷ []) 31 20 3 nil)) (row [] 11 20 2 nil)))) false
+shrink-exchanged : Erase (node 1 0 4 (kid 3 0 (node 2 0 5 (row (3 ∷ []) 31 20 4 nil)) (row [] 11 20 2 nil))) (3 ∷ 23 ∷ []) (node 3 0 4 (kid 3 0 (node 1 0 4 (row (3 ∷ []) 31 20 3 nil)) (row [] 11 20 2 nil))) false
 unfolding marks marksAll rootMarks count
 shrink-exchanged = record { model = refl; clause = refl }
 
 -- ---- erase: one child is left of a Node4 (slot 3)
 
 -- no Prefix above: a Leaf, a Prefix, a node
-lone-leaf : Erase ((n4 3 (two 5 (lf 2 (5 ∷ [])) 8 (lf 4 (8 ∷ []))))) (8 ∷ []) ((lf 2 (5 ∷ []))) true
+lone-leaf : Erase (n4 3 (two 5 (lf 2 (5 ∷ [])) 8 (lf 4 (8 ∷ [])))) (8 ∷ []) (lf 2 (5 ∷ [])) true
 unfolding marks marksAll rootMarks count
 lone-leaf = record { model = refl; clause = refl }
 
-lone-prefix : Erase ((n4 3 (two 5 (prefix 1 0 (6 ∷ 7 ∷ []) (n4 2 (two 1 (lf 11 (5 ∷ 6 ∷ 7 ∷ 1 ∷ [])) 2 (lf 12 (5 ∷ 6 ∷ 7 ∷ 2 ∷ []))))) 9 (lf 4 (9 ∷ []))))) (9 ∷ []) ((prefix 1 0 (5 ∷ 6 ∷ 7 ∷ []) (n4 2 (two 1 (lf 11 (5 ∷ 6 ∷ 7 ∷ 1 ∷ [])) 2 (lf 12 (5 ∷ 6 ∷ 7 ∷ 2 ∷ [])))))) true
+lone-prefix : Erase (n4 3 (two 5 (prefix 1 0 (6 ∷ 7 ∷ []) (n4 2 (two 1 (lf 11 (5 ∷ 6 ∷ 7 ∷ 1 ∷ [])) 2 (lf 12 (5 ∷ 6 ∷ 7 ∷ 2 ∷ []))))) 9 (lf 4 (9 ∷ [])))) (9 ∷ []) (prefix 1 0 (5 ∷ 6 ∷ 7 ∷ []) (n4 2 (two 1 (lf 11 (5 ∷ 6 ∷ 7 ∷ 1 ∷ [])) 2 (lf 12 (5 ∷ 6 ∷ 7 ∷ 2 ∷ []))))) true
 unfolding marks marksAll rootMarks count
 lone-prefix = record { model = refl; clause = refl }
 
-lone-node : Erase ((n4 3 (two 5 (n4 2 (two 1 (lf 11 (5 ∷ 1 ∷ [])) 2 (lf 12 (5 ∷ 2 ∷ [])))) 9 (lf 4 (9 ∷ []))))) (9 ∷ []) ((prefix 6 0 (5 ∷ []) (n4 2 (two 1 (lf 11 (5 ∷ 1 ∷ [])) 2 (lf 12 (5 ∷ 2 ∷ [])))))) true
+lone-node : Erase (n4 3 (two 5 (n4 2 (two 1 (lf 11 (5 ∷ 1 ∷ [])) 2 (lf 12 (5 ∷ 2 ∷ [])))) 9 (lf 4 (9 ∷ [])))) (9 ∷ []) (prefix 6 0 (5 ∷ []) (n4 2 (two 1 (lf 11 (5 ∷ 1 ∷ [])) 2 (lf 12 (5 ∷ 2 ∷ []))))) true
 unfolding marks marksAll rootMarks count
 lone-node = record { model = refl; clause = refl }
 
 -- the Leaves below exchanged
-lone-node-other : Erase ((n4 3 (two 5 (n4 2 (two 1 (lf 11 (5 ∷ 1 ∷ [])) 2 (lf 12 (5 ∷ 2 ∷ [])))) 9 (lf 4 (9 ∷ []))))) (9 ∷ []) ((prefix 6 0 (5 ∷ []) (n4 2 (two 1 (lf 12 (5 ∷ 1 ∷ [])) 2 (lf 11 (5 ∷ 2 ∷ [])))))) false
+lone-node-other : Erase (n4 3 (two 5 (n4 2 (two 1 (lf 11 (5 ∷ 1 ∷ [])) 2 (lf 12 (5 ∷ 2 ∷ [])))) 9 (lf 4 (9 ∷ [])))) (9 ∷ []) (prefix 6 0 (5 ∷ []) (n4 2 (two 1 (lf 12 (5 ∷ 1 ∷ [])) 2 (lf 11 (5 ∷ 2 ∷ []))))) false
 unfolding marks marksAll rootMarks count
 lone-node-other = record { model = refl; clause = refl }
 
 -- under a Prefix: a Leaf, a Prefix, a node
-under-leaf : Erase ((prefix 4 0 (5 ∷ []) (n4 3 (two 7 (lf 2 (5 ∷ 7 ∷ [])) 8 (lf 5 (5 ∷ 8 ∷ [])))))) (5 ∷ 8 ∷ []) ((lf 2 (5 ∷ 7 ∷ []))) true
+under-leaf : Erase (prefix 4 0 (5 ∷ []) (n4 3 (two 7 (lf 2 (5 ∷ 7 ∷ [])) 8 (lf 5 (5 ∷ 8 ∷ []))))) (5 ∷ 8 ∷ []) (lf 2 (5 ∷ 7 ∷ [])) true
 unfolding marks marksAll rootMarks count
 under-leaf = record { model = refl; clause = refl }
 
-under-prefix : Erase ((prefix 1 0 (5 ∷ []) (n4 3 (two 6 (prefix 9 0 (7 ∷ []) (n4 2 (two 1 (lf 11 (5 ∷ 6 ∷ 7 ∷ 1 ∷ [])) 2 (lf 12 (5 ∷ 6 ∷ 7 ∷ 2 ∷ []))))) 9 (lf 4 (5 ∷ 9 ∷ [])))))) (5 ∷ 9 ∷ []) ((prefix 1 0 (5 ∷ 6 ∷ 7 ∷ []) (n4 2 (two 1 (lf 11 (5 ∷ 6 ∷ 7 ∷ 1 ∷ [])) 2 (lf 12 (5 ∷ 6 ∷ 7 ∷ 2 ∷ [])))))) true
+under-prefix : Erase (prefix 1 0 (5 ∷ []) (n4 3 (two 6 (prefix 9 0 (7 ∷ []) (n4 2 (two 1 (lf 11 (5 ∷ 6 ∷ 7 ∷ 1 ∷ [])) 2 (lf 12 (5 ∷ 6 ∷ 7 ∷ 2 ∷ []))))) 9 (lf 4 (5 ∷ 9 ∷ []))))) (5 ∷ 9 ∷ []) (prefix 1 0 (5 ∷ 6 ∷ 7 ∷ []) (n4 2 (two 1 (lf 11 (5 ∷ 6 ∷ 7 ∷ 1 ∷ [])) 2 (lf 12 (5 ∷ 6 ∷ 7 ∷ 2 ∷ []))))) true
 unfolding marks marksAll rootMarks count
 under-prefix = record { model = refl; clause = refl }
 
 -- the lower body is kept
-under-prefix-other : Erase ((prefix 1 0 (5 ∷ []) (n4 3 (two 6 (prefix 9 0 (7 ∷ []) (n4 2 (two 1 (lf 11 (5 ∷ 6 ∷ 7 ∷ 1 ∷ [])) 2 (lf 12 (5 ∷ 6 ∷ 7 ∷ 2 ∷ []))))) 9 (lf 4 (5 ∷ 9 ∷ [])))))) (5 ∷ 9 ∷ []) ((prefix 9 0 (5 ∷ 6 ∷ 7 ∷ []) (n4 2 (two 1 (lf 11 (5 ∷ 6 ∷ 7 ∷ 1 ∷ [])) 2 (lf 12 (5 ∷ 6 ∷ 7 ∷ 2 ∷ [])))))) false
+under-prefix-other : Erase (prefix 1 0 (5 ∷ []) (n4 3 (two 6 (prefix 9 0 (7 ∷ []) (n4 2 (two 1 (lf 11 (5 ∷ 6 ∷ 7 ∷ 1 ∷ [])) 2 (lf 12 (5 ∷ 6 ∷ 7 ∷ 2 ∷ []))))) 9 (lf 4 (5 ∷ 9 ∷ []))))) (5 ∷ 9 ∷ []) (prefix 9 0 (5 ∷ 6 ∷ 7 ∷ []) (n4 2 (two 1 (lf 11 (5 ∷ 6 ∷ 7 ∷ 1 ∷ [])) 2 (lf 12 (5 ∷ 6 ∷ 7 ∷ 2 ∷ []))))) false
 unfolding marks marksAll rootMarks count
 under-prefix-other = record { model = refl; clause = refl }
 
-under-node : Erase ((prefix 1 0 (5 ∷ 6 ∷ []) (n4 3 (two 7 (n4 2 (two 1 (lf 11 (5 ∷ 6 ∷ 7 ∷ 1 ∷ [])) 2 (lf 12 (5 ∷ 6 ∷ 7 ∷ 2 ∷ [])))) 9 (lf 4 (5 ∷ 6 ∷ 9 ∷ [])))))) (5 ∷ 6 ∷ 9 ∷ []) ((prefix 1 0 (5 ∷ 6 ∷ 7 ∷ []) (n4 2 (two 1 (lf 11 (5 ∷ 6 ∷ 7 ∷ 1 ∷ [])) 2 (lf 12 (5 ∷ 6 ∷ 7 ∷ 2 ∷ [])))))) true
+under-node : Erase (prefix 1 0 (5 ∷ 6 ∷ []) (n4 3 (two 7 (n4 2 (two 1 (lf 11 (5 ∷ 6 ∷ 7 ∷ 1 ∷ [])) 2 (lf 12 (5 ∷ 6 ∷ 7 ∷ 2 ∷ [])))) 9 (lf 4 (5 ∷ 6 ∷ 9 ∷ []))))) (5 ∷ 6 ∷ 9 ∷ []) (prefix 1 0 (5 ∷ 6 ∷ 7 ∷ []) (n4 2 (two 1 (lf 11 (5 ∷ 6 ∷ 7 ∷ 1 ∷ [])) 2 (lf 12 (5 ∷ 6 ∷ 7 ∷ 2 ∷ []))))) true
 unfolding marks marksAll rootMarks count
 under-node = record { model = refl; clause = refl }
