@@ -22,6 +22,7 @@ use Rattle.model.specs.Frame.{Lay, LayKids, Root, bare, tree, art, artKids, Tre
 use Rattle.model.specs.Frame.Lay.{leaf, prefix, node}
 use Rattle.model.specs.Frame.LayKids.{nil, kid}
 use Rattle.model.specs.Touch.{Part, hasByte, findLay, findLayKids, findAt}
+use Rattle.model.specs.Promise.{foundOf}
 use Rattle.model.proofs.StringLaws.{bool-cases, same-refl, same-true, clash}
 use Rattle.between.specs.Hole.{pathOf}
 use Rattle.between.proofs.TreeLaws.{leaf-parts, prefix-parts, node-parts, kid-parts}
@@ -30,7 +31,7 @@ use Rattle.between.proofs.LeadLaws.{plug-look}
 use Rattle.descent.specs.declared.spot.Spot.{Spot}
 use Rattle.descent.specs.declared.lookup.Held.{Held}
 use Rattle.descent.specs.Spot.{Way, Spotted, InTree, SpotAt, Going}
-use Rattle.descent.specs.Lookup.{valueIn, orEmpty, Looked}
+use Rattle.descent.specs.Lookup.{valueIn, Looked, shifted, Handed}
 use Rattle.descent.proofs.SeatLaws.{text-part, text-right, Seat, hole, seated}
 
 -- ---- the value stands where the tree with its places says
@@ -169,11 +170,11 @@ module _ {f k : List ℕ} {s : Spot} (D : (st : State) (W : Stands edition1 f st
       record { at = sym c; value = value-stands k W ∙ ap (valueIn f) c; inside = λ z. omega (arith, F .at .room); absent = λ z. clash (cc) }
 
 -- the value as a part of the frame
-module _ {f k : List ℕ} {st : State} {r : Root} {v : Held} (L : Looked f k st r v) where
-  pub value-part : v .found ≡ true → take (v .place + v .length - v .place) (drop (v .place) f) ≡ orEmpty (findIn edition1 (st .tree) k)
+module _ {f k : List ℕ} {st : State} {r : Root} {v : Held} (L : Looked f k st r v) (start : ℕ × ℕ) where
+  pub value-part : v .found ≡ true → Handed f start (foundOf (findAt edition1 r k)) (shifted start (v .place)) (take (v .place + v .length - v .place) (drop (v .place) f))
   value-part e =
       let n : v .place + v .length - v .place ≡ v .length = omega arith in
-      rw (L .value, e, n) refl
+      rw (← L .at, e, n) (record { stands = refl; bytes = refl })
 
-  pub value-none : v .found ≡ false → [] ≡ orEmpty (findIn edition1 (st .tree) k)
-  value-none e = rw (L .value, e) refl
+  pub value-none : {here : ℕ × ℕ} {part : List ℕ} → v .found ≡ false → here ≡ shifted start 0 → part ≡ [] → Handed f start (foundOf (findAt edition1 r k)) here part
+  value-none e h p = rw (← L .at, e) (record { stands = h; bytes = p })

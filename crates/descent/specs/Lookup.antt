@@ -1,7 +1,8 @@
--- What a look-up gives: the place and length of the key's value, which the state's value is; both 0 for an absent key.
+-- What a look-up gives: the place and length of the key's value, which the state's value is; both 0 for an absent key. And the value itself,
+-- as that part of the frame.
 use Prim.Native.Nat.{ℕ, _+_, _≤_}
 use mathlib.Core.Path.{_≡_}
-use mathlib.Core.List.{List, []}
+use mathlib.Core.List.{List}
 use mathlib.Core.Bool.{true, false}
 use mathlib.Core.Option.{Option, none, some}
 use lib.ListN.{length, take, drop}
@@ -10,6 +11,7 @@ use Rattle.model.specs.Edition.{edition1}
 use Rattle.model.specs.State.{State, findIn}
 use Rattle.model.specs.Frame.{Root}
 use Rattle.model.specs.Touch.{Part, findAt}
+use Rattle.model.specs.Promise.{Found}
 use Rattle.descent.specs.declared.lookup.Held.{Held}
 
 abbrev pub partOf : Held → Option Part
@@ -20,13 +22,18 @@ abbrev pub valueIn : List ℕ → Option Part → Option (List ℕ)
 valueIn f none = none
 valueIn f (some p) = some (take (p .long) (drop (p .at) f))
 
-abbrev pub orEmpty : Option (List ℕ) → List ℕ
-orEmpty none = []
-orEmpty (some v) = v
-
 -- key k was looked up in f, which stands for st with the root r
 pub record Looked (f k : List ℕ) (st : State) (r : Root) (v : Held) : Type 0 where
   pub at : partOf v ≡ findAt edition1 r k
   pub value : findIn edition1 (st .tree) k ≡ valueIn f (partOf v)
   pub inside : v .found ≡ true → v .place + v .length ≤ length f
   pub absent : v .found ≡ false → (v .place ≡ 0) × (v .length ≡ 0)
+
+-- n bytes on from a place in memory, which is a block and an offset in it (`ptr` of a reference)
+abbrev pub shifted : ℕ × ℕ → ℕ → ℕ × ℕ
+shifted p n = (p .0, n + p .1)
+
+-- of f, which starts at `start`, the part was handed back that the look-up tells: it starts `here`, and has these bytes
+pub record Handed (f : List ℕ) (start : ℕ × ℕ) (g : Found) (here : ℕ × ℕ) (part : List ℕ) : Type 0 where
+  pub stands : here ≡ shifted start (g .place)
+  pub bytes : part ≡ take (g .long) (drop (g .place) f)

@@ -2,12 +2,14 @@
 use crate::spot::Spot;
 use crate::walk;
 use fields::body::Leaf;
-ghost use mathlib.Core.Path.{_≡_};
+ghost use denote.Ref.{ptr};
 ghost use Rattle.model.specs.Edition.{edition1};
-ghost use Rattle.model.specs.State.{State, findIn};
+ghost use Rattle.model.specs.State.{State};
 ghost use Rattle.model.specs.Frame.{Stands};
+ghost use Rattle.model.specs.Touch.{findAt};
+ghost use Rattle.model.specs.Promise.{foundOf};
 ghost use Rattle.descent.specs.Spot.{Standing};
-ghost use Rattle.descent.specs.Lookup.{Looked, orEmpty};
+ghost use Rattle.descent.specs.Lookup.{Looked, Handed};
 
 pub struct Held {
     pub found: bool,
@@ -43,7 +45,7 @@ pub fn find(f: &[u8], key: &[u8]) -> Held
 // The value as a part of the frame; for an absent key the empty part at its start.
 pub fn value<'a>(f: &'a [u8], key: &[u8]) -> &'a [u8]
     requires { ⌜ Standing (now f) ⌝ }
-    ensures { λ r. ⌜ ((st : State) → Stands edition1 (now (f .entry)) st → now r ≡ orEmpty (findIn edition1 (st .tree) (now (key .entry)))) ⌝ }
+    ensures { λ r. ⌜ ((st : State) (W : Stands edition1 (now (f .entry)) st) → Handed (now (f .entry)) (ptr (f .entry)) (foundOf (findAt edition1 (W .root) (now (key .entry)))) (ptr r) (now r)) ⌝ }
 {
     let v = find(f, key);
     if v.found {
@@ -51,5 +53,5 @@ pub fn value<'a>(f: &'a [u8], key: &[u8]) -> &'a [u8]
         let to = from + v.length;
         return &f[from..to];
     }
-    &f[..0]
+    &f[0..0]
 }

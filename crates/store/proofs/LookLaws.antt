@@ -16,7 +16,7 @@ use Rattle.model.specs.Frame.{Root, Stands, Good}
 use Rattle.model.specs.Touch.{Part, findAt}
 use Rattle.model.specs.Promise.{Told, CheckPromise, LookUpPromise, notFound, foundOf}
 use Rattle.descent.specs.declared.lookup.Held.{Held}
-use Rattle.descent.specs.Lookup.{partOf, valueIn, orEmpty, Looked}
+use Rattle.descent.specs.Lookup.{partOf, valueIn, Looked, shifted, Handed}
 use Rattle.descent.proofs.LookLaws.{value-stands}
 use Rattle.model.proofs.UniqueLaws.{root-unique, stands-unique}
 use Rattle.store.specs.Found.{ValueAt}
@@ -131,26 +131,28 @@ module _ (f k : List ℕ) (n : ℕ) (given : CheckPromise edition1 f n) where
 
   -- ---- the value as a part
 
-  pub value-refused : (n ≡ 0 → ⊥) → ValueAt f k []
-  value-refused ne = record { at = 0; promise = record { look = notFound n; looked = refused-frame f k n given ne; starts = refl; holds = refl } }
+  module _ (start : ℕ × ℕ) where
+    from-start : start ≡ shifted start 0
+    from-start = ap (λ (n : ℕ). (start .0, n)) (omega arith)
 
-  pub value-illegal : n ≡ 0 → (e : ℕ) → e ≡ edition1 .keyFault k → (e ≡ 0 → ⊥) → ValueAt f k []
-  value-illegal z e q ne =
-      record { at = 0; promise = record { look = notFound (edition1 .keyFault k); looked = refused-key f k (good z) (λ y. ne (q ∙ y)); starts = refl; holds = refl } }
+    pub value-refused : (n ≡ 0 → ⊥) → ValueAt f k start start []
+    value-refused ne = record { at = 0; stands = from-start; promise = record { look = notFound n; looked = refused-frame f k n given ne; starts = refl; holds = refl } }
 
-  pub value-told : n ≡ 0 → (e : ℕ) → e ≡ edition1 .keyFault k → e ≡ 0 → (part : List ℕ) → ((s : State) → Stands edition1 f s → part ≡ orEmpty (findIn edition1 (s .tree) k)) → ValueAt f k part
-  value-told z e q h part v =
-      let g = good z in let p = findAt edition1 (g .1 .root) k in
-      record {
-        at = foundOf p .place;
-        promise = record {
-          look = foundOf p;
-          looked = found-part f k p g (sym q ∙ h) (λ s w. ap (λ (r : Root). findAt edition1 r k) (root-unique edition1 f (g .0) s (g .1) w)) (λ s w. ap (λ (x : State). findIn edition1 (x .tree) k) (stands-unique edition1 f s (g .0) w (g .1)) ∙ value-stands k (g .1));
-          starts = refl;
-          holds = v (g .0) (g .1) ∙ ap orEmpty (value-stands k (g .1)) ∙ in-order p;
-        };
-      }
-    where
-      in-order : (p : Option Part) → orEmpty (valueIn f p) ≡ take (foundOf p .long) (drop (foundOf p .place) f)
-      in-order none = refl
-      in-order (some p) = refl
+    pub value-illegal : n ≡ 0 → (e : ℕ) → e ≡ edition1 .keyFault k → (e ≡ 0 → ⊥) → ValueAt f k start start []
+    value-illegal z e q ne =
+        record { at = 0; stands = from-start; promise = record { look = notFound (edition1 .keyFault k); looked = refused-key f k (good z) (λ y. ne (q ∙ y)); starts = refl; holds = refl } }
+
+    pub value-told : {part : List ℕ} {here : ℕ × ℕ} → n ≡ 0 → (e : ℕ) → e ≡ edition1 .keyFault k → e ≡ 0
+        → ((s : State) (w : Stands edition1 f s) → Handed f start (foundOf (findAt edition1 (w .root) k)) here part) → ValueAt f k start here part
+    value-told z e q h v =
+        let g = good z in let p = findAt edition1 (g .1 .root) k in let H = v (g .0) (g .1) in
+        record {
+          at = foundOf p .place;
+          stands = H .stands;
+          promise = record {
+            look = foundOf p;
+            looked = found-part f k p g (sym q ∙ h) (λ s w. ap (λ (r : Root). findAt edition1 r k) (root-unique edition1 f (g .0) s (g .1) w)) (λ s w. ap (λ (x : State). findIn edition1 (x .tree) k) (stands-unique edition1 f s (g .0) w (g .1)) ∙ value-stands k (g .1));
+            starts = refl;
+            holds = H .bytes;
+          };
+        }

@@ -6,6 +6,7 @@ use descent::key;
 use descent::lookup;
 use layout::kind::Kind;
 ghost use mathlib.Core.Path.{_≡_};
+ghost use denote.Ref.{ptr};
 ghost use Rattle.answers.specs.Number.{checkNumber, lookUpPlace, lookUpLong};
 ghost use Rattle.model.specs.Edition.{edition1};
 ghost use Rattle.model.specs.Promise.{CheckPromise, LookUpPromise};
@@ -53,7 +54,7 @@ pub fn look_up(frame: &[u8], key: &[u8]) -> LookUp
 // "a second look-up call hands back the value itself as that part of the lent frame, and for an absent key or a refusal an empty
 // part at the frame's start"
 pub fn value<'a>(frame: &'a [u8], key: &[u8]) -> &'a [u8]
-    ensures { λ r. ⌜ ValueAt (now (frame .entry)) (now (key .entry)) (now r) ⌝ }
+    ensures { λ r. ⌜ ValueAt (now (frame .entry)) (now (key .entry)) (ptr (frame .entry)) (ptr r) (now r) ⌝ }
 {
     let mut free: [usize; Kind::TABLE] = [0; Kind::TABLE];
     let n = audit::check(frame, &mut free);

@@ -1,4 +1,5 @@
 -- `value` hands back the part that `find` gives. Assumes nothing.
+use mathlib.Core.Path.{refl}
 use native.Mathlib.Omega.{arith}
 use borrow.Author.Needs.{needs}
 use Rattle.descent.proofs.LookLaws.{value-part, value-none}
@@ -21,13 +22,19 @@ part-result-end : tie.Need-part-result-end
 part-result-end c = let z = c .before .before .before .before .before .pre in omega (arith, c .before .before .find .ensures (z .st) (z .stands) .inside (c .before .if1 .taken))
 
 returns : tie.Need-returns
-returns c = λ st W. value-part (c .before .before .before .find .ensures st W) (c .before .before .if1 .taken)
+returns c = λ st W. value-part (c .before .before .before .find .ensures st W) _ (c .before .before .if1 .taken)
 
-slice-aggregate-result : tie.Need-slice-aggregate-result
-slice-aggregate-result c = search needs
+sub-result-2 : tie.Need-sub-result-2
+sub-result-2 c = search needs
+
+part-result-start-2 : tie.Need-part-result-start-2
+part-result-start-2 c = search needs
+
+part-result-end-2 : tie.Need-part-result-end-2
+part-result-end-2 c = search needs
 
 returns-2 : tie.Need-returns-2
-returns-2 c = λ st W. value-none (c .before .before .find .ensures st W) (c .before .if1 .left)
+returns-2 c = λ st W. value-none (c .before .before .find .ensures st W) _ (c .before .if1 .left) refl refl
 
 pub value-spec : {M : Type 1} → statement M
 value-spec =
@@ -39,5 +46,7 @@ value-spec =
     part-result-start
     part-result-end
     returns
-    slice-aggregate-result
+    sub-result-2
+    part-result-start-2
+    part-result-end-2
     returns-2)
