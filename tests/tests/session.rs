@@ -10,8 +10,13 @@ use std::io::Write;
 use std::path::PathBuf;
 use std::process::{Command, Stdio};
 
-/// The programs of crates/ whose input and output are stored.
-const STORED: [&str; 2] = ["session", "session_script"];
+/// Inputs and the outputs stored for them: document 01's example, and a script
+/// with every command, every refusal that a line can bring about, lines of no
+/// command, and lines at the limit of their length.
+const STORED: [(&str, &str); 2] = [
+    ("crates/session/stdin", "crates/session/stdout"),
+    ("tests/scripts/long.stdin", "tests/scripts/long.stdout"),
+];
 /// Names the built program, if it stands elsewhere.
 const PROGRAM_VARIABLE: &str = "FRAME_SESSION";
 const SCRIPTS: u64 = 60;
@@ -20,9 +25,15 @@ fn root() -> PathBuf {
     PathBuf::from(env!("CARGO_MANIFEST_DIR")).join("..")
 }
 
-fn stored(program: &str, stream: &str) -> Vec<u8> {
-    let file = root().join("crates").join(program).join(stream);
-    std::fs::read(&file).unwrap_or_else(|error| panic!("{}: {error}", file.display()))
+fn stored(file: &str) -> Vec<u8> {
+    std::fs::read(root().join(file)).unwrap_or_else(|error| panic!("{file}: {error}"))
+}
+
+fn built_program() -> PathBuf {
+    let built = root().join("target/bin/session");
+    let program = std::env::var(PROGRAM_VARIABLE).map_or(built, PathBuf::from);
+    assert!(program.is_file(), "{} is missing: `rt check session` makes it", program.display());
+    program
 }
 
 /// The first line in which two outputs differ.
@@ -44,23 +55,28 @@ fn the_printed_example_is_answered_as_printed() {
     for calls in [&Second as &dyn Calls, &Exported] {
         assert_same(&output(calls, input), printed, "the example of document 01");
     }
-    assert_eq!(stored("session", "stdin"), input);
+    let (stdin, stdout) = STORED[0];
+    assert_eq!(stored(stdin), input);
+    assert_eq!(stored(stdout), printed);
 }
 
 #[test]
 fn stored_scripts_are_answered_as_stored() {
-    for program in STORED {
-        let (stdin, stdout) = (stored(program, "stdin"), stored(program, "stdout"));
+    let program = built_program();
+    let Effort { seed, rounds: _ } = Effort::from_environment();
+    let mut random = Random::new(seed);
+    for (stdin, stdout) in STORED {
+        let (input, expected) = (stored(stdin), stored(stdout));
         for calls in [&Second as &dyn Calls, &Exported] {
-            assert_same(&output(calls, &stdin), &stdout, program);
+            assert_same(&output(calls, &input), &expected, stdin);
         }
+        assert_same(&run(&program, &input, &mut random), &expected, stdin);
     }
 }
 
 #[test]
 fn the_built_program_agrees_on_random_scripts() {
-    let built = root().join("target/bin/session");
-    let program = std::env::var(PROGRAM_VARIABLE).map_or(built, PathBuf::from);
+    let program = built_program();
     let Effort { seed, rounds } = Effort::from_environment();
     for round in 0..rounds * SCRIPTS {
         let mut random = Random::new(seed.wrapping_mul(7_919).wrapping_add(round));
@@ -77,7 +93,7 @@ fn run(program: &PathBuf, input: &[u8], random: &mut Random) -> Vec<u8> {
         .stdin(Stdio::piped())
         .stdout(Stdio::piped())
         .spawn()
-        .unwrap_or_else(|error| panic!("{}: {error}", program.display()));
+        .expect("the program starts");
     let mut stdin = child.stdin.take().expect("the program has an input");
     let most = *random.pick(&[1, 7, 300, 5_000]);
     std::thread::scope(|scope| {

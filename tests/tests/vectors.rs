@@ -1,11 +1,14 @@
-//! What the program `vectors` writes, told a second time: the second store
-//! goes through the same steps, and the lines that document 01 prints figures
-//! for are held to those figures.
+//! W1 to W11 and the lengths and children that document 01 lists under "Run
+//! and compared", told step by step: the number given and U, B, R and X after
+//! it. The exported calls and the second store are held to the stored lines,
+//! and these to the figures that document 01 prints.
 
+use second_store::compare::{Calls, Second};
+use second_store::exported::Exported;
 use second_store::layout::{get16, get32, get_entry, AT_B, AT_R, AT_ROOT, AT_U, AT_X};
-use second_store::store;
 use std::fmt::Write;
-use std::path::Path;
+
+const STORED: &str = include_str!("../vectors.txt");
 
 const SMALL: (usize, usize) = (1_024, 8);
 const LARGE: (usize, usize) = (524_288, 10_240);
@@ -37,11 +40,12 @@ const PRINTED: [&str; 16] = [
 const UP: [(u8, usize); 6] = [(4, 4), (5, 5), (16, 5), (17, 6), (48, 6), (49, 7)];
 const DOWN: [(u8, usize); 6] = [(38, 7), (37, 6), (13, 6), (12, 5), (4, 5), (3, 4)];
 
-struct Told {
+struct Told<'a> {
+    calls: &'a dyn Calls,
     text: String,
 }
 
-impl Told {
+impl Told<'_> {
     fn counts(&mut self, given: u32, frame: &[u8]) {
         let [u, b, r, x] = [AT_U, AT_B, AT_R, AT_X].map(|at| get32(frame, at));
         write!(self.text, ": {given} U {u} B {b} R {r} X {x}").expect("a text takes more");
@@ -55,24 +59,25 @@ impl Told {
 
     fn format(&mut self, step: &str, (f, n): (usize, usize)) -> Vec<u8> {
         let mut frame = vec![0; f];
-        let given = store::format(&mut frame, f, n);
+        let given = self.calls.format(&mut frame, f, n);
         self.line(step, given, &frame);
         frame
     }
 
     fn put(&mut self, step: &str, frame: &mut [u8], key: &[u8], value: &[u8]) {
-        let given = store::put(frame, key, value);
+        let given = self.calls.put(frame, key, value);
         self.line(step, given, frame);
     }
 
     fn erase(&mut self, step: &str, frame: &mut [u8], key: &[u8]) {
-        let given = store::erase(frame, key);
+        let given = self.calls.erase(frame, key);
         self.line(step, given, frame);
     }
 
     fn look_up(&mut self, frame: &[u8], key: &[u8], expected: &[u8]) {
-        let (given, _, long) = store::look_up(frame, key);
-        let same = if store::value(frame, key) == expected { "the same" } else { "not the same" };
+        let (given, place, long) = self.calls.look_up(frame, key);
+        let value = &frame[place as usize..][..long as usize];
+        let same = if value == expected { "the same" } else { "not the same" };
         writeln!(self.text, "  looked up: {given} long {long} {same}").expect("a text takes more");
     }
 
@@ -90,7 +95,7 @@ impl Told {
         self.put("W4 put ab=3", &mut frame, b"ab", b"3");
         self.put("W5 put ac=4", &mut frame, b"ac", b"4");
         let mut packed = vec![0; frame.len()];
-        let given = store::pack(&frame, &mut packed);
+        let given = self.calls.pack(&frame, &mut packed);
         self.line("W6 pack W5", given, &packed);
         for (slot, at) in [(1, 64), (3, 72)] {
             writeln!(self.text, "W6 entry {slot}: {}", get32(&packed, at)).expect("a text");
@@ -125,18 +130,18 @@ impl Told {
     fn growth_and_shrinking(&mut self) {
         let mut frame = self.format("children 0", WIDE);
         for n in 1..=MOST_CHILDREN {
-            let given = store::put(&mut frame, &[n], b"v");
+            let given = self.calls.put(&mut frame, &[n], b"v");
             self.children(n, given, &frame);
         }
         for n in (1..=MOST_CHILDREN).rev() {
-            let given = store::erase(&mut frame, &[n]);
+            let given = self.calls.erase(&mut frame, &[n]);
             self.children(n - 1, given, &frame);
         }
     }
 }
 
-fn told() -> String {
-    let mut told = Told { text: String::new() };
+fn told(calls: &dyn Calls) -> String {
+    let mut told = Told { calls, text: String::new() };
     told.worked();
     told.lengths();
     told.growth_and_shrinking();
@@ -144,12 +149,11 @@ fn told() -> String {
 }
 
 #[test]
-fn the_lines_have_the_printed_figures() {
-    let told = told();
+fn the_stored_lines_have_the_printed_figures() {
+    let lines: Vec<&str> = STORED.lines().collect();
     for printed in PRINTED {
-        assert!(told.lines().any(|line| line.starts_with(printed)), "no line {printed}");
+        assert!(lines.iter().any(|line| line.starts_with(printed)), "no line {printed}");
     }
-    let lines: Vec<&str> = told.lines().collect();
     let top = lines.iter().position(|line| line.starts_with("children 49: "));
     let top = top.expect("a line for the most children");
     for (part, expected) in [(&lines[..=top], UP), (&lines[top..], DOWN)] {
@@ -166,18 +170,13 @@ fn the_lines_have_the_printed_figures() {
 }
 
 #[test]
-fn the_stored_lines_are_the_same() {
-    let root = Path::new(env!("CARGO_MANIFEST_DIR")).join("..");
-    let stored = std::fs::read_to_string(root.join("crates/vectors/stdout"));
-    let stored = stored.expect("crates/vectors has its lines stored");
-    for (at, (stored, told)) in stored.lines().zip(told().lines()).enumerate() {
-        assert_eq!(stored, told, "line {at}");
+fn the_calls_give_the_stored_lines() {
+    let stores: [(&str, &dyn Calls); 2] = [("the second store", &Second), ("exported", &Exported)];
+    for (of, calls) in stores {
+        let told = told(calls);
+        for (at, (told, stored)) in told.lines().zip(STORED.lines()).enumerate() {
+            assert_eq!(told, stored, "{of}: line {at}");
+        }
+        assert_eq!(told, STORED, "{of}");
     }
-    assert_eq!(stored, told());
-}
-
-#[test]
-#[ignore = "writes the lines out, for a stored file that has to be made anew"]
-fn write_the_lines() {
-    print!("{}", told());
 }

@@ -1,6 +1,6 @@
 -- A line that goes on, a line that is answered, and a part after another. Assumes nothing.
 use Prim.Native.Nat.{ℕ, _+_, _-_, _<_, _≤_}
-use mathlib.Core.Path.{_≡_, refl, sym, ap, _∙_}
+use mathlib.Core.Path.{_≡_, refl, ap, _∙_}
 use mathlib.Core.List.{List, [], _∷_, _++_, append-nil}
 use mathlib.Core.Bool.{true, false}
 use mathlib.Core.Logic.{⊎-elim}
@@ -14,7 +14,7 @@ use Rattle.lines.specs.Input.{linesAfter, restAfter, Held, Takes}
 use Rattle.lines.proofs.CutLaws.{rest-append, goes-on, ends, wholeLine}
 use Rattle.dialog.specs.Answer.{question, Answer, Replies}
 use Rattle.turns.specs.declared.part.Answered.{Answered}
-use Rattle.turns.specs.Session.{Turns, done, turn, unended}
+use Rattle.turns.specs.Session.{done, turn, unended}
 use Rattle.turns.specs.Part.{Part, Answers}
 use Rattle.turns.proofs.SessionLaws.{parts}
 
@@ -48,10 +48,10 @@ module _ {E : Edition} {b held after out : List ℕ} {long have : ℕ} (piece : 
             record { turns = rw (w .0) done; kept = w .1 };
       }
 
-  pub answered : {b' : List ℕ} {long' written : ℕ} → r .ended ≡ true → long' ≤ 16384
+  pub answered : {b' : List ℕ} {long' written : ℕ} → r .ended ≡ true → long' ≤ 16384 → length b' ≡ length b
       → Answer out written (λ text. ((line : List ℕ) → Held line after (r .have) → Replies E b long line b' long' text))
       → Answers E b long held have piece from b' after out (record { long = long'; have = 0; next = r .next; written = written })
-  answered {written = written} e h a =
+  answered {written = written} e h s a =
       record {
         within = a .within;
         reached = t .within;
@@ -59,7 +59,7 @@ module _ {E : Edition} {b held after out : List ℕ} {long have : ℕ} (piece : 
         fits = h;
         replies = λ begun k.
             let w = ends piece from r t begun k e in
-            record { turns = rw (w .1) (rw (append-nil (take written out)) at (turn (a .text (wholeLine piece from r t begun k) (w .0)) done)); kept = rw (w .2) (fresh after) };
+            record { turns = rw (w .1) (rw (append-nil (take written out)) at (turn (a .text (wholeLine piece from r t begun k) (w .0)) s done)); kept = rw (w .2) (fresh after) };
       }
 
 -- ---- many lines

@@ -1,6 +1,6 @@
 -- However what is read is cut into pieces, the replies are those to its lines. Assumes nothing.
 use Prim.Native.Nat.{ℕ, _≤_}
-use mathlib.Core.Path.{_≡_, refl, ap, _∙_}
+use mathlib.Core.Path.{_≡_, refl, ap}
 use mathlib.Core.List.{List, [], _∷_, _++_, append-assoc, flatten}
 use lib.ListN.{length}
 use Rattle.model.specs.Edition.{Edition}
@@ -12,7 +12,7 @@ module _ {E : Edition} where
   pub turns-append : {b b₁ b₂ t u : List ℕ} {long long₁ long₂ : ℕ} {l m : List (List ℕ)} → Turns E b long l b₁ long₁ t → Turns E b₁ long₁ m b₂ long₂ u
       → Turns E b long (l ++ m) b₂ long₂ (t ++ u)
   turns-append done k = k
-  turns-append (turn r h) k = rw append-assoc (turn r (turns-append h k))
+  turns-append (turn r s h) k = rw append-assoc (turn r s (turns-append h k))
 
   -- a part and then another are one part
   pub parts : {b b₁ b₂ t u : List ℕ} {long long₁ long₂ : ℕ} (begun part more : List ℕ) → Turns E b long (linesAfter begun part) b₁ long₁ t

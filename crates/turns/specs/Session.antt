@@ -12,11 +12,11 @@ use Rattle.dialog.specs.Answer.{question, Replies}
 abbrev pub greeting : List ℕ
 greeting = 102 ∷ 114 ∷ 97 ∷ 109 ∷ 101 ∷ 32 ∷ 115 ∷ 101 ∷ 115 ∷ 115 ∷ 105 ∷ 111 ∷ 110 ∷ 32 ∷ 49 ∷ 10 ∷ []
 
--- the replies to lines, one after another; each line finds the frame as the one before has left it
+-- the replies to lines, one after another; each line finds the frame as the one before has left it, in the same buffer
 pub data Turns (E : Edition) : List ℕ → ℕ → List (List ℕ) → List ℕ → ℕ → List ℕ → Type 0 where
   done : {b : List ℕ} {long : ℕ} → Turns E b long [] b long []
   turn : {b b₁ b₂ line text texts : List ℕ} {long long₁ long₂ : ℕ} {lines : List (List ℕ)} → Replies E b long line b₁ long₁ text
-      → Turns E b₁ long₁ lines b₂ long₂ texts → Turns E b long (line ∷ lines) b₂ long₂ (text ++ texts)
+      → length b₁ ≡ length b → Turns E b₁ long₁ lines b₂ long₂ texts → Turns E b long (line ∷ lines) b₂ long₂ (text ++ texts)
 
 -- "one that ends without a newline .. is answered `?`"; no bytes after the last newline are no line
 abbrev pub unended : List ℕ → List ℕ

@@ -25,11 +25,11 @@ same-length-4 c = search needs
 
 returns : tie.Need-returns
 returns c =
-    let q = c .before .before .before .before .before .before .reply .ensures in
+    let q = c .before .before .before .before .before .before .reply in
     let i = c .before .before .before .before .before .before .before .before .before .before .before in
     let t = i .before .before .before in
     let z = t .before .before .before .before .before .before .before .args in
-    answered (z .piece .now) (z .from) (t .take .result) (t .take .ensures) (i .if1 .taken) (q .1) (q .0)
+    answered (z .piece .now) (z .from) (t .take .result) (t .take .ensures) (i .if1 .taken) (q .ensures .1) (omega (arith, q .kept .0)) (q .ensures .0)
 
 same-length-5 : tie.Need-same-length-5
 same-length-5 c = search needs
