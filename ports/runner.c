@@ -48,13 +48,13 @@ __attribute__((aligned(16))) uint8_t stack[STACK_BYTES];
 /* What compiled code may ask a C library for. */
 
 void *memset(void *to, int byte, size_t length) {
-    volatile uint8_t *bytes = to;
+    uint8_t *bytes = to;
     for (size_t i = 0; i < length; i++) bytes[i] = (uint8_t)byte;
     return to;
 }
 
 void *memmove(void *to, const void *from, size_t length) {
-    volatile uint8_t *target = to;
+    uint8_t *target = to;
     const uint8_t *source = from;
     if ((uintptr_t)to < (uintptr_t)from) {
         for (size_t i = 0; i < length; i++) target[i] = source[i];
