@@ -177,7 +177,7 @@ mutual
   slots-all s p nil = nil-marks (slotIs s) p
   slots-all s p (kid b j l ks) = omega (arith, kid-marks (slotIs s) p b j l ks, slots-are s (p ++ b ∷ []) l, slots-all s p ks, sum-app (onSlot s) (items l) (itemsAll ks))
 
-slots-root : (s : ℕ) (r : Root) → count (slotIs s) (rootMarks r) ≡ sum (onSlot s) (rootItems r)
+pub slots-root : (s : ℕ) (r : Root) → count (slotIs s) (rootMarks r) ≡ sum (onSlot s) (rootItems r)
 unfolding rootItems sum
 slots-root s (bare t o) = omega (arith, bare-marks (slotIs s) t o, slot-sum s t EmptyRoot o)
 slots-root s (tree l) = rw (tree-marks l) (slots-are s [] l)
