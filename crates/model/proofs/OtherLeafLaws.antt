@@ -5,7 +5,7 @@ use mathlib.Core.Path.{_≡_, refl, ap, _∙_}
 use mathlib.Core.List.{List, [], _∷_, _++_}
 use mathlib.Core.Bool.{Bool, true, false}
 use mathlib.Core.Logic.{_⊎_, inl, inr, ⊎-elim}
-use mathlib.Core.Option.{none, some}
+use mathlib.Core.Option.{Option, none, some}
 use native.Mathlib.Omega.{arith}
 use native.Mathlib.Decide.{decLe}
 use lib.ListN.{length, drop, getD}
@@ -14,9 +14,10 @@ use borrow.Author.Tests.{eq-eqb}
 use Rattle.layout.specs.Kind.{Leaf, Prefix, EmptyRoot, most, shrinkMark}
 use Rattle.model.specs.Strings.{pick, same, shared}
 use Rattle.model.specs.Edition.{Edition}
-use Rattle.model.specs.State.{State}
+use Rattle.model.specs.Tree.{Art, findTree, findKids}
+use Rattle.model.specs.State.{State, findIn, eraseFound, eraseIn, onErase}
 use Rattle.model.specs.Item.{onSlot, sum}
-use Rattle.model.specs.Frame.{Lay, LayKids, Root, bare, tree, rootItems, RootAt, Tree, Trees, freed, Stands}
+use Rattle.model.specs.Frame.{Lay, LayKids, art, artKids, Root, bare, tree, rootArt, rootItems, RootAt, Tree, Trees, freed, Stands}
 use Rattle.model.specs.Frame.Lay.{leaf, prefix, node}
 use Rattle.model.specs.Frame.LayKids.{nil, kid}
 use Rattle.model.specs.Mark.{Mark, mark, marks, marksAll, rootMarks, count}
@@ -273,6 +274,41 @@ module _ (E : Edition) (k x : List ℕ) (apart : same k x ≡ false) where
         no-one : {A : Type 0} → (A → (s ≡ 0) ⊎ (1 ≤ count (besides x s) (rootMarks r))) → A → ⊥
         no-one g a = ⊎-elim (λ e. omega arith) (λ e. not-besides e) (g a)
 
+-- ---- an erase that is done has found its key
+
+module _ (E : Edition) (k : List ℕ) where
+  mutual
+    lay-none : (l : Lay) (d : ℕ) → findLay E l d k ≡ none → findTree E (art l) d k ≡ none
+    lay-none (leaf s o e k' v') d h = bool-cases (same k k') (λ t. let z : some (record { at = e + length k'; long = length v' }) ≡ none = rw t at h in clash (cc)) (λ t. rw t refl)
+    lay-none (prefix s o q l) d h = bool-cases (eqb (shared q (drop d (E .walked k))) (length q)) (λ t. rw t (lay-none l (d + length q) (rw t at h))) (λ t. rw t refl)
+    lay-none (node s o kind ks) d h = lays-none ks d h
+
+    lays-none : (ks : LayKids) (d : ℕ) → findLayKids E ks d k ≡ none → findKids E (artKids ks) d k ≡ none
+    lays-none nil d h = refl
+    lays-none (kid b j l ks) d h = bool-cases (eqb b (getD (E .walked k) d 0)) (λ t. rw t (lay-none l (d + 1) (rw t at h))) (λ t. rw t (lays-none ks d (rw t at h)))
+
+  root-none : (r : Root) → findAt E r k ≡ none → findIn E (rootArt r) k ≡ none
+  root-none (bare s o) h = refl
+  root-none (tree l) h = lay-none l 0 h
+
+  absent8 : (s : State) (t : Option Art) → findIn E t k ≡ none → eraseIn E s k t .answer ≡ 8
+  absent8 s none h = refl
+  absent8 s (some a) h = ap (λ (z : Option (List ℕ)). eraseFound E s k a z .answer) h
+
+  erase-found : {f : List ℕ} {st : State} (w : Stands E f st) → onErase E st k .answer ≡ 0 → (c : Part) × (findAt E (w .root) k ≡ some c)
+  erase-found {f} {st} w h = go (findAt E (w .root) k) refl
+    where
+      go : (c : Option Part) → findAt E (w .root) k ≡ c → (c : Part) × (findAt E (w .root) k ≡ some c)
+      go (some c) e = (c, e)
+      go none e =
+          let t : st .tree ≡ rootArt (w .root) = ap (λ (z : State). z .tree) (w .state) in
+          let q : eraseIn E st k (st .tree) .answer ≡ 8 = absent8 st (st .tree) (ap (λ (z : Option Art). findIn E z k) t ∙ root-none (w .root) e) in
+          absurd (eqb-cases (E .keyFault k) 0
+          (λ u i. let z : eraseIn E st k (st .tree) .answer ≡ 0 = rw u at h in omega arith)
+          (λ u i. let z : E .keyFault k ≡ 0 = rw u at h in i z))
+
+-- ---- put and erase
+
 module _ {E : Edition} {f : List ℕ} {st : State} (w : Stands E f st) (k x : List ℕ) (apart : same k x ≡ false) (s : ℕ) (there : In (mark s Leaf x x) (rootMarks (w .root))) where
   slots-of : (u : ℕ) → count (slotIs u) (rootMarks (w .root)) + sum (onSlot u) (freed 1 (w .lists)) ≡ sum (onSlot u) (rootItems (w .root) ++ freed 1 (w .lists))
   slots-of u = omega (arith, slots-root u (w .root), sum-app (onSlot u) (rootItems (w .root)) (freed 1 (w .lists)))
@@ -286,9 +322,9 @@ module _ {E : Edition} {f : List ℕ} {st : State} (w : Stands E f st) (k x : Li
   not-listed : (t : Touch) → Touches (λ u. (u ≡ 0) ⊎ (1 ≤ count (besides x u) (rootMarks (w .root)))) t → among s (t .goes ++ t .rewrites) ≡ false
   not-listed = untouched E k x apart (w .root) s there (omega (arith, slots-of s, slot-once (w .heap .sound) s)) no-zero
 
-  -- neither a put of k, nor an erase of a k that is there, frees or rewrites the Leaf of x
+  -- neither a put nor an erase of k that is done frees or rewrites the Leaf of x
   pub put-others : (v : List ℕ) → let t = putTouch E (w .root) k v in among s (t .goes ++ t .rewrites) ≡ false
   put-others v = not-listed (putTouch E (w .root) k v) (put-root E k x apart f v (w .root) (w .rootAt))
 
-  pub erase-others : (c : Part) → findAt E (w .root) k ≡ some c → let t = eraseTouch E (w .root) k in among s (t .goes ++ t .rewrites) ≡ false
-  erase-others c h = not-listed (eraseTouch E (w .root) k) (erase-root E k x apart f c (w .root) (w .rootAt) h)
+  pub erase-others : onErase E st k .answer ≡ 0 → let t = eraseTouch E (w .root) k in among s (t .goes ++ t .rewrites) ≡ false
+  erase-others h = let F = erase-found E k w h in not-listed (eraseTouch E (w .root) k) (erase-root E k x apart f (F .0) (w .root) (w .rootAt) (F .1))
