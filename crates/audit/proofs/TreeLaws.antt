@@ -5,7 +5,6 @@ use mathlib.Core.List.{List, [], _∷_, _++_}
 use native.Mathlib.Omega.{arith}
 use lib.ListN.{length}
 use Rattle.layout.specs.Number.{Bytes}
-use Rattle.layout.specs.Kind.{Leaf, Prefix}
 use Rattle.layout.specs.Entry.{placeOf, highOf}
 use Rattle.model.specs.Edition.{edition1}
 use Rattle.model.specs.Tree.{extentOf}
@@ -15,6 +14,7 @@ use Rattle.model.specs.Frame.{Lay, LayKids, slotOf, IsNode, artKids, items, ite
 use Rattle.model.specs.Frame.Lay.{leaf, prefix, node}
 use Rattle.model.proofs.StandsGood.{tree-well}
 use Rattle.model.proofs.Edition1.{node-path1}
+use Rattle.model.proofs.OneBody.{node-below, below-node}
 use Rattle.audit.specs.Walk.{Live, TreeItems, Below}
 
 -- ---- a slot's body stands first
@@ -67,7 +67,7 @@ pub record PrefixBelow (f path : List ℕ) (o : ℕ) (ys : List Item) : Type 0 w
   pub bytes : List ℕ
   pub lay : Lay
   pub of : PrefixAt f o bytes (slotOf lay)
-  pub inner : IsNode lay
+  pub inner : Bytes f → IsNode lay
   pub tree : Tree edition1 f (path ++ bytes) lay
   pub are : items lay ≡ ys
 
@@ -77,12 +77,12 @@ prefix-of {f} {path} {s} {o} {ys} T = go (T .lay) (T .tree) (T .are)
   where
     go : (l : Lay) → Tree edition1 f path l → items l ≡ body s 2 o ∷ ys → PrefixBelow f path o ys
     go (leaf s' o' e k v) t z = absurd (omega (arith, body-same z .1))
-    go (prefix s' o' p l) t z = let q = body-same z in record { bytes = p; lay = l; of = rw (q .2) at (t .1); inner = t .2; tree = t .3; are = q .3 }
+    go (prefix s' o' p l) t z = let q = body-same z in record { bytes = p; lay = l; of = rw (q .2) at (t .1); inner = λ B. below-node f path p l B (t .2) (t .3); tree = t .3; are = q .3 }
     go (node s' o' kind ks) t z = let r = t .1 .inner .range in absurd (omega (arith, body-same z .1))
 
 pub prefix-is : {f path : List ℕ} {s o : ℕ} {p : List ℕ} (l : Lay) {ys : List Item} → Entry f s 2 o → PrefixAt f o p (slotOf l) → IsNode l → Tree edition1 f (path ++ p) l → items l ≡ ys → Below f path s 2 o ys
 unfolding Tree items
-prefix-is {f} {path} {s} {o} {p} l E P I T e = record { lay = prefix s o p l; tree = (E, P, I, T); slot = refl; are = ap (λ (v : List Item). body s 2 o ∷ v) e }
+prefix-is {f} {path} {s} {o} {p} l E P I T e = record { lay = prefix s o p l; tree = (E, P, node-below p l I, T); slot = refl; are = ap (λ (v : List Item). body s 2 o ∷ v) e }
 
 -- ---- below an inner node
 

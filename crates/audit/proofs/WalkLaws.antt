@@ -186,15 +186,15 @@ module _ {f path : List ℕ} {s o d u b : ℕ} {m : List ℕ} {t : Sums} where
   prefix-long {n} {depth} B l e h is K ys W Y =
       let P = prefix-of W in
       let z = P .of .long in
-      omega (arith, node-short f (path ++ P .bytes) (P .lay) B (P .inner) (P .tree), length-append path (P .bytes))
+      omega (arith, node-short f (path ++ P .bytes) (P .lay) B (P .inner B) (P .tree), length-append path (P .bytes))
 
-  pub prefix-child : {c : ℕ} → (InnerSlot f c u → ⊥) → c ≡ le 4 f (o + prefixChild) → Fails (Below f path s 2 o) d u b m t
-  prefix-child {c} n e is K ys W Y =
+  pub prefix-child : {c : ℕ} → Bytes f → (InnerSlot f c u → ⊥) → c ≡ le 4 f (o + prefixChild) → Fails (Below f path s 2 o) d u b m t
+  prefix-child {c} B n e is K ys W Y =
       let P = prefix-of W in
       let z : slotOf (P .lay) ≡ c = sym (P .of .child) ∙ sym e in
       let T : TreeItems f (path ++ P .bytes) c ys = record { lay = P .lay; tree = P .tree; slot = z; are = P .are } in
       let i = tree-slot ys is T Y in
-      let j = node-kind f (path ++ P .bytes) c (P .lay) (P .inner) (P .tree) z in
+      let j = node-kind f (path ++ P .bytes) c (P .lay) (P .inner B) (P .tree) z in
       n (record { first = i .0; last = i .1; low = j .0; high = j .1 })
 
   pub prefix-opens : {c : ℕ} {q : List ℕ} (P : PrefixHere f o) → Entry f s 2 o → InnerSlot f c u → c ≡ le 4 f (o + prefixChild) → q ≡ path ++ P .bytes

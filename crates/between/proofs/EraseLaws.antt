@@ -12,7 +12,7 @@ use borrow.Author.Tests.{eq-eqb, ne-eqb}
 use Rattle.layout.specs.Kind.{Leaf, shrinkMark, kindDown}
 use Rattle.model.specs.Strings.{pick, same, shared}
 use Rattle.model.specs.Edition.{Edition}
-use Rattle.model.specs.Tree.{Art, Kids, count, has, carried, findTree, extentOf, Change, over, Left, LeftKids, lessOne, loneChild, underPrefix, close, closeUnder, afterKids, consKid, fromChild, eraseTree, eraseKids}
+use Rattle.model.specs.Tree.{Art, Kids, isInner, count, has, carried, findTree, extentOf, Change, over, Left, LeftKids, lessOne, loneChild, underPrefix, close, closeUnder, afterKids, consKid, fromChild, eraseTree, eraseKids}
 use Rattle.model.specs.Tree.Left.{gone, one, kept}
 use Rattle.model.specs.Tree.LeftKids.{fewer, still}
 use Rattle.model.specs.State.{State, done, room, after, eraseChange, eraseDone, eraseFound, eraseIn, callErase}
@@ -20,10 +20,11 @@ use Rattle.model.specs.Frame.{Lay, LayKids, artKids}
 use Rattle.model.specs.Frame.Lay.{leaf, prefix, node}
 use Rattle.model.specs.Frame.LayKids.{nil, kid}
 use Rattle.model.specs.Touch.{touch, holder, size, Above, held, next, hasByte, without, touchErase, touchEraseKids, touchChild, touchLost}
+use Rattle.model.proofs.ChainLaws.{inner-atop, erase-atop}
 use Rattle.between.specs.Hole.{app, Step, under, among, plug1, plug, stepPath, pathOf, appKids, artStep, artIn}
 use Rattle.between.specs.Lead.{Leads, aboveOf, NotLeaf, NotUnder}
 use Rattle.between.proofs.KidsLaws.{has-is, app-without, not-byte}
-use Rattle.between.proofs.LeadLaws.{Takes, TakesAll, leads-takes, other-byte, path-length}
+use Rattle.between.proofs.LeadLaws.{Takes, TakesAll, Hangs1, HangsIn, leads-takes, other-byte, path-length}
 
 -- a change with another result
 abbrev pub withNow : {A B : Type 0} → B → Change A → Change B
@@ -36,9 +37,6 @@ now-same {A} c a e = go (c .now) e
     go x e = rw e refl
 
 -- ---- what is left closes
-
-under-kept : (p : List ℕ) (a : Art) (l : Left) (c : Change Left) → l ≡ kept a → closeUnder p l c ≡ withNow (kept (Art.prefix p a)) c
-under-kept p a l c e = rw e refl
 
 under-one : (p : List ℕ) (b : ℕ) (a : Art) (l : Left) (c : Change Left) → l ≡ one b a → closeUnder p l c ≡ underPrefix p b a c
 under-one p b a l c e = rw e refl
@@ -113,57 +111,57 @@ module _ (E : Edition) (k : List ℕ) (d b j : ℕ) (e : getD (E .walked k) d 0 
 -- ---- through the steps
 
 module _ (E : Edition) (k : List ℕ) where
-  step-erase : (x : Step) (a a' : Art) (c : Change Left) (d : ℕ) → Takes E k d x → eraseTree E a (d + length (stepPath x)) k ≡ c → c .now ≡ kept a' → eraseTree E (artStep x a) d k ≡ withNow (kept (artStep x a')) c
-  unfolding artStep Takes stepPath
-  step-erase (under s o p) a a' c d h q n = rw (eq-eqb (shared p (drop d (E .walked k))) (length p) h, q) (under-kept p a' (c .now) c n)
-  step-erase (among s o kind ls b j rs) a a' c d h q n =
+  step-erase : (x : Step) (a a' : Art) (c : Change Left) (d : ℕ) → Hangs1 x a → Hangs1 x a' → Takes E k d x → eraseTree E a (d + length (stepPath x)) k ≡ c → c .now ≡ kept a' → eraseTree E (artStep x a) d k ≡ withNow (kept (artStep x a')) c
+  unfolding artStep Takes stepPath Hangs1
+  step-erase (under s o p) a a' c d g g' h q n = erase-atop E p a a' d k c g g' h q n
+  step-erase (among s o kind ls b j rs) a a' c d g g' h q n =
       node-kept E k d b j (h .0) kind a a' c ls rs (ap (λ (x : Change Left). close (x .now) x) q ∙ close-kept a' (c .now) c n) n (h .1)
 
-  all-erase : (xs : List Step) (a a' : Art) (c : Change Left) → TakesAll E k xs → eraseTree E a (length (pathOf xs)) k ≡ c → c .now ≡ kept a' → eraseTree E (artIn xs a) 0 k ≡ withNow (kept (artIn xs a')) c
-  unfolding artIn pathOf TakesAll
-  all-erase [] a a' c h q n = q ∙ now-same c (kept a') n
-  all-erase (x ∷ xs) a a' c h q n =
-      all-erase xs (artStep x a) (artStep x a') (withNow (kept (artStep x a')) c) (h .1)
-      (step-erase x a a' c (length (pathOf xs)) (h .0) (ap (λ m. eraseTree E a m k) (sym (path-length x xs)) ∙ q) n) refl
+  all-erase : (xs : List Step) (a a' : Art) (c : Change Left) → HangsIn xs a → HangsIn xs a' → TakesAll E k xs → eraseTree E a (length (pathOf xs)) k ≡ c → c .now ≡ kept a' → eraseTree E (artIn xs a) 0 k ≡ withNow (kept (artIn xs a')) c
+  unfolding artIn pathOf TakesAll HangsIn
+  all-erase [] a a' c g g' h q n = q ∙ now-same c (kept a') n
+  all-erase (x ∷ xs) a a' c g g' h q n =
+      all-erase xs (artStep x a) (artStep x a') (withNow (kept (artStep x a')) c) (g .1) (g' .1) (h .1)
+      (step-erase x a a' c (length (pathOf xs)) (g .0) (g' .0) (h .0) (ap (λ m. eraseTree E a m k) (sym (path-length x xs)) ∙ q) n) refl
 
-  all-change : (xs : List Step) (a a' : Art) (c : Change Left) → TakesAll E k xs → eraseTree E a (length (pathOf xs)) k ≡ c → c .now ≡ kept a' → eraseChange E (artIn xs a) k ≡ withNow (kept (artIn xs a')) c
-  all-change xs a a' c h q n = ap (λ (x : Change Left). close (x .now) x) (all-erase xs a a' c h q n)
+  all-change : (xs : List Step) (a a' : Art) (c : Change Left) → HangsIn xs a → HangsIn xs a' → TakesAll E k xs → eraseTree E a (length (pathOf xs)) k ≡ c → c .now ≡ kept a' → eraseChange E (artIn xs a) k ≡ withNow (kept (artIn xs a')) c
+  all-change xs a a' c g g' h q n = ap (λ (x : Change Left). close (x .now) x) (all-erase xs a a' c g g' h q n)
 
   -- with one child left, and no Prefix above
-  all-lone : (xs : List Step) (a : Art) (b : ℕ) (a0 a' : Art) (c : Change Left) → NotUnder xs → TakesAll E k xs → eraseTree E a (length (pathOf xs)) k ≡ c → c .now ≡ one b a0 → loneChild b a0 c .now ≡ kept a'
+  all-lone : (xs : List Step) (a : Art) (b : ℕ) (a0 a' : Art) (c : Change Left) → NotUnder xs → HangsIn xs a → HangsIn xs a' → TakesAll E k xs → eraseTree E a (length (pathOf xs)) k ≡ c → c .now ≡ one b a0 → loneChild b a0 c .now ≡ kept a'
       → eraseChange E (artIn xs a) k ≡ withNow (kept (artIn xs a')) (loneChild b a0 c)
-  unfolding artIn pathOf TakesAll Takes stepPath artStep
-  all-lone [] a b a0 a' c u h q n m = ap (λ (x : Change Left). close (x .now) x) q ∙ close-one b a0 (c .now) c n ∙ now-same (loneChild b a0 c) (kept a') m
-  all-lone (under s o p ∷ xs) a b a0 a' c u h q n m = absurd u
-  all-lone (among s o kind ls y j rs ∷ xs) a b a0 a' c u h q n m =
+  unfolding artIn pathOf TakesAll Takes stepPath artStep HangsIn
+  all-lone [] a b a0 a' c u g g' h q n m = ap (λ (x : Change Left). close (x .now) x) q ∙ close-one b a0 (c .now) c n ∙ now-same (loneChild b a0 c) (kept a') m
+  all-lone (under s o p ∷ xs) a b a0 a' c u g g' h q n m = absurd u
+  all-lone (among s o kind ls y j rs ∷ xs) a b a0 a' c u g g' h q n m =
       let d = length (pathOf xs) in
       let q' : eraseTree E a (d + 1) k ≡ c = ap (λ i. eraseTree E a i k) (sym (path-length (among s o kind ls y j rs) xs)) ∙ q in
       let c' = loneChild b a0 c in
-      all-change xs (artStep (among s o kind ls y j rs) a) (artStep (among s o kind ls y j rs) a') (withNow (kept (artStep (among s o kind ls y j rs) a')) c') (h .1)
+      all-change xs (artStep (among s o kind ls y j rs) a) (artStep (among s o kind ls y j rs) a') (withNow (kept (artStep (among s o kind ls y j rs) a')) c') (g .1) (g' .1) (h .1)
       (node-kept E k d y j (h .0 .0) kind a a' c' ls rs (ap (λ (x : Change Left). close (x .now) x) q' ∙ close-one b a0 (c .now) c n) m (h .0 .1)) refl
 
   -- with one child left, under a Prefix
-  all-under : (s o : ℕ) (p : List ℕ) (xs : List Step) (a : Art) (b : ℕ) (a0 a' : Art) (c : Change Left) → TakesAll E k (under s o p ∷ xs) → eraseTree E a (length (pathOf (under s o p ∷ xs))) k ≡ c → c .now ≡ one b a0
+  all-under : (s o : ℕ) (p : List ℕ) (xs : List Step) (a : Art) (b : ℕ) (a0 a' : Art) (c : Change Left) → isInner a ≡ true → HangsIn xs (Art.prefix p a) → HangsIn xs a' → TakesAll E k (under s o p ∷ xs) → eraseTree E a (length (pathOf (under s o p ∷ xs))) k ≡ c → c .now ≡ one b a0
       → underPrefix p b a0 c .now ≡ kept a' → eraseChange E (artIn (under s o p ∷ xs) a) k ≡ withNow (kept (artIn xs a')) (underPrefix p b a0 c)
   unfolding artIn pathOf TakesAll Takes stepPath artStep
-  all-under s o p xs a b a0 a' c h q n m =
+  all-under s o p xs a b a0 a' c i g g' h q n m =
       let d = length (pathOf xs) in
       let q' : eraseTree E a (d + length p) k ≡ c = ap (λ i. eraseTree E a i k) (sym (path-length (under s o p) xs)) ∙ q in
       let t : eqb (shared p (drop d (E .walked k))) (length p) ≡ true = eq-eqb (shared p (drop d (E .walked k))) (length p) (h .0) in
       let z : eraseTree E (Art.prefix p a) d k ≡ underPrefix p b a0 c = rw (t, q') (under-one p b a0 (c .now) c n) in
-      all-change xs (Art.prefix p a) a' (underPrefix p b a0 c) (h .1) z m
+      ap (λ (x : Art). eraseChange E (artIn xs x) k) (sym (inner-atop p a i)) ∙ all-change xs (Art.prefix p a) a' (underPrefix p b a0 c) g g' (h .1) z m
 
 module _ {E : Edition} {k : List ℕ} {xs : List Step} {r : List ℕ} (L : Leads E k xs r) where
-  pub plug-erase : (a a' : Art) (c : Change Left) → eraseTree E a (length (pathOf xs)) k ≡ c → c .now ≡ kept a' → eraseChange E (artIn xs a) k ≡ withNow (kept (artIn xs a')) c
-  plug-erase a a' c q n = all-change E k xs a a' c (leads-takes L) q n
+  pub plug-erase : (a a' : Art) (c : Change Left) → HangsIn xs a → HangsIn xs a' → eraseTree E a (length (pathOf xs)) k ≡ c → c .now ≡ kept a' → eraseChange E (artIn xs a) k ≡ withNow (kept (artIn xs a')) c
+  plug-erase a a' c g g' q n = all-change E k xs a a' c g g' (leads-takes L) q n
 
-  pub plug-lone : (a : Art) (b : ℕ) (a0 a' : Art) (c : Change Left) → NotUnder xs → eraseTree E a (length (pathOf xs)) k ≡ c → c .now ≡ one b a0 → loneChild b a0 c .now ≡ kept a'
+  pub plug-lone : (a : Art) (b : ℕ) (a0 a' : Art) (c : Change Left) → NotUnder xs → HangsIn xs a → HangsIn xs a' → eraseTree E a (length (pathOf xs)) k ≡ c → c .now ≡ one b a0 → loneChild b a0 c .now ≡ kept a'
       → eraseChange E (artIn xs a) k ≡ withNow (kept (artIn xs a')) (loneChild b a0 c)
-  plug-lone a b a0 a' c u q n m = all-lone E k xs a b a0 a' c u (leads-takes L) q n m
+  plug-lone a b a0 a' c u g g' q n m = all-lone E k xs a b a0 a' c u g g' (leads-takes L) q n m
 
 pub plug-under-lone : {E : Edition} {k : List ℕ} {s o : ℕ} {p : List ℕ} {xs : List Step} {r : List ℕ} → Leads E k (under s o p ∷ xs) r → (a : Art) (b : ℕ) (a0 a' : Art) (c : Change Left)
-    → eraseTree E a (length (pathOf (under s o p ∷ xs))) k ≡ c → c .now ≡ one b a0 → underPrefix p b a0 c .now ≡ kept a' → eraseChange E (artIn (under s o p ∷ xs) a) k ≡ withNow (kept (artIn xs a')) (underPrefix p b a0 c)
-plug-under-lone {E} {k} {s} {o} {p} {xs} L a b a0 a' c q n m = all-under E k s o p xs a b a0 a' c (leads-takes L) q n m
+    → isInner a ≡ true → HangsIn xs (Art.prefix p a) → HangsIn xs a' → eraseTree E a (length (pathOf (under s o p ∷ xs))) k ≡ c → c .now ≡ one b a0 → underPrefix p b a0 c .now ≡ kept a' → eraseChange E (artIn (under s o p ∷ xs) a) k ≡ withNow (kept (artIn xs a')) (underPrefix p b a0 c)
+plug-under-lone {E} {k} {s} {o} {p} {xs} L a b a0 a' c i g g' q n m = all-under E k s o p xs a b a0 a' c i g g' (leads-takes L) q n m
 
 -- ---- what an erase touches
 

@@ -16,17 +16,19 @@ use Rattle.model.specs.Edition.{Edition}
 use Rattle.model.specs.Item.{extent}
 use Rattle.model.specs.Tree.{Art, Kids, extentOf, count, has, join, placeIn, carried, over, newKey, findTree, findKids, putTree, putKids}
 use Rattle.model.proofs.StandsGood.{length-pairs}
-use Rattle.model.specs.Frame.{Lay, LayKids, artKids, pairs, Begins}
-use Rattle.model.specs.Frame.Lay.{leaf, node}
+use Rattle.model.specs.Frame.{Lay, LayKids, art, artKids, pairs, Begins, Tree}
+use Rattle.model.specs.Frame.Lay.{leaf, prefix, node}
 use Rattle.model.specs.Frame.LayKids.{nil, kid}
 use Rattle.model.specs.Touch.{hasByte, touchPut, touchPutKids, findLay, findLayKids, extentAt}
 use Rattle.model.proofs.StringLaws.{shared-whole, same-refl}
+use Rattle.model.proofs.ChainLaws.{Hung, hung-atop, atop-full, below-hung, put-atop, find-atop}
 use Rattle.inner.proofs.InnerLaws.{inner-asc}
 use Rattle.between.specs.Hole.{app, joinLay, Step, under, among, plug1, plug, stepPath, pathOf, holderOf, stepSlot, appKids, artStep, artIn}
 use Rattle.between.specs.Work.{blank, Around}
-use Rattle.between.specs.Lead.{Foremost, Leads}
-use Rattle.between.proofs.KidsLaws.{has-is, app-left, not-byte}
-use Rattle.between.proofs.HoleLaws.{under-parts, among-parts}
+use Rattle.between.specs.Lead.{Foremost, Leads, NotUnder}
+use Rattle.between.proofs.KidsLaws.{has-is, app-left, not-byte, art-app}
+use Rattle.between.proofs.HoleLaws.{under-parts, among-parts, hole-out}
+use Rattle.between.proofs.TreeLaws.{prefix-parts}
 
 -- ---- what leads
 
@@ -135,17 +137,26 @@ module _ (E : Edition) (k : List ℕ) (d b j : ℕ) (e : getD (E .walked k) d 0 
 
 -- ---- through one step
 
+-- what hangs in the hole may hang there
+unfoldable pub Hangs1 : Step → Art → Type 0
+Hangs1 (under s o p) a = Hung p a
+Hangs1 (among s o kind ls b j rs) a = Unit {0}
+
+unfoldable pub HangsIn : List Step → Art → Type 0
+HangsIn [] a = Unit {0}
+HangsIn (x ∷ xs) a = Hangs1 x a × HangsIn xs (artStep x a)
+
 module _ (E : Edition) (k : List ℕ) where
-  step-put : (v : List ℕ) (x : Step) (a : Art) (d : ℕ) → Takes E k d x → putTree E (artStep x a) d k v ≡ over (artStep x) (putTree E a (d + length (stepPath x)) k v)
-  unfolding artStep Takes stepPath
-  step-put v (under s o p) a d h = rw (eq-eqb (shared p (drop d (E .walked k))) (length p) h) refl
-  step-put v (among s o kind ls b j rs) a d h =
+  step-put : (v : List ℕ) (x : Step) (a : Art) (d : ℕ) → Hangs1 x a → Takes E k d x → putTree E (artStep x a) d k v ≡ over (artStep x) (putTree E a (d + length (stepPath x)) k v)
+  unfolding artStep Takes stepPath Hangs1
+  step-put v (under s o p) a d g h = put-atop E p a d k v g h
+  step-put v (among s o kind ls b j rs) a d g h =
       let q : has (getD (E .walked k) d 0) (appKids (artKids ls) (Kids.kid b j a (artKids rs))) ≡ true = rw (h .0) (has-app b j a (artKids ls) (artKids rs)) in
       rw q (ap (over (Art.node kind)) (put-app E k d b j (h .0) v a (artKids ls) (artKids rs) (has-is b ls ∙ h .1)))
 
   step-find : (x : Step) (a : Art) (d : ℕ) → Takes E k d x → findTree E (artStep x a) d k ≡ findTree E a (d + length (stepPath x)) k
   unfolding artStep Takes stepPath
-  step-find (under s o p) a d h = rw (eq-eqb (shared p (drop d (E .walked k))) (length p) h) refl
+  step-find (under s o p) a d h = find-atop E p a d k h
   step-find (among s o kind ls b j rs) a d h = find-app E k d b j (h .0) a (artKids ls) (artKids rs) (has-is b ls ∙ h .1)
 
   step-look : (x : Step) (t : Lay) (d : ℕ) → Takes E k d x → findLay E (plug1 x t) d k ≡ findLay E t (d + length (stepPath x)) k
@@ -160,6 +171,45 @@ module _ (E : Edition) (k : List ℕ) where
       let q : hasByte (getD (E .walked k) d 0) (app ls (kid b j t rs)) ≡ true = rw (h .0) (has-lay b j t ls rs) in
       rw q (touch-app E k d b j (h .0) v t ls rs s (h .1))
 
+-- a tree that stands hangs as it may
+pub hangs-in : (E : Edition) (f : List ℕ) (xs : List Step) (t : Lay) → Tree E f [] (plug xs t) → HangsIn xs (art t)
+unfolding HangsIn Hangs1 plug plug1 artStep
+hangs-in E f [] t T = tt
+hangs-in E f (under s o p ∷ xs) t T =
+    let R = hole-out E f xs (prefix s o p t) T in
+    (below-hung p t (prefix-parts E f (pathOf xs) s o p t (R .2) .2), hangs-in E f xs (prefix s o p t) T)
+hangs-in E f (among s o kind ls b j rs ∷ xs) t T =
+    (tt, rw (art-app ls (kid b j t rs)) at (hangs-in E f xs (node s o kind (app ls (kid b j t rs))) T))
+
+-- what is put in its place may hang there too: only the step just above looks at it
+step-hangs : (x y : Step) (a a' : Art) → Hangs1 y (artStep x a) → Hangs1 y (artStep x a')
+unfolding Hangs1 artStep
+step-hangs (under s o p) (under s' o' q) a a' h = hung-atop q p a' (atop-full q p a h)
+step-hangs (among s o kind ls b j rs) (under s' o' q) a a' h = tt
+step-hangs x (among s o kind ls b j rs) a a' h = tt
+
+hangs-above : (x : Step) (xs : List Step) (a a' : Art) → HangsIn xs (artStep x a) → HangsIn xs (artStep x a')
+unfolding HangsIn
+hangs-above x [] a a' h = tt
+hangs-above x (y ∷ xs) a a' h = (step-hangs x y a a' (h .0), hangs-above y xs (artStep x a) (artStep x a') (h .1))
+
+pub hangs-over : (xs : List Step) (a a' : Art) → ((p : List ℕ) → Hung p a → Hung p a') → HangsIn xs a → HangsIn xs a'
+unfolding HangsIn Hangs1
+hangs-over [] a a' n h = tt
+hangs-over (under s o p ∷ xs) a a' n h = (n p (h .0), hangs-above (under s o p) xs a a' (h .1))
+hangs-over (among s o kind ls b j rs ∷ xs) a a' n h = (tt, hangs-above (among s o kind ls b j rs) xs a a' (h .1))
+
+pub hangs-free : (xs : List Step) (a a' : Art) → NotUnder xs → HangsIn xs a → HangsIn xs a'
+unfolding HangsIn Hangs1
+hangs-free [] a a' n h = tt
+hangs-free (under s o p ∷ xs) a a' n h = absurd n
+hangs-free (among s o kind ls b j rs ∷ xs) a a' n h = (tt, hangs-above (among s o kind ls b j rs) xs a a' (h .1))
+
+-- below a Prefix
+pub hangs-under : (s o : ℕ) (p : List ℕ) (xs : List Step) (kind : ℕ) (ks : Kids) → HangsIn (under s o p ∷ xs) (Art.node kind ks) → HangsIn xs (Art.prefix p (Art.node kind ks))
+unfolding HangsIn artStep
+hangs-under s o p xs kind ks h = h .1
+
 -- ---- through all
 
 pub path-length : (x : Step) (xs : List Step) → length (pathOf (x ∷ xs)) ≡ length (pathOf xs) + length (stepPath x)
@@ -167,11 +217,11 @@ unfolding pathOf
 path-length x xs = length-append (pathOf xs) (stepPath x)
 
 module _ (E : Edition) (k : List ℕ) where
-  all-put : (v : List ℕ) (xs : List Step) (a : Art) → TakesAll E k xs → putTree E (artIn xs a) 0 k v ≡ over (artIn xs) (putTree E a (length (pathOf xs)) k v)
-  unfolding artIn pathOf TakesAll
-  all-put v [] a h = refl
-  all-put v (x ∷ xs) a h =
-      all-put v xs (artStep x a) (h .1) ∙ ap (over (artIn xs)) (step-put E k v x a (length (pathOf xs)) (h .0))
+  all-put : (v : List ℕ) (xs : List Step) (a : Art) → HangsIn xs a → TakesAll E k xs → putTree E (artIn xs a) 0 k v ≡ over (artIn xs) (putTree E a (length (pathOf xs)) k v)
+  unfolding artIn pathOf TakesAll HangsIn
+  all-put v [] a g h = refl
+  all-put v (x ∷ xs) a g h =
+      all-put v xs (artStep x a) (g .1) (h .1) ∙ ap (over (artIn xs)) (step-put E k v x a (length (pathOf xs)) (g .0) (h .0))
       ∙ ap (λ n. over (λ y. artIn xs (artStep x y)) (putTree E a n k v)) (sym (path-length x xs))
 
   all-find : (xs : List Step) (a : Art) → TakesAll E k xs → findTree E (artIn xs a) 0 k ≡ findTree E a (length (pathOf xs)) k
@@ -191,8 +241,8 @@ module _ (E : Edition) (k : List ℕ) where
       all-touch v xs (plug1 x t) (h .1) ∙ step-touch E k v x t (holderOf xs) (length (pathOf xs)) (h .0) ∙ ap (λ n. touchPut E t (stepSlot x) n k v) (sym (path-length x xs))
 
 module _ {E : Edition} {k : List ℕ} {xs : List Step} {r : List ℕ} (L : Leads E k xs r) where
-  pub plug-put : (v : List ℕ) (a : Art) → putTree E (artIn xs a) 0 k v ≡ over (artIn xs) (putTree E a (length (pathOf xs)) k v)
-  plug-put v a = all-put E k v xs a (leads-takes L)
+  pub plug-put : (v : List ℕ) (a : Art) → HangsIn xs a → putTree E (artIn xs a) 0 k v ≡ over (artIn xs) (putTree E a (length (pathOf xs)) k v)
+  plug-put v a g = all-put E k v xs a g (leads-takes L)
 
   pub plug-find : (a : Art) → findTree E (artIn xs a) 0 k ≡ findTree E a (length (pathOf xs)) k
   plug-find a = all-find E k xs a (leads-takes L)

@@ -23,7 +23,8 @@ use Rattle.model.specs.Frame.Lay.{leaf, prefix, node}
 use Rattle.model.specs.Frame.LayKids.{nil, kid}
 use Rattle.model.specs.Touch.{Part, hasByte, findLay, findLayKids, findAt}
 use Rattle.model.specs.Promise.{foundOf}
-use Rattle.model.proofs.StringLaws.{bool-cases, same-refl, same-true, clash}
+use Rattle.model.proofs.StringLaws.{bool-cases, eqb-cases, same-refl, same-true, clash}
+use Rattle.model.proofs.ChainLaws.{find-atop, find-apart}
 use Rattle.between.specs.Hole.{pathOf}
 use Rattle.between.proofs.TreeLaws.{leaf-parts, prefix-parts, node-parts, kid-parts}
 use Rattle.between.proofs.KidsLaws.{look-none, not-byte}
@@ -49,8 +50,9 @@ module _ (f : List ℕ) where
     value-lay path (leaf s o e k' v') d k T =
         both (same k k') (some v') none (some (record { at = e + length k'; long = length v' })) none (its-value path o e k' v' (leaf-parts edition1 f path s o e k' v' T .1 .at)) refl
     value-lay path (prefix s o p l) d k T =
-        both (eqb (shared p (drop d (edition1 .walked k))) (length p)) (findTree edition1 (art l) (d + length p) k) none (findLay edition1 l (d + length p) k) none
-        (value-lay (path ++ p) l (d + length p) k (prefix-parts edition1 f path s o p l T .3)) refl
+        eqb-cases (shared p (drop d (edition1 .walked k))) (length p)
+        (λ t e. rw t (find-atop edition1 p (art l) d k e ∙ value-lay (path ++ p) l (d + length p) k (prefix-parts edition1 f path s o p l T .3)))
+        (λ t n. rw t (find-apart edition1 p (art l) d k n))
     value-lay path (node s o kind ks) d k T = value-kids path ks d k (node-parts edition1 f path s o kind ks T .2)
 
     pub value-kids : (path : List ℕ) (ks : LayKids) (d : ℕ) (k : List ℕ) → Trees edition1 f path ks → findKids edition1 (artKids ks) d k ≡ valueIn f (findLayKids edition1 ks d k)

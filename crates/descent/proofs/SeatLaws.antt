@@ -16,12 +16,11 @@ use Rattle.model.specs.Edition.{edition1}
 use Rattle.model.specs.Item.{Item, body, extent, sum, Same}
 use Rattle.model.specs.Body.{Text, lookKid}
 use Rattle.model.specs.Tree.{extentOf}
-use Rattle.model.specs.Frame.{Lay, LayKids, Root, tree, slotOf, art, artKids, items, itemsAll, pairs, Entry, Tree, RootAt, rootItems, Numbers, viewOf, Heap}
+use Rattle.model.specs.Frame.{Lay, LayKids, Root, tree, slotOf, artKids, items, itemsAll, pairs, Entry, Tree, RootAt, rootItems, Numbers, viewOf, Heap}
 use Rattle.model.specs.Frame.Lay.{leaf, prefix, node}
 use Rattle.model.proofs.StringLaws.{all-right}
-use Rattle.model.proofs.StandsGood.{tree-well}
+use Rattle.model.proofs.StandsGood.{below-inside, tree-well}
 use Rattle.model.proofs.Edition1.{lawful1, Positive, inside1, node-path1}
-use Rattle.model.proofs.WellLaws.{prefix-inside}
 use Rattle.model.proofs.ItemLaws.{sum-app, sum-cons}
 use Rattle.room.proofs.HeapLaws.{lies}
 use Rattle.between.specs.Hole.{Step, under, among, plug, pathOf, stepsItems}
@@ -164,7 +163,8 @@ module _ {f k : List ℕ} {s : Spot} (G : Going f k s) where
           let d : o' ≡ o = rw z at (same-entry 2 o p q .1) in
           let c : s' ≡ s .here .slot = rw z at (G .way .slotIs) in
           let T : Tree edition1 f path (prefix s' o' b l) = rw z at (hole .2) in
-          let W = inside1 (path ++ b) (prefix-inside lawful1 b (art l) path (tree-well edition1 f (G .stands .bytes) path (prefix s' o' b l) T)) .short in
+          let P = prefix-parts edition1 f path s' o' b l T in
+          let W = inside1 (path ++ b) (below-inside lawful1 f (path ++ b) b l (G .stands .bytes) (P .2) (P .3)) .short in
           let n = G .way .deep in
           record { going = G; bytes = b; below = l; is = z ∙ cc; at = rw (sym d) (prefix-parts edition1 f path s' o' b l T .1); low = going-entry .0; short = omega (arith, length-append path b) }
       go (node s' o' kind ks) z =

@@ -12,13 +12,14 @@ use Rattle.model.specs.Tree.Left.{kept}
 use Rattle.model.specs.State.{State, tally, eraseChange}
 use Rattle.model.specs.Item.{Item, body, cover, leafy, sum}
 use Rattle.model.specs.Body.{PrefixAt}
-use Rattle.model.specs.Frame.{Lay, IsNode, slotOf, art, items, rootItems, freed, Stands, tree}
+use Rattle.model.specs.Frame.{Lay, IsNode, slotOf, atop, art, artKids, items, rootItems, freed, Stands, tree}
 use Rattle.model.specs.Frame.Lay.{leaf, prefix, node}
 use Rattle.model.specs.Touch.{holder}
 use Rattle.model.specs.Mark.{marks, count, like}
 use Rattle.model.specs.Freedom.{is}
 use Rattle.model.proofs.ItemLaws.{sum-app, sum-cons}
 use Rattle.model.proofs.StandsGood.{leafy-other}
+use Rattle.model.proofs.OneBody.{OneBody, node-inner, node-below, leaf-one, join-one, back-one}
 use Rattle.model.proofs.MarkLaws.{leaf-marks, prefix-marks, is-gone, is-from, counts-like, stay-more}
 use Rattle.node.specs.Moved.{Only}
 use Rattle.room.specs.View.{rooted, released}
@@ -26,11 +27,14 @@ use Rattle.room.specs.Step.{Frees}
 use Rattle.room.proofs.HeapLaws.{two-apart, cover-body}
 use Rattle.between.specs.Hole.{Step, under, plug, pathOf, stepsItems, holderOf, Link, artIn}
 use Rattle.between.specs.Work.{blank, Suits, rootOf, Work}
+use Rattle.between.specs.Lead.{NotUnder}
 use Rattle.between.specs.Since.{holderItems}
 use Rattle.between.proofs.TreeLaws.{sum-none, leaf-sum, prefix-sum, node-sum, node-parts}
 use Rattle.between.proofs.HoleLaws.{art-plug, path-under, steps-under, suits-any, plug-under}
-use Rattle.between.proofs.WorkLaws.{standsView, work-above, work-free, work-turn, work-write, work-path, work-close, first-owns, forest-first, open-prefix, make-prefix}
+use Rattle.between.proofs.WorkLaws.{stands-tree, standsView, work-above, work-free, work-turn, work-write, work-path, work-close, first-owns, forest-first, make-prefix}
+use Rattle.between.proofs.OneLaws.{one-above, open-one}
 use Rattle.between.proofs.LinkLaws.{relinked}
+use Rattle.between.proofs.LeadLaws.{hangs-in, hangs-free}
 use Rattle.between.proofs.EraseLaws.{withNow, plug-under-lone}
 use Rattle.between.proofs.SinceLaws.{since-start, since-also, since-write, since-free, since-link}
 use Rattle.between.proofs.BookedLaws.{tally-turn, booked-root, booked-free}
@@ -44,7 +48,7 @@ use Rattle.prefix_body.specs.Prefix.{Spare, Joins}
 use Rattle.erase_join.specs.Lone.{IsLeaf, IsPrefix, Site, pairOf}
 use Rattle.erase_join.proofs.DropLaws.{Release, besides, frees-first, freed-first}
 use Rattle.erase_join.proofs.SiteLaws.{leaves, lost, nodeBody, beside, site-change, site-open, site-left, Mid}
-use Rattle.erase_join.proofs.UpLaws.{kind-prefix, relink-ok, node-short, leaf-shorter, slot-in, two-in}
+use Rattle.erase_join.proofs.UpLaws.{kind-prefix, relink-ok, leaf-shorter, slot-in, child-one, two-in, suits-free}
 
 tally-more : (a : ℕ) (ks ls : List ℕ) → ((j : ℕ) → tally ks j ≡ tally ls j) → (j : ℕ) → tally (a ∷ ks) j ≡ tally (a ∷ ls) j
 tally-more a ks ls e j = rw (e j) refl
@@ -71,18 +75,28 @@ path-joined : (a : Body) (p : List ℕ) (xs : List Step) (b : ℕ) (q : List ℕ
 path-joined a p xs b q = ap (λ z. z ++ q) (path-is a p xs b) ∙ append-assoc (pathOf xs) (p ++ b ∷ []) q ∙ ap (λ z. pathOf xs ++ z) (append-assoc p (b ∷ []) q)
 
 module _ {f k : List ℕ} {s : State} (w : Stands edition1 f s) {l : Lone} (a : Body) (p : List ℕ) (xs : List Step) {u : Lay} (P : Site k (w .root) (ups a p xs) l u) where
+  -- no other Prefix stands above it
+  alone : NotUnder xs
+  alone = one-above f (a .slot) (a .place) p xs (pairOf P) (w .bytes) (stands-tree w (plug (ups a p xs) (pairOf P)) (P .whole))
+
   over-change : (t : Lay) (frees : List ℕ) → underPrefix p (l .byte) (art u) (lost l u (extentOf k (P .value))) ≡ leaves (art t) [] frees (extentOf k (P .value))
       → eraseChange edition1 (art (plug (ups a p xs) (pairOf P))) k ≡ leaves (art (plug xs t)) [] frees (extentOf k (P .value))
   over-change t frees e =
       let m = extentOf k (P .value) in
+      let above = prefix (a .slot) (a .place) p (pairOf P) in
+      let H = hangs-in edition1 f xs above (stands-tree w (plug xs above) (P .whole ∙ ap tree (plug-under (a .slot) (a .place) p xs (pairOf P)))) in
       ap (λ (z : Art). eraseChange edition1 z k) (art-plug (ups a p xs) (pairOf P))
-      ∙ plug-under-lone (P .leads) (art (pairOf P)) (l .byte) (art u) (art t) (lost l u m) (site-change P) refl (ap (λ (c : Change Left). c .now) e)
+      ∙ plug-under-lone (P .leads) (art (pairOf P)) (l .byte) (art u) (art t) (lost l u m) refl H (hangs-free xs (art above) (art t) alone H) (site-change P) refl (ap (λ (c : Change Left). c .now) e)
       ∙ ap (withNow (kept (artIn xs (art t)))) e ∙ ap (λ (z : Art). leaves z [] frees m) (sym (art-plug xs t))
 
   -- the Prefix is loose
   opened-above : Work edition1 f (standsView w) xs (a .slot) ((pathOf (ups a p xs) ++ l .byte ∷ [], u) ∷ beside P) (body (a .slot) Prefix (a .place) ∷ nodeBody P)
       × PrefixAt f (a .place) p (l .node) × Suits xs (prefix (a .slot) (a .place) p (blank (l .node)))
   opened-above = work-above (a .slot) (a .place) p xs ((pathOf (ups a p xs) ++ l .byte ∷ [], u) ∷ beside P) (site-open w P)
+
+  -- its bytes and one more go into one Prefix with those of the child
+  joined-one : OneBody (length p + 1) u
+  joined-one = child-one w P (length p + 1) (omega (arith, ap length (path-under (a .slot) (a .place) p xs), length-append (pathOf xs) p))
 
   -- it, what stands above it, and the two bodies that every join frees
   three-in : (v : Item → ℕ) → v (body (l .leaf) Leaf (l .at)) + v (body (l .node) Node4 (P .nodeAt)) + v (body (a .slot) Prefix (a .place)) + sum v (stepsItems xs) + sum v (items u) ≤ sum v (rootItems (w .root))
@@ -107,7 +121,7 @@ module _ {f k : List ℕ} {s : State} (w : Stands edition1 f s) {l : Lone} (a : 
       leaf-closed =
           let fits = slot-in w P n Leaf o (λ z. omega (arith, leaf-sum z n o e k' v)) (omega arith) in
           work-close xs (leaf n o e k' v) (beside P) (relinked n (fits .0) (fits .1) (a .link) xs L leaf-work G) refl
-          (suits-any xs (prefix (a .slot) (a .place) p (blank (l .node))) (leaf n o e k' v) (λ z. absurd z) (opened-above w a p xs P .2))
+          (suits-free xs (leaf n o e k' v) (alone w a p xs P))
 
     pub leaf-frees : (u : Lay) → IsLeaf u → Site k (w .root) (ups a p xs) l u → Frees g (a .slot) Prefix
     leaf-frees (prefix n o q t) i P = absurd i
@@ -130,7 +144,7 @@ module _ {f k : List ℕ} {s : State} (w : Stands edition1 f s) {l : Lone} (a : 
           kinds = [];
           frees = Prefix ∷ Node4 ∷ Leaf ∷ [];
           freed = Prefix ∷ [];
-          change = over-change w a p xs P u (Prefix ∷ Node4 ∷ Leaf ∷ []) refl;
+          change = over-change w a p xs P u (Prefix ∷ Node4 ∷ Leaf ∷ []) (leaf-one (lost l u (extentOf k (P .value))) p (l .byte) (opened-above w a p xs P .1 .some) k' v (opened-above w a p xs P .1 .most));
           view = released (rooted (standsView w) (rootOf xs n)) (a .slot) Prefix (a .place) rest;
           work = work-free W2 (freed-first W2 R);
           booked = booked-free (booked-root (booked-none (standsView w) (w .heap .lists .eight)) (rootOf xs n)) (a .slot) Prefix (a .place) rest kind-prefix;
@@ -167,13 +181,11 @@ module _ {f k : List ℕ} {s : State} (w : Stands edition1 f s) {l : Lone} (a : 
   module _ (n o : ℕ) (q : List ℕ) (t : Lay) (P : Site k (w .root) (ups a p xs) l (prefix n o q t)) where
     both-loose : Work edition1 f (standsView w) xs (a .slot) (((pathOf (ups a p xs) ++ l .byte ∷ []) ++ q, t) ∷ beside P) (body n Prefix o ∷ body (a .slot) Prefix (a .place) ∷ nodeBody P)
         × PrefixAt f o q (slotOf t) × IsNode t
-    both-loose = open-prefix (pathOf (ups a p xs) ++ l .byte ∷ []) (beside P) (body (a .slot) Prefix (a .place) ∷ nodeBody P) n o q t (opened-above w a p xs P .0)
+    both-loose = open-one (pathOf (ups a p xs) ++ l .byte ∷ []) (beside P) (body (a .slot) Prefix (a .place) ∷ nodeBody P) n o q t (w .bytes) (opened-above w a p xs P .0)
 
     joins-at : Joins f (a .place) o
     joins-at =
         let W = both-loose in
-        let T = forest-first edition1 f ((pathOf (ups a p xs) ++ l .byte ∷ []) ++ q) t (beside P) (W .0 .trees) .0 in
-        let N = node-short f ((pathOf (ups a p xs) ++ l .byte ∷ []) ++ q) t (w .bytes) (W .2) T in
         record {
           bytes = p;
           below = l .node;
@@ -181,9 +193,14 @@ module _ {f k : List ℕ} {s : State} (w : Stands edition1 f s) {l : Lone} (a : 
           lower = q;
           child = slotOf t;
           lowerAt = W .1;
-          room = omega (arith, N, ap length (path-joined a p xs (l .byte) q), length-append (pathOf xs) (p ++ l .byte ∷ q), length-append p (l .byte ∷ q));
+          room = joined-one w a p xs P .2;
           apart = two-apart (w .heap .sound) (a .slot) Prefix (a .place) n Prefix o (λ v. omega (arith, three-in w a p xs P v, prefix-sum v n o q t, sum-app v (rootItems (w .root)) (freed 1 (w .lists)))) (omega arith) (omega arith);
         }
+
+    joined-change : underPrefix p (l .byte) (atop q (art t)) (lost l (prefix n o q t) (extentOf k (P .value))) ≡ leaves (atop (p ++ l .byte ∷ q) (art t)) [] (Prefix ∷ Node4 ∷ Leaf ∷ []) (extentOf k (P .value))
+    joined-change =
+        let O = joined-one w a p xs P in
+        join-one (lost l (prefix n o q t) (extentOf k (P .value))) p (l .byte) (opened-above w a p xs P .1 .some) q (art t) (node-inner t (O .0)) (O .1) (O .2)
 
     module _ {g : List ℕ} (K : Joined f g (a .place) (l .byte) o) where
       prefix-closed : Work edition1 g (standsView w) [] (slotOf (plug xs (prefix (a .slot) (a .place) (p ++ l .byte ∷ q) t))) (([], plug xs (prefix (a .slot) (a .place) (p ++ l .byte ∷ q) t)) ∷ beside P)
@@ -192,9 +209,9 @@ module _ {f k : List ℕ} {s : State} (w : Stands edition1 f s) {l : Lone} (a : 
           let W = both-loose in
           let W2 = work-write (work-turn (W .0) refl) (omega arith) (omega arith) (K .0) (omega arith) (omega arith) in
           let W3 = make-prefix (pathOf xs) (beside P) (body n Prefix o ∷ nodeBody P) (a .slot) (a .place) (p ++ l .byte ∷ q) t (work-path t (path-joined a p xs (l .byte) q) W2)
-          (K .1 p (l .node) q (slotOf t) (opened-above w a p xs P .1) (W .1)) (W .2) in
+          (K .1 p (l .node) q (slotOf t) (opened-above w a p xs P .1) (W .1)) (node-below (p ++ l .byte ∷ q) t (W .2)) in
           work-close xs (prefix (a .slot) (a .place) (p ++ l .byte ∷ q) t) (beside P) W3 refl
-          (suits-any xs (prefix (a .slot) (a .place) p (blank (l .node))) (prefix (a .slot) (a .place) (p ++ l .byte ∷ q) t) (λ z. z) (opened-above w a p xs P .2))
+          (suits-any xs (prefix (a .slot) (a .place) p (blank (l .node))) (prefix (a .slot) (a .place) (p ++ l .byte ∷ q) t) (λ z h. h) (opened-above w a p xs P .2))
 
       prefix-mid : {g' : List ℕ} → Release g g' n Prefix → Mid f g' k w P
       prefix-mid R =
@@ -211,7 +228,7 @@ module _ {f k : List ℕ} {s : State} (w : Stands edition1 f s) {l : Lone} (a : 
             kinds = [];
             frees = Prefix ∷ Node4 ∷ Leaf ∷ [];
             freed = Prefix ∷ [];
-            change = over-change w a p xs P u (Prefix ∷ Node4 ∷ Leaf ∷ []) refl;
+            change = over-change w a p xs P u (Prefix ∷ Node4 ∷ Leaf ∷ []) joined-change;
             view = released (standsView w) n Prefix o rest;
             work = work-free W2 (freed-first W2 R);
             booked = booked-free (booked-none (standsView w) (w .heap .lists .eight)) n Prefix o rest kind-prefix;
@@ -280,7 +297,7 @@ module _ {f k : List ℕ} {s : State} (w : Stands edition1 f s) {l : Lone} (a : 
           bytes = p;
           below = l .node;
           at = W .1;
-          room = omega (arith, node-short f path (node n o kind ks) (w .bytes) tt T, ap length (path-is a p xs (l .byte)), length-append (pathOf xs) (p ++ l .byte ∷ []), length-append p (l .byte ∷ []));
+          room = joined-one w a p xs P;
         },
         omega (arith, P .slotIs, slot-in w P n kind o (λ v. omega (arith, node-sum v n o kind ks)) (omega arith) .1),
       )
@@ -303,9 +320,9 @@ module _ {f k : List ℕ} {s : State} (w : Stands edition1 f s) {l : Lone} (a : 
         kinds = [];
         frees = Node4 ∷ Leaf ∷ [];
         freed = [];
-        change = over-change w a p xs P u (Node4 ∷ Leaf ∷ []) refl;
+        change = over-change w a p xs P u (Node4 ∷ Leaf ∷ []) (back-one (lost l t (extentOf k (P .value))) p (l .byte) (W .1 .some) kind (artKids ks) (joined-one w a p xs P));
         view = standsView w;
-        work = work-close xs u (beside P) W3 refl (suits-any xs (prefix (a .slot) (a .place) p (blank (l .node))) u (λ z. z) (W .2));
+        work = work-close xs u (beside P) W3 refl (suits-any xs (prefix (a .slot) (a .place) p (blank (l .node))) u (λ z h. h) (W .2));
         booked = booked-none (standsView w) (w .heap .lists .eight);
         tallies = tally-turn Leaf Node4 [];
         took = [];

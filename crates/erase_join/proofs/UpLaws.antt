@@ -5,7 +5,6 @@ use mathlib.Core.List.{List, [], _∷_, _++_, append-assoc}
 use mathlib.Core.Bool.{true}
 use native.Mathlib.Omega.{arith}
 use lib.ListN.{length, length-append}
-use Rattle.layout.specs.Number.{Bytes}
 use Rattle.layout.specs.Place.{entryAt}
 use Rattle.layout.specs.Kind.{Kind, Leaf, Prefix, Node4, bodySize}
 use Rattle.layout.specs.Entry.{placeOf}
@@ -16,14 +15,14 @@ use Rattle.model.specs.Tree.Left.{kept}
 use Rattle.model.specs.State.{State, room, eraseChange}
 use Rattle.model.specs.Item.{Item, body, cover, leafy, sum}
 use Rattle.model.specs.Body.{PrefixAt}
-use Rattle.model.specs.Frame.{Lay, LayKids, IsNode, slotOf, art, items, rootItems, Tree, View, Heap, freed, Stands}
+use Rattle.model.specs.Frame.{Lay, LayKids, IsNode, slotOf, atop, art, items, rootItems, View, Heap, freed, Stands}
 use Rattle.model.specs.Frame.Lay.{leaf, prefix, node}
 use Rattle.model.specs.Touch.{holder, held, Above, touchLone}
 use Rattle.model.specs.Mark.{mark, marks, count, like}
 use Rattle.model.specs.Freedom.{is}
 use Rattle.model.proofs.ItemLaws.{sum-app, sum-cons}
-use Rattle.model.proofs.StandsGood.{tree-well, leafy-other}
-use Rattle.model.proofs.Edition1.{node-path1}
+use Rattle.model.proofs.StandsGood.{leafy-other}
+use Rattle.model.proofs.OneBody.{OneBody, node-inner, node-below, one-body, lone-one}
 use Rattle.model.proofs.MarkLaws.{leaf-marks, prefix-marks, is-to, counts-like, stay-more}
 use Rattle.node.specs.Moved.{Only}
 use Rattle.room.specs.View.{listOf, placeFrom, taken, Roomy, rooted}
@@ -38,8 +37,10 @@ use Rattle.between.specs.Since.{holderItems, SlotsIn}
 use Rattle.between.specs.Edit.{Booked}
 use Rattle.between.proofs.TreeLaws.{sum-none, leaf-sum, prefix-sum, node-sum, leaf-parts, as-leaf, node-parts, begins-less}
 use Rattle.between.proofs.HoleLaws.{art-plug}
-use Rattle.between.proofs.WorkLaws.{standsView, work-as, work-take, work-write, work-path, work-close, forest-first, forest-more, forest-sum, open-prefix, make-prefix}
+use Rattle.between.proofs.WorkLaws.{stands-tree, standsView, work-as, work-take, work-write, work-path, work-close, forest-first, forest-more, forest-sum, make-prefix}
+use Rattle.between.proofs.OneLaws.{open-one}
 use Rattle.between.proofs.LinkLaws.{relinked, link-room}
+use Rattle.between.proofs.LeadLaws.{hangs-in, hangs-free}
 use Rattle.between.proofs.EraseLaws.{withNow, plug-lone}
 use Rattle.between.proofs.SinceLaws.{since-start, since-also, since-take, since-write, since-link}
 use Rattle.between.proofs.BookedLaws.{tally-turn, booked-row, booked-root, room-of}
@@ -63,12 +64,6 @@ relink-ok {f} {h} {xs} {s} at W L =
     let z = W .heap .header .size in
     (omega arith, link-room edition1 f xs at s L (W .around) (omega arith))
 
--- the path to an inner node is short
-pub node-short : (f path : List ℕ) (t : Lay) → Bytes f → IsNode t → Tree edition1 f path t → length path ≤ 112
-node-short f path (leaf s o e k v) B n T = absurd n
-node-short f path (prefix s o p t) B n T = absurd n
-node-short f path (node s o kind ks) B n T = node-path1 kind _ path (tree-well edition1 f B path (node s o kind ks) T) .short
-
 -- a Leaf stands under a shorter path too
 pub leaf-shorter : {f : List ℕ} {h : View} {xs : List Step} {s : ℕ} {ts : List (List ℕ × Lay)} {loose : List Item} (p q : List ℕ) (n o e : ℕ) (k v : List ℕ)
     → Work edition1 f h xs s ((p ++ q, leaf n o e k v) ∷ ts) loose → Work edition1 f h xs s ((p, leaf n o e k v) ∷ ts) loose
@@ -89,6 +84,12 @@ module _ {f k : List ℕ} {s : State} (w : Stands edition1 f s) {xs : List Step}
       let I1 = I .1 in
       (I .0, omega arith)
 
+  -- n bytes of the path to the child go into one Prefix with those that it begins with
+  pub child-one : (n : ℕ) → n ≤ length (pathOf xs) + 1 → OneBody n u
+  child-one n h =
+      let low = pathOf xs ++ l .byte ∷ [] in
+      one-body f low n u (w .bytes) (omega (arith, length-append (pathOf xs) (l .byte ∷ []))) (forest-first edition1 f low u (beside P) (site-open w P .trees) .0)
+
   -- the two bodies that every join frees
   pub two-in : (v : Item → ℕ) → v (body (l .leaf) Leaf (l .at)) + v (body (l .node) Node4 (P .nodeAt)) + sum v (stepsItems xs) + sum v (items u) ≤ sum v (rootItems (w .root))
   two-in v = omega (arith, site-sum w P v)
@@ -100,7 +101,7 @@ above-held [] n = refl
 above-held (under s o p ∷ xs) n = absurd n
 above-held (among s o kind ls b j rs ∷ xs) n = refl
 
-suits-free : (xs : List Step) (t : Lay) → NotUnder xs → Suits xs t
+pub suits-free : (xs : List Step) (t : Lay) → NotUnder xs → Suits xs t
 unfolding Suits
 suits-free [] t n = tt
 suits-free (under s o p ∷ xs) t n = absurd n
@@ -111,8 +112,9 @@ module _ {f k : List ℕ} {s : State} (w : Stands edition1 f s) {xs : List Step}
       → eraseChange edition1 (art (plug xs (pairOf P))) k ≡ leaves (art (plug xs t)) takes frees (extentOf k (P .value))
   lone-change t takes frees e =
       let m = extentOf k (P .value) in
+      let H = hangs-in edition1 f xs (pairOf P) (stands-tree w (plug xs (pairOf P)) (P .whole)) in
       ap (λ (a : Art). eraseChange edition1 a k) (art-plug xs (pairOf P))
-      ∙ plug-lone (P .leads) (art (pairOf P)) (l .byte) (art u) (art t) (lost l u m) free (site-change P) refl (ap (λ (c : Change Left). c .now) e)
+      ∙ plug-lone (P .leads) (art (pairOf P)) (l .byte) (art u) (art t) (lost l u m) free H (hangs-free xs (art (pairOf P)) (art t) free H) (site-change P) refl (ap (λ (c : Change Left). c .now) e)
       ∙ ap (withNow (kept (artIn xs (art t)))) e ∙ ap (λ (a : Art). leaves a takes frees m) (sym (art-plug xs t))
 
   -- the link to the hole names t, which is put there
@@ -174,27 +176,26 @@ module _ {f k : List ℕ} {s : State} (w : Stands edition1 f s) {xs : List Step}
 
   opened-prefix : (n o : ℕ) (p : List ℕ) (t : Lay) (P : Site k (w .root) xs l (prefix n o p t))
       → Work edition1 f (standsView w) xs (l .node) (((pathOf xs ++ l .byte ∷ []) ++ p, t) ∷ beside P) (body n Prefix o ∷ nodeBody P) × PrefixAt f o p (slotOf t) × IsNode t
-  opened-prefix n o p t P = open-prefix (pathOf xs ++ l .byte ∷ []) (beside P) (nodeBody P) n o p t (site-open w P)
+  opened-prefix n o p t P = open-one (pathOf xs ++ l .byte ∷ []) (beside P) (nodeBody P) n o p t (w .bytes) (site-open w P)
 
   pub prefix-spare : (u : Lay) → IsPrefix (l .place) u → Site k (w .root) xs l u → Spare f (l .place) 1
   prefix-spare (leaf n o e k' v) i P = absurd i
   prefix-spare (node n o kind ks) i P = absurd i
   prefix-spare (prefix n o p t) i P =
-      let W = opened-prefix n o p t P in
-      let T = forest-first edition1 f ((pathOf xs ++ l .byte ∷ []) ++ p) t (beside P) (W .0 .trees) .0 in
-      subst (λ z. Spare f z 1) i (record {
-        bytes = p;
-        below = slotOf t;
-        at = W .1;
-        room = omega (arith, node-short f ((pathOf xs ++ l .byte ∷ []) ++ p) t (w .bytes) (W .2) T, length-append (pathOf xs ++ l .byte ∷ []) p, length-append (pathOf xs) (l .byte ∷ []));
-      })
+      subst (λ z. Spare f z 1) i (record { bytes = p; below = slotOf t; at = opened-prefix n o p t P .1; room = omega (arith, child-one w P 1 (omega arith) .2) })
 
   fronted : {g : List ℕ} (n o : ℕ) (p : List ℕ) (t : Lay) (P : Site k (w .root) xs l (prefix n o p t)) → Fronted f g o (l .byte)
       → Work edition1 g (standsView w) xs (l .node) ((pathOf xs, prefix n o (l .byte ∷ p) t) ∷ beside P) (nodeBody P)
   fronted {g} n o p t P K =
       let W = opened-prefix n o p t P in
       let W1 = work-write (W .0) (omega arith) (omega arith) (K .0) (omega arith) (omega arith) in
-      make-prefix (pathOf xs) (beside P) (nodeBody P) n o (l .byte ∷ p) t (work-path t (append-assoc (pathOf xs) (l .byte ∷ []) p) W1) (K .1 p (slotOf t) (W .1)) (W .2)
+      make-prefix (pathOf xs) (beside P) (nodeBody P) n o (l .byte ∷ p) t (work-path t (append-assoc (pathOf xs) (l .byte ∷ []) p) W1) (K .1 p (slotOf t) (W .1)) (node-below (l .byte ∷ p) t (W .2))
+
+  fronted-change : (n o : ℕ) (p : List ℕ) (t : Lay) (P : Site k (w .root) xs l (prefix n o p t))
+      → loneChild (l .byte) (atop p (art t)) (lost l (prefix n o p t) (extentOf k (P .value))) ≡ leaves (atop (l .byte ∷ p) (art t)) [] (Node4 ∷ Leaf ∷ []) (extentOf k (P .value))
+  fronted-change n o p t P =
+      let O = child-one w P 1 (omega arith) in
+      lone-one (lost l (prefix n o p t) (extentOf k (P .value))) (l .byte) p (art t) (node-inner t (O .0)) (O .1) (O .2)
 
   pub prefix-links : {g : List ℕ} (u : Lay) → IsPrefix (l .place) u → Site k (w .root) xs l u → Fronted f g (l .place) (l .byte) → (64 ≤ length g) × (at + 4 ≤ length g)
   prefix-links (leaf n o e k' v) i P K = absurd i
@@ -218,7 +219,7 @@ module _ {f k : List ℕ} {s : State} (w : Stands edition1 f s) {xs : List Step}
         kinds = [];
         frees = Node4 ∷ Leaf ∷ [];
         freed = [];
-        change = lone-change w P free u [] (Node4 ∷ Leaf ∷ []) refl;
+        change = lone-change w P free u [] (Node4 ∷ Leaf ∷ []) (fronted-change n o p t P);
         view = rooted (standsView w) (rootOf xs n);
         work = up-work w P free at u L (slot-in w P n Prefix o (λ z. omega (arith, prefix-sum z n o p t)) (omega arith)) W G;
         booked = booked-root (booked-none (standsView w) (w .heap .lists .eight)) (rootOf xs n);

@@ -18,15 +18,16 @@ use Rattle.model.specs.Touch.{Touch, Outside, touchErase, eraseTouch}
 use Rattle.model.specs.Promise.{eraseKinds}
 use Rattle.model.specs.Mark.{marks}
 use Rattle.model.proofs.MarkLaws.{Stay}
+use Rattle.model.proofs.ChainLaws.{Hung}
 use Rattle.between.specs.Hole.{Step, plug, pathOf, artIn}
 use Rattle.between.specs.Work.{Work}
 use Rattle.between.specs.Lead.{Leads, NotLeaf, aboveOf}
 use Rattle.between.specs.Since.{Since, Accounts}
 use Rattle.between.specs.Edit.{Booked}
 use Rattle.between.proofs.HoleLaws.{art-plug, plug-sum}
-use Rattle.between.proofs.LeadLaws.{plug-find}
+use Rattle.between.proofs.LeadLaws.{hangs-in, hangs-over, plug-find}
 use Rattle.between.proofs.EraseLaws.{plug-erase, plug-erase-touch, erase-is, withNow}
-use Rattle.between.proofs.WorkLaws.{standsView, stands-sum, stands-of, root-owns}
+use Rattle.between.proofs.WorkLaws.{standsView, stands-tree, stands-sum, stands-of, root-owns}
 use Rattle.between.proofs.BookedLaws.{book-of}
 use Rattle.between.proofs.OutsideLaws.{outside-of}
 use Rattle.between.proofs.StayLaws.{stay-plug}
@@ -41,9 +42,10 @@ Result f g k {s} w d =
 pub as-step : {f g : List ℕ} (k : List ℕ) → ((s : State) (w : Stands edition1 f s) → Result f g k w (callErase edition1 s k)) → EraseStep f k g
 as-step k R = record { answer = λ s w. R s w .0; after = λ s w. (R s w .1, R s w .2) }
 
--- the good frame f has the tree t in the hole xs, to which the key leads; the model's erase makes `lay` of it, by the change c
+-- the good frame f has the tree t in the hole xs, to which the key leads; the model's erase makes `lay` of it, by the change c, which may hang
+-- where t does
 module _ {f k : List ℕ} {s : State} (w : Stands edition1 f s) (xs : List Step) (t : Lay) {r : List ℕ} (er : w .root ≡ tree (plug xs t)) (L : Leads edition1 k xs r) (c : Change Left) (lay : Lay) (v : List ℕ)
-    (erases : eraseTree edition1 (art t) (length (pathOf xs)) k ≡ c) (leaves : c .now ≡ kept (art lay)) where
+    (erases : eraseTree edition1 (art t) (length (pathOf xs)) k ≡ c) (leaves : c .now ≡ kept (art lay)) (hung : (p : List ℕ) → Hung p (art t) → Hung p (art lay)) where
   abbrev whole : Art
   whole = artIn xs (art t)
 
@@ -51,7 +53,9 @@ module _ {f k : List ℕ} {s : State} (w : Stands edition1 f s) (xs : List Step)
   c' = withNow (kept (artIn xs (art lay))) c
 
   change-is : eraseChange edition1 whole k ≡ c'
-  change-is = plug-erase L (art t) (art lay) c erases leaves
+  change-is =
+      let H = hangs-in edition1 f xs t (stands-tree w (plug xs t) er) in
+      plug-erase L (art t) (art lay) c H (hangs-over xs (art t) (art lay) hung H) erases leaves
 
   pub fits-is : room s (eraseChange edition1 (art (plug xs t)) k) ≡ true → room s c ≡ true
   fits-is q = subst (λ (x : Change Left). room s x ≡ true) (ap (λ a. eraseChange edition1 a k) (art-plug xs t) ∙ change-is) q

@@ -149,7 +149,7 @@ module _ {f k : List ℕ} {p : Spot} (P : Stays f k p) (s : State) (w : Stands e
           let el : change .now ≡ Left.kept (art new) = ap (λ x. Left.kept (Art.node kind x)) (sym (left-art (P .erase) s w)) in
           let Z0 = since-also (body n kind o ∷ []) (since-start (w .heap)) in
           let Z1 = since-write (D .only) (λ a l u. omega (arith, sum-cons (cover a) (body n kind o) [], cover-body a n kind o l u)) Z0 in
-          erase-done w ys t er L change new v erased el (node-found (P .erase) s w) (fits-is w ys t er L change new v erased el (fits (P .erase) s w)) tt
+          erase-done w ys t er L change new v erased el (λ p h. tt) (node-found (P .erase) s w) (fits-is w ys t er L change new v erased el (λ p h. tt) (fits (P .erase) s w)) tt
           (work-close ys new [] (X .work) refl (is-node ys n o kind rest)) refl bytes (X .booked h0 [] [] 0 0 dead (w .nums .R) (omega arith) (booked-none h0 (w .heap .lists .eight)))
           (omega (arith, node-sum leafy n o kind rest, node-sum leafy n o kind (kids (P .erase) s w), leaf-fewer (P .erase) s w))
           (X .since f h0 [] (body n kind o ∷ []) [] [] Z1) (subst (λ (z : Touch). Accounts (w .root) z (Leaf ∷ []) [] (body n kind o ∷ []) (body (p .here .slot) Leaf (p .here .place) ∷ [])) (sym touched) accounts)

@@ -144,7 +144,7 @@ module _ {f k : List ℕ} {p : Spot} (P : Falls f k p) (s : State) (w : Stands e
   roomy : Roomy h0 kd
   roomy =
       let t = holder (P .erase) s w in
-      let c = fits-is w ys t (root-is (P .erase) s w) (held (P .erase) .leads) change (node 0 0 kd (carriedLay kd rest)) (held (P .erase) .value) erased (new-art 0 0) (fits (P .erase) s w) in
+      let c = fits-is w ys t (root-is (P .erase) s w) (held (P .erase) .leads) change (node 0 0 kd (carriedLay kd rest)) (held (P .erase) .value) erased (new-art 0 0) (λ p h. tt) (fits (P .erase) s w) in
       room-first h0 kd [] 0 kd-kind (w .heap .lists .eight) (room-of w change c)
 
   pub shrink-takes : Takes f kd
@@ -377,7 +377,7 @@ module _ {f k : List ℕ} {p : Spot} (P : Falls f k p) (s : State) (w : Stands e
                     let Z4 = since-write (C4 .only) (λ a x u. omega (arith, sum-cons (cover a) B1 [], cover-body a m kd q1 x u)) Z3 in
                     let Z5 = since-link m (p .node .link) ys (held (P .erase) .link) W4' G Z4 in
                     let Z6 = since-free kind-kind (W5 .heap) (first-owns W5) Z5 F6 in
-                    erase-done w ys t er L change new v erased el (node-found (P .erase) s w) (fits-is w ys t er L change new v erased el (fits (P .erase) s w)) tt
+                    erase-done w ys t er L change new v erased el (λ p h. tt) (node-found (P .erase) s w) (fits-is w ys t er L change new v erased el (λ p h. tt) (fits (P .erase) s w)) tt
                     (X .work) refl bytes books fewer (X .since f h0 (B1 ∷ []) rs (body n kind o ∷ []) [] Z6)
                     (subst (λ (z : Touch). Accounts (w .root) z (kd ∷ kind ∷ Leaf ∷ []) (B1 ∷ []) rs gs) (sym touched) accounts)
                     (stay-more (λ x z. omega (

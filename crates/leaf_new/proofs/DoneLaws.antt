@@ -28,8 +28,8 @@ use Rattle.between.specs.Lead.{Leads}
 use Rattle.between.specs.Since.{Since, Accounts}
 use Rattle.between.specs.Edit.{Booked}
 use Rattle.between.proofs.HoleLaws.{art-plug, plug-sum}
-use Rattle.between.proofs.LeadLaws.{plug-put, plug-look, plug-touch, found-extent}
-use Rattle.between.proofs.WorkLaws.{standsView, stands-sum, stands-of, root-owns}
+use Rattle.between.proofs.LeadLaws.{hangs-in, plug-put, plug-look, plug-touch, found-extent}
+use Rattle.between.proofs.WorkLaws.{stands-tree, standsView, stands-sum, stands-of, root-owns}
 use Rattle.between.proofs.BookedLaws.{book-of, room-of}
 use Rattle.between.proofs.OutsideLaws.{outside-of, extent-from}
 use Rattle.between.proofs.StayLaws.{stay-plug}
@@ -141,9 +141,9 @@ module _ {f : List ℕ} {st : State} (S : Stands edition1 f st) (k v : List ℕ)
 
 pub change-is : {f : List ℕ} (k v : List ℕ) {s : State} (w : Stands edition1 f s) (xs : List Step) (t : Lay) {r : List ℕ} {c : Change Art} → w .root ≡ tree (plug xs t) → Leads edition1 k xs r
     → putTree edition1 (art t) (length (pathOf xs)) k v ≡ c → putChange edition1 s k v ≡ over (artIn xs) c
-change-is k v {s} w xs t {c = c} er L puts =
+change-is {f} k v {s} w xs t {c = c} er L puts =
     let e : s .tree ≡ some (artIn xs (art t)) = ap (λ (z : State). z .tree) (w .state) ∙ ap rootArt er ∙ ap some (art-plug xs t) in
-    ap (λ (o : Option Art). putIn edition1 o k v) e ∙ plug-put L v (art t) ∙ ap (over (artIn xs)) puts
+    ap (λ (o : Option Art). putIn edition1 o k v) e ∙ plug-put L v (art t) (hangs-in edition1 f xs t (stands-tree w (plug xs t) er)) ∙ ap (over (artIn xs)) puts
 
 -- and the frame has the room that the model has
 pub room-is : {f : List ℕ} (k v : List ℕ) {s : State} (w : Stands edition1 f s) (c : Change Art) (xs : List Step) → putChange edition1 s k v ≡ over (artIn xs) c → room s (putChange edition1 s k v) ≡ true → RoomFor (standsView w) (c .takes) (c .extent)

@@ -1,4 +1,4 @@
--- Two frames that one promise permits have one tree up to the slots and places of what was taken. Assumes nothing.
+-- Two frames that one promise permits have one tree up to the slots and places of what was taken, where a chain is one Prefix. Assumes nothing.
 use Prim.Native.Nat.{ℕ, _+_, _<_, _≤_}
 use mathlib.Core.Path.{_≡_, refl, sym, ap, _∙_}
 use mathlib.Core.List.{List, [], _∷_, _++_}
@@ -10,13 +10,14 @@ use lib.ListN.{length, length-append}
 use lib.Dec.{eqb}
 use lib.Seq.{take-append-seam}
 use borrow.Author.Tests.{eq-eqb, eqb-true}
+use Rattle.layout.specs.Number.{Bytes}
 use Rattle.layout.specs.Kind.{Leaf, Prefix, EmptyRoot}
 use Rattle.model.specs.Strings.{pick, same}
 use Rattle.model.specs.Edition.{Edition}
 use Rattle.model.specs.Tree.{extentOf}
 use Rattle.model.specs.State.{State}
 use Rattle.model.specs.Item.{Item, body, extent, onSlot, sum}
-use Rattle.model.specs.Frame.{Lay, LayKids, Root, Begins, bare, tree, rootArt, items, itemsAll, rootItems, RootAt, Tree, freed, Stands}
+use Rattle.model.specs.Frame.{Lay, LayKids, Root, Begins, bare, tree, rootArt, items, itemsAll, rootItems, RootAt, Tree, Single, freed, Stands}
 use Rattle.model.specs.Frame.Lay.{leaf, prefix, node}
 use Rattle.model.specs.Frame.LayKids.{nil, kid}
 use Rattle.model.specs.Mark.{Mark, mark, marks, marksAll, rootMarks, like, count}
@@ -107,22 +108,22 @@ module _ (E : Edition) (x : List ℕ) where
       prefix = λ s p q h. let e = kind-of Prefix c (p ++ q) x h in (rw (← e .1) (take-append-seam p q), inr (sym (e .0), omega (arith, ap length (e .1), length-append p q)));
     }
 
-module _ (E : Edition) (f : List ℕ) (c : ℕ) (x : List ℕ) where
+module _ (E : Edition) (f : List ℕ) (chains : Single E) (B : Bytes f) (c : ℕ) (x : List ℕ) where
   starts-once : (p : List ℕ) (l : Lay) → Tree E f p l → count (starts c x) (marks p l) ≤ 1
-  starts-once p l T = elim (ℕ-discrete c Leaf) [ yes e ↦ rw e (tree-once (leaf-starts E x) f p l T) | no e ↦ tree-once (other-starts E x c e) f p l T ]
+  starts-once p l T = elim (ℕ-discrete c Leaf) [ yes e ↦ rw e (tree-once (leaf-starts E x) f chains B p l T) | no e ↦ tree-once (other-starts E x c e) f chains B p l T ]
 
   stops-once : (p : List ℕ) (l : Lay) → Tree E f p l → count (stops c x) (marks p l) ≤ 1
-  stops-once p l T = elim (ℕ-discrete c Leaf) [ yes e ↦ rw e (tree-once (leaf-stops E x) f p l T) | no e ↦ tree-once (other-stops E x c e) f p l T ]
+  stops-once p l T = elim (ℕ-discrete c Leaf) [ yes e ↦ rw e (tree-once (leaf-stops E x) f chains B p l T) | no e ↦ tree-once (other-stops E x c e) f chains B p l T ]
 
-root-starts : (E : Edition) (f : List ℕ) (c : ℕ) (x : List ℕ) (r : Root) → RootAt E f r → count (starts c x) (rootMarks r) ≤ 1
+root-starts : (E : Edition) (f : List ℕ) → Single E → Bytes f → (c : ℕ) (x : List ℕ) (r : Root) → RootAt E f r → count (starts c x) (rootMarks r) ≤ 1
 unfolding RootAt
-root-starts E f c x (bare s o) T = omega (arith, bare-marks (starts c x) s o, kind-few EmptyRoot c [] x)
-root-starts E f c x (tree l) T = rw (tree-marks l) (starts-once E f c x [] l T)
+root-starts E f chains B c x (bare s o) T = omega (arith, bare-marks (starts c x) s o, kind-few EmptyRoot c [] x)
+root-starts E f chains B c x (tree l) T = rw (tree-marks l) (starts-once E f chains B c x [] l T)
 
-root-stops : (E : Edition) (f : List ℕ) (c : ℕ) (x : List ℕ) (r : Root) → RootAt E f r → count (stops c x) (rootMarks r) ≤ 1
+root-stops : (E : Edition) (f : List ℕ) → Single E → Bytes f → (c : ℕ) (x : List ℕ) (r : Root) → RootAt E f r → count (stops c x) (rootMarks r) ≤ 1
 unfolding RootAt
-root-stops E f c x (bare s o) T = omega (arith, bare-marks (stops c x) s o, kind-few EmptyRoot c [] x)
-root-stops E f c x (tree l) T = rw (tree-marks l) (stops-once E f c x [] l T)
+root-stops E f chains B c x (bare s o) T = omega (arith, bare-marks (stops c x) s o, kind-few EmptyRoot c [] x)
+root-stops E f chains B c x (tree l) T = rw (tree-marks l) (stops-once E f chains B c x [] l T)
 
 -- ---- what is no Prefix has one thing twice
 
@@ -185,12 +186,13 @@ slots-root s (tree l) = rw (tree-marks l) (slots-are s [] l)
 -- ---- two results
 
 pub record Result (E : Edition) (f' : List ℕ) (r r' : Root) (goes : List ℕ) : Type 0 where
+  pub bytes : Bytes f'
   pub rootAt : RootAt E f' r'
   pub once : (s : ℕ) → count (slotIs s) (rootMarks r') ≤ 1
   pub gone : (s : ℕ) → among s goes ≡ true → count (slotIs s) (rootMarks r') ≡ 0
   pub stays : Stay goes (rootMarks r) (rootMarks r')
 
-module _ {E : Edition} {f' f'' : List ℕ} {r r' r'' : Root} {goes : List ℕ} (R : Result E f' r r' goes) (S : Result E f'' r r'' goes) where
+module _ {E : Edition} (chains : Single E) {f' f'' : List ℕ} {r r' r'' : Root} {goes : List ℕ} (R : Result E f' r r' goes) (S : Result E f'' r r'' goes) where
   module _ (x y : Mark) (hx : In x (rootMarks r')) (hy : In y (rootMarks r'')) (ek : x .kind ≡ y .kind) (ef : x .from ≡ y .from) (et : x .to ≡ y .to) (live : Live (x .slot) (rootMarks r)) where
     abbrev Twin : Type 0
     Twin = (x .slot ≡ y .slot) ⊎ Cut r r' r'' (x .slot)
@@ -199,20 +201,20 @@ module _ {E : Edition} {f' f'' : List ℕ} {r r' r'' : Root} {goes : List ℕ} (
     module _ (m z : Mark) (hm : In m (rootMarks r)) (em : m .slot ≡ x .slot) (L : Like m x) (hz : In z (rootMarks r'')) (K : Like m z) where
       from-from : m .from ≡ x .from → m .from ≡ z .from → x .slot ≡ y .slot
       from-from a b =
-          let q : y ≡ z = only (starts (x .kind) (x .from)) (rootMarks r'') (root-starts E f'' (x .kind) (x .from) r'' (S .rootAt)) y z hy hz
+          let q : y ≡ z = only (starts (x .kind) (x .from)) (rootMarks r'') (root-starts E f'' chains (S .bytes) (x .kind) (x .from) r'' (S .rootAt)) y z hy hz
           (kind-yes (y .kind) (x .kind) (y .from) (x .from) (sym ek) (sym ef)) (kind-yes (z .kind) (x .kind) (z .from) (x .from) (sym (K .kind) ∙ L .kind) (sym b ∙ a)) in
           sym em ∙ K .slot ∙ ap (λ (u : Mark). u .slot) (sym q)
 
       to-to : m .to ≡ x .to → m .to ≡ z .to → x .slot ≡ y .slot
       to-to a b =
-          let q : y ≡ z = only (stops (x .kind) (x .to)) (rootMarks r'') (root-stops E f'' (x .kind) (x .to) r'' (S .rootAt)) y z hy hz
+          let q : y ≡ z = only (stops (x .kind) (x .to)) (rootMarks r'') (root-stops E f'' chains (S .bytes) (x .kind) (x .to) r'' (S .rootAt)) y z hy hz
           (kind-yes (y .kind) (x .kind) (y .to) (x .to) (sym ek) (sym et)) (kind-yes (z .kind) (x .kind) (z .to) (x .to) (sym (K .kind) ∙ L .kind) (sym b ∙ a)) in
           sym em ∙ K .slot ∙ ap (λ (u : Mark). u .slot) (sym q)
 
       -- two bodies of a kind with one start are one
       same-start : (u v : Mark) → In u (rootMarks r'') → In v (rootMarks r'') → u .kind ≡ v .kind → u .from ≡ v .from → u ≡ v
       same-start u v hu hv k e =
-          only (starts (v .kind) (v .from)) (rootMarks r'') (root-starts E f'' (v .kind) (v .from) r'' (S .rootAt)) u v hu hv
+          only (starts (v .kind) (v .from)) (rootMarks r'') (root-starts E f'' chains (S .bytes) (v .kind) (v .from) r'' (S .rootAt)) u v hu hv
           (kind-yes (u .kind) (v .kind) (u .from) (v .from) k e) (kind-yes (v .kind) (v .kind) (v .from) (v .from) refl refl)
 
       slot-z : z .slot ≡ x .slot
@@ -229,7 +231,7 @@ module _ {E : Edition} {f' f'' : List ℕ} {r r' r'' : Root} {goes : List ℕ} (
           let ky = sym ek ∙ sym (L .kind) ∙ k in
           let kz = sym (K .kind) ∙ k in
           let fy = sym ef ∙ sym a in
-          let h = parted E f'' r'' (S .rootAt) y z hy hz ky kz (rw (← b, fy) begun) (λ e. n (sym fy ∙ e)) in
+          let h = parted E f'' chains (S .bytes) r'' (S .rootAt) y z hy hz ky kz (rw (← b, fy) begun) (λ e. n (sym fy ∙ e)) in
           inr (inl (record {
             old = m;
             before = x;
@@ -253,7 +255,7 @@ module _ {E : Edition} {f' f'' : List ℕ} {r r' r'' : Root} {goes : List ℕ} (
           let ky = sym ek ∙ kx in
           let kz = sym (K .kind) ∙ k in
           let ty = sym et ∙ sym a in
-          let h = parted E f'' r'' (S .rootAt) z y hz hy kz ky (rw (ty, ← b) begun) (λ e. n (a ∙ et ∙ ap (λ (u : Mark). u .to) (sym (same-start z y hz hy (kz ∙ sym ky) e)))) in
+          let h = parted E f'' chains (S .bytes) r'' (S .rootAt) z y hz hy kz ky (rw (ty, ← b) begun) (λ e. n (a ∙ et ∙ ap (λ (u : Mark). u .to) (sym (same-start z y hz hy (kz ∙ sym ky) e)))) in
           inr (inr (record {
             old = m;
             before = z;
@@ -299,26 +301,26 @@ module _ {E : Edition} {f' f'' : List ℕ} {r r' r'' : Root} {goes : List ℕ} (
   alike e = record { shape = e; same = same-body }
 
 -- no Prefix is in halves where no inner node of the tree after stands where none stood
-unhalved : (E : Edition) (f f'' : List ℕ) (r r' r'' : Root) → RootAt E f r → RootAt E f'' r'' → ((y : List ℕ) → Knot (rootMarks r'') y → Knot (rootMarks r) y) → (s : ℕ) → Halved (rootMarks r) (rootMarks r') (rootMarks r'') s → ⊥
-unhalved E f f'' r r' r'' T U less s H =
+unhalved : (E : Edition) → Single E → (f f'' : List ℕ) → Bytes f → Bytes f'' → (r r' r'' : Root) → RootAt E f r → RootAt E f'' r'' → ((y : List ℕ) → Knot (rootMarks r'') y → Knot (rootMarks r) y) → (s : ℕ) → Halved (rootMarks r) (rootMarks r') (rootMarks r'') s → ⊥
+unhalved E chains f f'' B C r r' r'' T U less s H =
     let old = H .old in
-    let F = root-follows E f'' r'' U (H .after) (H .other) (H .kinds .2) (omega (arith, H .apart)) in
+    let F = root-follows E f'' chains C r'' U (H .after) (H .other) (H .kinds .2) (omega (arith, H .apart)) in
     let c = byte-more (H .after .from) (F .at) (F .byte) (F .is) in
     let long = begins-long (H .before .to) (H .before .from) (root-spans (H .before) r' (H .one)) in
     let low : length (old .from) ≤ length (F .at) = omega (arith, c .1, H .apart, ap length (H .start)) in
     let tail : Begins (old .to) (H .after .from) = rw (← H .end) (root-spans (H .after) r'' (H .other)) in
     let way = both-begin (H .after .from) (old .from) (F .at) (both-begin (old .to) (old .from) (H .after .from) (root-spans old r (H .was)) tail (omega (arith, c .1))) (c .0) low in
-    omega (arith, c .1, clear E f r T old (F .at) (H .was) (H .kinds .0) (less (F .at) (F .knot)) way, begins-long (old .to) (H .after .from) tail)
+    omega (arith, c .1, clear E f chains B r T old (F .at) (H .was) (H .kinds .0) (less (F .at) (F .knot)) way, begins-long (old .to) (H .after .from) tail)
 
 -- erase cuts no Prefix
-module _ {E : Edition} (f : List ℕ) {f' f'' : List ℕ} {r r' r'' : Root} {goes : List ℕ} (R : Result E f' r r' goes) (S : Result E f'' r r'' goes) (less : (y : List ℕ) → Knot (rootMarks r') y → Knot (rootMarks r) y)
-    (less' : (y : List ℕ) → Knot (rootMarks r'') y → Knot (rootMarks r) y) (T : RootAt E f r) where
+module _ {E : Edition} (chains : Single E) (f : List ℕ) {f' f'' : List ℕ} {r r' r'' : Root} {goes : List ℕ} (R : Result E f' r r' goes) (S : Result E f'' r r'' goes) (less : (y : List ℕ) → Knot (rootMarks r') y → Knot (rootMarks r) y)
+    (less' : (y : List ℕ) → Knot (rootMarks r'') y → Knot (rootMarks r) y) (B : Bytes f) (T : RootAt E f r) where
   pub uncut : rootArt r' ≡ rootArt r'' → Alike Uncut r r' r''
   uncut e = record {
     shape = e;
     same = λ x y hx hy k a b l. ⊎-elim (λ q. inl q)
-        (λ c. absurd (⊎-elim (unhalved E f f'' r r' r'' T (S .rootAt) less' (x .slot)) (unhalved E f f' r r'' r' T (R .rootAt) less (x .slot)) c))
-        (alike R S e .same x y hx hy k a b l);
+        (λ c. absurd (⊎-elim (unhalved E chains f f'' B (S .bytes) r r' r'' T (S .rootAt) less' (x .slot)) (unhalved E chains f f' B (R .bytes) r r'' r' T (R .rootAt) less (x .slot)) c))
+        (alike chains R S e .same x y hx hy k a b l);
   }
 
 -- ---- of the promises
@@ -328,6 +330,7 @@ pub result-of : {E : Edition} {f f' : List ℕ} {s' : State} (r : Root) {ls : Li
     → Outside f f' r (w' .root) ls (w' .lists) kinds t xs new → Result E f' r (w' .root) (t .goes)
 result-of r {t = t} w' O =
     record {
+      bytes = w' .bytes;
       rootAt = w' .rootAt;
       once = λ s. omega (arith, slots-root s (w' .root), slot-once (w' .heap .sound) s, sum-app (onSlot s) (rootItems (w' .root)) (freed 1 (w' .lists)));
       gone = λ s h. omega (arith, slots-root s (w' .root), slot-once (w' .heap .sound) s, sum-app (onSlot s) (rootItems (w' .root)) (freed 1 (w' .lists)), O .leaves s h);

@@ -1,17 +1,16 @@
 -- What put and erase take and free balances: slots and bytes before and after. Assumes nothing.
-use Prim.Native.Nat.{ℕ, suc, _+_, _≤_}
+use Prim.Native.Nat.{ℕ, zero, suc, _+_, _-_, _*_, _≤_}
 use native.Mathlib.Omega.{arith}
-use mathlib.Core.Path.{_≡_, refl, ap}
+use mathlib.Core.Path.{_≡_, refl, ap, _∙_}
 use mathlib.Core.List.{List, [], _∷_, _++_, map}
 use mathlib.Core.Bool.{true}
-use lib.ListN.{length, take, drop, getD}
+use lib.ListN.{length, take, drop, getD, length-append}
 use lib.Seq.{length-take-le}
 use lib.Dec.{ltb, eqb}
-use borrow.Author.Tests.{ne-eqb}
-use Rattle.layout.specs.Kind.{Prefix, Node4, bodySize, most, shrinkMark, kindUp, kindDown}
-use Rattle.model.specs.Strings.{pick, same, shared}
+use Rattle.layout.specs.Kind.{Node4, bodySize, most, shrinkMark, kindUp, kindDown}
+use Rattle.model.specs.Strings.{same, shared}
 use Rattle.model.specs.Edition.{Edition, Legal, Lawful}
-use Rattle.model.specs.Tree.{Art, Kids, count, has, join, placeIn, carried, asPrefix, fork, Change, over, idle, newKey, prefixIf, putLeaf, cutPrefix, addChild, putTree, putKids, Left, LeftKids, lessOne, loneChild, underPrefix, close, closeUnder, afterKids, consKid, fromChild, eraseTree, eraseKids, isInner}
+use Rattle.model.specs.Tree.{Art, Kids, count, has, join, placeIn, carried, asPrefix, fork, Change, over, idle, newKey, chain, prefixes, rechained, putLeaf, cutPrefix, addChild, putTree, putKids, Left, LeftKids, lessOne, loneChild, underPrefix, close, closeUnder, afterKids, consKid, fromChild, eraseTree, eraseKids, isInner}
 use Rattle.model.specs.Tree.Art.{leaf, prefix, node}
 use Rattle.model.specs.Tree.Kids.{nil, kid}
 use Rattle.model.specs.Tree.Left.{gone, one, kept}
@@ -41,20 +40,29 @@ even-more f x y s z s' z' c h = let p = h .slots in let q = h .bytes in record {
 pub even-first : {A B : Type 0} (f : A → B) (x y s z s' z' : ℕ) (c : Change A) → Even s z s' z' c → Even (s + x) (z + y) (s' + x) (z' + y) (over f c)
 even-first f x y s z s' z' c h = let p = h .slots in let q = h .bytes in record { slots = omega arith; bytes = omega arith }
 
--- what a shared beginning of n bytes comes to
-abbrev prefixSlots : ℕ → ℕ
-prefixSlots n = pick (eqb n 0) 0 1
+-- Prefixes alone, and before others
+prefixes-length : (n : ℕ) → length (prefixes n) ≡ n
+prefixes-length zero = refl
+prefixes-length (suc n) = ap suc (prefixes-length n)
 
-abbrev prefixBytes : ℕ → ℕ
-prefixBytes n = pick (eqb n 0) 0 128
+prefixes-bodies : (n : ℕ) → bodiesOf (prefixes n) ≡ n * 128
+prefixes-bodies zero = refl
+prefixes-bodies (suc n) = let on = prefixes-bodies n in omega arith
 
-as-prefix-slots : (p : List ℕ) (a : Art) → slots (asPrefix p a) ≡ prefixSlots (length p) + slots a
+prefixes-more : (n : ℕ) (ks : List ℕ) → length (prefixes n ++ ks) ≡ n + length ks
+prefixes-more n ks = length-append (prefixes n) ks ∙ rw (prefixes-length n)
+
+prefixes-over : (n : ℕ) (ks : List ℕ) → bodiesOf (prefixes n ++ ks) ≡ n * 128 + bodiesOf ks
+prefixes-over zero ks = omega arith
+prefixes-over (suc n) ks = let on = prefixes-over n ks in omega arith
+
+as-prefix-slots : (p : List ℕ) (a : Art) → slots (asPrefix p a) ≡ chain (length p) + slots a
 as-prefix-slots [] a = omega arith
-as-prefix-slots (x ∷ p) a = rw (ne-eqb (suc (length p)) 0 (omega arith))
+as-prefix-slots (x ∷ p) a = refl
 
-as-prefix-size : (p : List ℕ) (a : Art) → size (asPrefix p a) ≡ prefixBytes (length p) + size a
+as-prefix-size : (p : List ℕ) (a : Art) → size (asPrefix p a) ≡ chain (length p) * 128 + size a
 as-prefix-size [] a = omega arith
-as-prefix-size (x ∷ p) a = rw (ne-eqb (suc (length p)) 0 (omega arith))
+as-prefix-size (x ∷ p) a = refl
 
 join-slots : (b i : ℕ) (x : Art) (ks : Kids) → slotsKids (join b i x ks) ≡ slots x + slotsKids ks
 join-slots b i x nil = refl
@@ -74,8 +82,8 @@ BalancedKids ks c = Even (slotsKids ks) (sizeKids ks) (slotsKids (c .now)) (size
 
 -- a key and a tree part: with what the Prefixes come to, the rest balances
 even-fork : (w : List ℕ) (b c : ℕ) (k v : List ℕ) (y : Art) (s z : ℕ) (takes frees : List ℕ)
-    → prefixSlots (length w) + slots y + length frees ≡ s + length takes
-    → prefixBytes (length w) + size y + bodiesOf frees ≡ z + bodiesOf takes
+    → chain (length w) + slots y + length frees ≡ s + length takes
+    → chain (length w) * 128 + size y + bodiesOf frees ≡ z + bodiesOf takes
     → let c' = newKey k v (asPrefix w (fork b (leaf k v) c y)) (Node4 ∷ takes) frees in Even s z (slots (c' .now)) (size (c' .now)) c'
 even-fork w b c k v y s z takes frees h g = record {
   slots = rw (as-prefix-slots w (fork b (leaf k v) c y), join-slots b 0 (leaf k v) (kid c 0 y nil)) (omega arith);
@@ -109,25 +117,55 @@ pub record Even0 {A : Type 0} (s z s' z' : ℕ) (c : Change A) : Type 0 where
 
 -- ---- one child is left
 
+-- other Prefixes: `was` before, `now` after
+even-re : (was now : ℕ) (y : Art) (c : Change Left) (s z t u : ℕ) → Even0 s z t u c → slots y + was ≡ t + now → size y + was * 128 ≡ u + now * 128
+    → Even0 s z (slots y) (size y) (rechained was now y c)
+even-re was now y c s z t u h e g =
+    let m = h .even .slots in let q = h .even .bytes in
+    record {
+      even = record {
+        slots = rw (prefixes-more (was - now) (c .frees), prefixes-more (now - was) (c .takes)) (omega arith);
+        bytes = rw (prefixes-over (was - now) (c .frees), prefixes-over (now - was) (c .takes)) (omega arith);
+      };
+      none = h .none;
+    }
+
 even-lone : (b : ℕ) (x : Art) (s z : ℕ) (c : Change Left) → Even0 s z (slots x) (size x) c
     → let c' = loneChild b x c in Even0 s z (slotsL (c' .now)) (sizeL (c' .now)) c'
 even-lone b (leaf k v) s z c h = record { even = record { slots = h .even .slots; bytes = h .even .bytes }; none = h .none }
-even-lone b (prefix p a) s z c h = record { even = record { slots = h .even .slots; bytes = h .even .bytes }; none = h .none }
+even-lone b (prefix p a) s z c h =
+    even-re (chain (length p)) (chain (suc (length p))) (prefix (b ∷ p) a) c s z (slots (prefix p a)) (size (prefix p a)) h (omega arith) (omega arith)
 even-lone b (node kind ks) s z c h =
-    let p = h .even .slots in let q = h .even .bytes in let r = h .none in
-    record { even = record { slots = omega arith; bytes = omega arith }; none = refl }
+    even-re 0 (chain 1) (prefix (b ∷ []) (node kind ks)) c s z (slots (node kind ks)) (size (node kind ks)) h (omega arith) (omega arith)
+
+-- under the Prefixes of p
+even-past : (p : List ℕ) (x y : Art) (c : Change Left) (s z : ℕ) → Even0 s z (slots x) (size x) c → (was now : ℕ)
+    → slots y + was ≡ chain (length p) + slots x + now → size y + was * 128 ≡ chain (length p) * 128 + size x + now * 128
+    → Even0 (chain (length p) + s) (chain (length p) * 128 + z) (slots y) (size y) (rechained was now y c)
+even-past p x y c s z h was now e g =
+    let m = h .even .slots in let q = h .even .bytes in
+    record {
+      even = record {
+        slots = rw (prefixes-more (was - now) (c .frees), prefixes-more (now - was) (c .takes)) (omega arith);
+        bytes = rw (prefixes-over (was - now) (c .frees), prefixes-over (now - was) (c .takes)) (omega arith);
+      };
+      none = h .none;
+    }
 
 even-under : (p : List ℕ) (b : ℕ) (x : Art) (s z : ℕ) (c : Change Left) → Even0 s z (slots x) (size x) c
-    → let c' = underPrefix p b x c in Even0 (1 + s) (128 + z) (slotsL (c' .now)) (sizeL (c' .now)) c'
+    → let c' = underPrefix p b x c in Even0 (chain (length p) + s) (chain (length p) * 128 + z) (slotsL (c' .now)) (sizeL (c' .now)) c'
 even-under p b (leaf k v) s z c h =
     let m = h .even .slots in let q = h .even .bytes in let r = h .none in
-    record { even = record { slots = omega arith; bytes = omega arith }; none = refl }
+    record {
+      even = record { slots = rw (prefixes-more (chain (length p)) (c .frees)) (omega arith); bytes = rw (prefixes-over (chain (length p)) (c .frees)) (omega arith) };
+      none = r;
+    }
 even-under p b (prefix t a) s z c h =
-    let m = h .even .slots in let q = h .even .bytes in let r = h .none in
-    record { even = record { slots = omega arith; bytes = omega arith }; none = refl }
+    even-past p (prefix t a) (prefix (p ++ b ∷ t) a) c s z h (chain (length p) + chain (length t)) (chain (length p + suc (length t)))
+    (rw (length-append p (b ∷ t)) (omega arith)) (rw (length-append p (b ∷ t)) (omega arith))
 even-under p b (node kind ks) s z c h =
-    let m = h .even .slots in let q = h .even .bytes in
-    record { even = record { slots = omega arith; bytes = omega arith }; none = h .none }
+    even-past p (node kind ks) (prefix (p ++ b ∷ []) (node kind ks)) c s z h (chain (length p)) (chain (length p + 1))
+    (rw (length-append p (b ∷ [])) (omega arith)) (rw (length-append p (b ∷ [])) (omega arith))
 
 even-close : (l : Left) (s z : ℕ) (c : Change Left) → c .now ≡ l → Even0 s z (slotsL l) (sizeL l) c
     → let c' = close l c in Even0 s z (slotsL (c' .now)) (sizeL (c' .now)) c'
@@ -174,9 +212,9 @@ module _ {E : Edition} (L : Lawful E) where
       (λ e. eqb-cases (length v) (length v')
       (λ t q. let o = ap length (same-true k k' e) in rw (e, t) record { slots = refl; bytes = rw (o, q) })
       (λ t q. rw (e, t) record { slots = refl; bytes = omega arith }))
-      (λ e. rw e (even-fork (take q r) (getD r q 0) (getD r' q 0) k v (leaf k' v') 1 (size (leaf k' v')) (prefixIf q) []
-      (rw len (bool-cases (eqb q 0) (λ t. rw t) (λ t. rw t)))
-      (rw len (bool-cases (eqb q 0) (λ t. rw t (omega arith)) (λ t. rw t (omega arith))))))
+      (λ e. rw e (even-fork (take q r) (getD r q 0) (getD r' q 0) k v (leaf k' v') 1 (size (leaf k' v')) (prefixes (chain q)) []
+      (rw (len, prefixes-length (chain q)) (omega arith))
+      (rw (len, prefixes-bodies (chain q)) (omega arith))))
     where
       r : List ℕ
       r = drop d (E .walked k)
@@ -192,14 +230,10 @@ module _ {E : Edition} (L : Lawful E) where
 
   even-split : (d : ℕ) (k v p : List ℕ) (a : Art) → Balanced (prefix p a) (cutPrefix E d k v p a)
   even-split d k v p a =
-      even-fork (take q p) (getD r q 0) (getD p q 0) k v (asPrefix after a) (1 + slots a) (128 + size a)
-      (pick (eqb q 0) [] (pick (eqb (length after) 0) [] (Prefix ∷ []))) (pick (eqb q 0) (pick (eqb (length after) 0) (Prefix ∷ []) []) [])
-      (rw (len, as-prefix-slots after a) (bool-cases (eqb q 0)
-      (λ t. bool-cases (eqb (length after) 0) (λ u. rw (t, u) (omega arith)) (λ u. rw (t, u) (omega arith)))
-      (λ t. bool-cases (eqb (length after) 0) (λ u. rw (t, u) (omega arith)) (λ u. rw (t, u) (omega arith)))))
-      (rw (len, as-prefix-size after a) (bool-cases (eqb q 0)
-      (λ t. bool-cases (eqb (length after) 0) (λ u. rw (t, u) (omega arith)) (λ u. rw (t, u) (omega arith)))
-      (λ t. bool-cases (eqb (length after) 0) (λ u. rw (t, u) (omega arith)) (λ u. rw (t, u) (omega arith)))))
+      even-fork (take q p) (getD r q 0) (getD p q 0) k v (asPrefix after a) (chain (length p) + slots a) (chain (length p) * 128 + size a)
+      (prefixes (chain q + chain (length after) - chain (length p))) (prefixes (chain (length p) - (chain q + chain (length after))))
+      (rw (len, as-prefix-slots after a, prefixes-length (chain q + chain (length after) - chain (length p)), prefixes-length (chain (length p) - (chain q + chain (length after)))) (omega arith))
+      (rw (len, as-prefix-size after a, prefixes-bodies (chain q + chain (length after) - chain (length p)), prefixes-bodies (chain (length p) - (chain q + chain (length after)))) (omega arith))
     where
       r : List ℕ
       r = drop d (E .walked k)
@@ -232,7 +266,7 @@ module _ {E : Edition} (L : Lawful E) where
     put-even (prefix p a) d k v =
         let c = putTree E a (d + length p) k v in
         bool-cases (eqb (shared p (drop d (E .walked k))) (length p))
-        (λ t. rw t (even-more (λ x. prefix p x) 1 128 (slots a) (size a) (slots (c .now)) (size (c .now)) c (put-even a (d + length p) k v)))
+        (λ t. rw t (even-more (λ x. prefix p x) (chain (length p)) (chain (length p) * 128) (slots a) (size a) (slots (c .now)) (size (c .now)) c (put-even a (d + length p) k v)))
         (λ t. rw t (even-split d k v p a))
     put-even (node kind ks) d k v =
         let c = putKids E ks d k v in
@@ -249,11 +283,11 @@ module _ {E : Edition} (L : Lawful E) where
         (λ t. rw t (even-more (λ ys. kid c j a ys) (slots a) (size a) (slotsKids ks) (sizeKids ks) (slotsKids (xs .now)) (sizeKids (xs .now)) xs (put-kids-even ks d k v)))
 
   even-close-under : (p : List ℕ) (a : Art) (path k : List ℕ) (l : Left) (c : Change Left) → isInner a ≡ true → LeftOk E a path k l → Even0 (slots a) (size a) (slotsL l) (sizeL l) c
-      → let c' = closeUnder p l c in Even0 (1 + slots a) (128 + size a) (slotsL (c' .now)) (sizeL (c' .now)) c'
+      → let c' = closeUnder p l c in Even0 (chain (length p) + slots a) (chain (length p) * 128 + size a) (slotsL (c' .now)) (sizeL (c' .now)) c'
   even-close-under p a path k gone c i o h = clash (let f = o .1 in cc)
   even-close-under p a path k (one b x) c i o h = even-under p b x (slots a) (size a) c h
   even-close-under p a path k (kept x) c i o h =
-      record { even = even-more (λ y. kept (prefix p x)) 1 128 (slots a) (size a) (slots x) (size x) c (h .even); none = h .none }
+      record { even = even-more (λ y. kept (prefix p x)) (chain (length p)) (chain (length p) * 128) (slots a) (size a) (slots x) (size x) c (h .even); none = h .none }
 
   even-after : (kind : ℕ) (ks : Kids) (path k : List ℕ) (l : LeftKids) (c : Change LeftKids) → NodeW kind ks → LeftKidsOk E ks path 0 k l → Even0 (slotsKids ks) (sizeKids ks) (slotsLK l) (sizeLK l) c
       → let c' = afterKids kind l c in Even0 (1 + slotsKids ks) (bodySize kind + sizeKids ks) (slotsL (c' .now)) (sizeL (c' .now)) c'
@@ -279,7 +313,7 @@ module _ {E : Edition} (L : Lawful E) where
   even-at-prefix p a path k d h (along r e w) ih =
       let c = eraseTree E a (d + length p) k in let w' = walk-skip p r w in
       rw e (even-close-under p a (path ++ p) k (c .now) c (h .0 .inner) (erase-ok L a (path ++ p) (h .1) (d + length p) k r w') (ih r w'))
-  even-at-prefix p a path k d h (aside x b s c t e w g n) ih = rw e (even-idle (kept (prefix p a)) (1 + slots a) (128 + size a))
+  even-at-prefix p a path k d h (aside x b s c t e w g n) ih = rw e (even-idle (kept (prefix p a)) (chain (length p) + slots a) (chain (length p) * 128 + size a))
 
   mutual
     pub erase-even : (a : Art) (path : List ℕ) → Well E a path → (d : ℕ) (k r : List ℕ) → Walk E path d k r → BalancedL a (eraseTree E a d k)

@@ -1,5 +1,5 @@
 -- Where a Prefix stands in a tree that stands: no inner node between its start and its end; its start is the tree's or follows a node by
--- one byte. So of two Prefixes of one tree, one that starts on the way to the other's end ends above that one. Assumes nothing.
+-- one byte. So, where a chain is one Prefix, of two Prefixes of one tree, one that starts on the way to the other's end ends above that one. Assumes nothing.
 use Prim.Native.Nat.{ℕ, _+_, _<_, _≤_}
 use mathlib.Core.Path.{_≡_, refl, sym, ap, _∙_}
 use mathlib.Core.List.{List, [], _∷_, _++_}
@@ -11,10 +11,11 @@ use lib.ListN.{length, take, length-append}
 use lib.Dec.{ltb, eqb}
 use lib.Seq.{take-take, take-append-seam}
 use borrow.Author.Tests.{lt-ltb, ltb-true, ne-eqb}
+use Rattle.layout.specs.Number.{Bytes}
 use Rattle.layout.specs.Kind.{Leaf, Prefix, EmptyRoot}
 use Rattle.model.specs.Strings.{pick, same}
 use Rattle.model.specs.Edition.{Edition}
-use Rattle.model.specs.Frame.{Lay, LayKids, Root, bare, tree, IsNode, RootAt, Begins, Tree, Trees}
+use Rattle.model.specs.Frame.{Lay, LayKids, Root, bare, tree, IsNode, RootAt, Begins, Tree, Trees, Single}
 use Rattle.model.specs.Frame.Lay.{leaf, prefix, node}
 use Rattle.model.specs.Frame.LayKids.{nil, kid}
 use Rattle.model.specs.Mark.{Mark, mark, marks, marksAll, rootMarks, count}
@@ -114,7 +115,7 @@ module _ (m : Mark) where
           (on (omega (arith, node-marks (is m) p s o kind ks)))
     ]
 
-    module _ (E : Edition) (f : List ℕ) where
+    module _ (E : Edition) (f : List ℕ) (chains : Single E) (B : Bytes f) where
       mutual
         unfolding Tree Trees
 
@@ -123,7 +124,7 @@ module _ (m : Mark) where
         follows p (prefix s o q l) T h = (
           elim (decLe 1 (is m (mark s Prefix p (p ++ q)))) [
             | yes g ↦ inl (ap (λ (z : Mark). z .from) (is-same m (mark s Prefix p (p ++ q)) g))
-            | no g ↦ inr (more (λ x. omega (arith, prefix-marks (is x) p s o q l)) (follows (p ++ q) l (T .3) (omega (arith, prefix-marks (is m) p s o q l)) .1 (T .2)))
+            | no g ↦ inr (more (λ x. omega (arith, prefix-marks (is x) p s o q l)) (follows (p ++ q) l (T .3) (omega (arith, prefix-marks (is m) p s o q l)) .1 (chains f p q l B (T .2) (T .3))))
           ],
           λ i. absurd i,
         )
@@ -148,17 +149,17 @@ both-begin t a b h g l = ap (take (length a)) (sym g) ∙ take-take (length a) (
 pub byte-more : (a at : List ℕ) (b : ℕ) → a ≡ at ++ b ∷ [] → Begins a at × (length a ≡ length at + 1)
 byte-more a at b e = rw e (take-append-seam at (b ∷ []), length-append at (b ∷ []))
 
-root-once : (E : Edition) (f y : List ℕ) (r : Root) → RootAt E f r → count (over y) (rootMarks r) ≤ 1
+root-once : (E : Edition) (f y : List ℕ) → Single E → Bytes f → (r : Root) → RootAt E f r → count (over y) (rootMarks r) ≤ 1
 unfolding RootAt
-root-once E f y (bare s o) T = omega (arith, bare-marks (over y) s o, over-few y (mark s EmptyRoot [] []))
-root-once E f y (tree l) T = rw (tree-marks l) (tree-once (over-names E y) f [] l T)
+root-once E f y chains B (bare s o) T = omega (arith, bare-marks (over y) s o, over-few y (mark s EmptyRoot [] []))
+root-once E f y chains B (tree l) T = rw (tree-marks l) (tree-once (over-names E y) f chains B [] l T)
 
-pub root-follows : (E : Edition) (f : List ℕ) (r : Root) → RootAt E f r → (m : Mark) → In m (rootMarks r) → m .kind ≡ Prefix → 1 ≤ length (m .from) → Follows (rootMarks r) (m .from)
+pub root-follows : (E : Edition) (f : List ℕ) → Single E → Bytes f → (r : Root) → RootAt E f r → (m : Mark) → In m (rootMarks r) → m .kind ≡ Prefix → 1 ≤ length (m .from) → Follows (rootMarks r) (m .from)
 unfolding RootAt
-root-follows E f (bare s o) T m h k n = absurd (omega (arith, ap (λ (z : Mark). z .kind) (is-same m (mark s EmptyRoot [] []) (omega (arith, bare-marks (is m) s o)))))
-root-follows E f (tree t) T m h k n = ⊎-elim (λ e. absurd (omega (arith, ap length e))) (λ F. rw (tree-marks t) F) (follows m k E f [] t T (rw (tree-marks t) at h) .0)
+root-follows E f chains B (bare s o) T m h k n = absurd (omega (arith, ap (λ (z : Mark). z .kind) (is-same m (mark s EmptyRoot [] []) (omega (arith, bare-marks (is m) s o)))))
+root-follows E f chains B (tree t) T m h k n = ⊎-elim (λ e. absurd (omega (arith, ap length e))) (λ F. rw (tree-marks t) F) (follows m k E f chains B [] t T (rw (tree-marks t) at h) .0)
 
-module _ (E : Edition) (f : List ℕ) (r : Root) (T : RootAt E f r) where
+module _ (E : Edition) (f : List ℕ) (chains : Single E) (B : Bytes f) (r : Root) (T : RootAt E f r) where
   -- no inner node stands between the start and the end of a Prefix
   pub clear : (m : Mark) (y : List ℕ) → In m (rootMarks r) → m .kind ≡ Prefix → Knot (rootMarks r) y → Begins y (m .from) → length (m .to) ≤ length y
   clear m y h k K b = elim (decLt (length y) (length (m .to))) [
@@ -166,7 +167,7 @@ module _ (E : Edition) (f : List ℕ) (r : Root) (T : RootAt E f r) where
         let n = mark (K .slot) (K .kind) y y in
         let a : 1 ≤ over y m = rw (k, b, same-refl (m .from), lt-ltb (length y) (length (m .to)) g) (omega arith) in
         let c : 1 ≤ over y n = omega (arith, over-node y (K .slot) (K .kind) y (K .inner .0), ap {B = ℕ} (λ (t : Bool). pick t 1 0) (same-refl y)) in
-        absurd (omega (arith, K .inner, ap (λ (z : Mark). z .kind) (only (over y) (rootMarks r) (root-once E f y r T) m n h (K .there) a c)))
+        absurd (omega (arith, K .inner, ap (λ (z : Mark). z .kind) (only (over y) (rootMarks r) (root-once E f y chains B r T) m n h (K .there) a c)))
     | no g ↦ omega arith
   ]
 
@@ -178,13 +179,13 @@ module _ (E : Edition) (f : List ℕ) (r : Root) (T : RootAt E f r) where
         | yes g ↦ elim (ℕ-discrete (length (z .from)) (length (x .from))) [
           | yes e ↦ absurd (n (sym b ∙ ap (λ (i : ℕ). take i (z .to)) (sym e) ∙ bz))
           | no e ↦
-              let F = root-follows E f r T x hx kx (omega arith) in
+              let F = root-follows E f chains B r T x hx kx (omega arith) in
               let c = byte-more (x .from) (F .at) (F .byte) (F .is) in
               let u = both-begin (x .from) (z .from) (F .at) (both-begin (z .to) (z .from) (x .from) bz b g) (c .0) (omega (arith, c .1)) in
               absurd (omega (arith, c .1, clear z (F .at) hz kz (F .knot) u, begins-long (z .to) (x .from) b))
         ]
         | no g ↦
-            let F = root-follows E f r T z hz kz (omega arith) in
+            let F = root-follows E f chains B r T z hz kz (omega arith) in
             let c = byte-more (z .from) (F .at) (F .byte) (F .is) in
             let u = both-begin (z .from) (x .from) (F .at) (both-begin (z .to) (x .from) (z .from) b bz (omega arith)) (c .0) (omega (arith, c .1)) in
             omega (arith, c .1, clear x (F .at) hx kx (F .knot) u)

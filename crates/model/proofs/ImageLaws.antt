@@ -1,29 +1,29 @@
 -- The packed image of a tree is a good frame, and stands for that tree with nothing freed and nothing dead. So two trees with the
 -- same image are equal: the image can be read back. Assumes nothing.
-use Prim.Native.Nat.{ℕ, suc, _+_, _*_, _%_, _<_, _≤_}
+use Prim.Native.Nat.{ℕ, zero, suc, _+_, _*_, _%_, _<_, _≤_}
 use mathlib.Core.Path.{_≡_, refl, sym, ap, subst, _∙_}
-use mathlib.Core.List.{List, [], _∷_, _++_}
+use mathlib.Core.List.{List, [], _∷_, _++_, append-assoc, append-nil}
 use mathlib.Core.Bool.{false}
 use mathlib.Core.Option.{Option, none, some}
 use native.Mathlib.Omega.{arith}
-use lib.ListN.{length, replicate, take, length-append}
-use lib.Seq.{take-append-seam}
+use lib.ListN.{length, replicate, take, drop, length-append, take-append-drop}
+use lib.Seq.{take-append-seam, length-take-le}
 use lib.Dec.{eqb}
 use borrow.Author.Tests.{eqb-true}
 use Rattle.layout.specs.Number.{byteAt, Bytes}
-use Rattle.layout.specs.Place.{entryAt, dataStart, node48Index}
+use Rattle.layout.specs.Place.{entryAt, dataStart, node48Index, prefixMost}
 use Rattle.layout.specs.Kind.{Leaf, Prefix, Node48, bodySize, most}
 use Rattle.layout.specs.Entry.{entryOf}
 use Rattle.layout.proofs.EntryLaws.{entry-lt}
 use Rattle.layout.proofs.KindLaws.{inner-range, size-least}
 use Rattle.model.specs.Edition.{Edition, FitsFields}
-use Rattle.model.specs.Tree.{Art, Kids, extentOf}
+use Rattle.model.specs.Tree.{Art, Kids, extentOf, chain}
 use Rattle.model.specs.Records.{records, recordsOf}
 use Rattle.model.specs.State.{State}
-use Rattle.model.specs.Image.{digits, numbers, padded, slots, size, bytesOf, childSlots, nodeBody, entries, entriesKids, bodies, bodiesKids, header, imageOf}
+use Rattle.model.specs.Image.{digits, numbers, padded, slots, size, bytesOf, childSlots, nodeBody, chainEntries, chainBodies, entries, entriesKids, bodies, bodiesKids, header, imageOf}
 use Rattle.model.specs.Item.{sum, leafy}
 use Rattle.model.specs.Body.{Has, lookKid, LeafAt, PrefixAt}
-use Rattle.model.specs.Frame.{Lay, tree, pairs, items, Entry, Places, NodeOf, Tree, Trees, RootAt, rootItems, FrameLength, SlotCapacity, Stands}
+use Rattle.model.specs.Frame.{Lay, slotOf, Below, tree, pairs, items, Entry, Places, NodeOf, Tree, Trees, RootAt, rootItems, FrameLength, SlotCapacity, Stands}
 use Rattle.model.proofs.Well.{Well, WellKids, Zeros, Placed}
 use Rattle.model.proofs.GoodState.{TreeOk, treeSlots, treeSize}
 use Rattle.model.proofs.StringLaws.{bool-cases}
@@ -31,8 +31,8 @@ use Rattle.model.proofs.UniqueLaws.{look-first, look-later}
 use Rattle.model.proofs.StandsGood.{records-items}
 use Rattle.model.proofs.TextLaws.{has-left, has-right, has-at, has-three, has-number, padded-left, padded-zero, padded-past, length-numbers, length-padded}
 use Rattle.model.proofs.NodeImage.{firsts, seconds, orZero, placed, inner-at}
-use Rattle.model.proofs.PackedBytes.{length-bytes, length-slots, length-node, length-bodies, length-entries, length-table, length-image, bytes-image, extent-fits, inner-eighth, eighths, size-eight}
-use Rattle.model.proofs.LayLaws.{layOf, layKids, art-lay, slot-lay, inner-lay, slots-pos, records-slots, lay-firsts, lay-seconds, lay-length, lay-asc, lay-live, none8, lay-sound, Numbered, InOrder, InOrderKids}
+use Rattle.model.proofs.PackedBytes.{length-bytes, length-slots, length-node, take-short, chain-eight, length-chain, length-chain-entries, length-bodies, length-entries, length-table, length-image, bytes-image, extent-fits, inner-eighth, eighths, size-eight}
+use Rattle.model.proofs.LayLaws.{layOf, layKids, layChain, Firm, well-firm, chain-less, nil-of, slot-chain, art-lay, slot-lay, inner-lay, slots-pos, records-slots, lay-firsts, lay-seconds, lay-length, lay-asc, lay-live, none8, lay-sound, Numbered, InOrder, InOrderKids}
 use Rattle.model.proofs.FormatLaws.{has-self, has-fields, packedNumbers, fields-header, fields-lists, entry-holds, data-eight, empty-stands}
 
 -- ---- single bodies
@@ -53,13 +53,13 @@ leaf-at m o e n k v he hk hv hn H X =
       text = x .text;
     }
 
-pub prefix-at : (m : List ℕ) (o c : ℕ) (p : List ℕ) → 1 ≤ length p → length p ≤ 112 → c < 4294967296
-    → Has m o (padded 16 (digits 4 c ++ digits 2 (length p))) → Has m (o + 16) (padded 112 p) → PrefixAt m o p c
+pub prefix-at : (m : List ℕ) (o c : ℕ) (p : List ℕ) → 1 ≤ length p → length p ≤ prefixMost → c < 4294967296
+    → Has m o (padded 16 (digits 4 c ++ digits 2 (length p))) → Has m (o + 16) (padded prefixMost p) → PrefixAt m o p c
 prefix-at m o c p h l hc H X =
     let D = digits 4 c ++ digits 2 (length p) in
     let G = padded-left 16 D H in
     let z : o + 0 ≡ o = omega arith in
-    let n = length-padded 112 p l in
+    let n = length-padded prefixMost p l in
     let fit = X .fits in
     record {
       room = omega arith;
@@ -68,8 +68,8 @@ prefix-at m o c p h l hc H X =
       child = rw z (has-number 4 c hc (has-left (digits 4 c) (digits 2 (length p)) G));
       long = has-number 2 (length p) (omega arith) (has-right (digits 4 c) (digits 2 (length p)) 4 refl G);
       zeros = padded-zero 16 D H;
-      text = padded-left 112 p X .text;
-      rest = padded-zero 112 p X;
+      text = padded-left prefixMost p X .text;
+      rest = padded-zero prefixMost p X;
     }
 
 -- ---- the places of a packed node's children
@@ -163,22 +163,47 @@ module _ (E : Edition) (fit : FitsFields E) (m : List ℕ) (long : length m ≤ 
         places = places-of E m o kind ks path (s + 1) p (W .1) (W .0 .places) (O .0) (I .entry);
       }
 
+  -- a Prefix above the rest of its chain is full; above what the chain leads to it need not be
+  chain-below : (n : ℕ) (p : List ℕ) (s o : ℕ) (l : Lay) → suc n ≡ chain (length p) → ((q : List ℕ) → Below q l) → Below (take prefixMost p) (layChain n (drop prefixMost p) s o l)
+  chain-below zero p s o l e B = B (take prefixMost p)
+  chain-below (suc n) p s o l e B = length-take-le prefixMost p (omega arith)
+
+  chain-at : (n : ℕ) (p path : List ℕ) (s o : ℕ) (l : Lay) → n ≡ chain (length p) → ((q : List ℕ) → Below q l) → o % 8 ≡ 0 → Entries m s (chainEntries n o) → Has m o (chainBodies n p s)
+      → slotOf l ≡ s + n → Tree E m (path ++ p) l → Tree E m path (layChain n p s o l)
+  unfolding Tree
+  chain-at zero p path s o l e B h es bs q T = let z : path ++ p ≡ path = rw (nil-of p (omega arith)) (append-nil path) in rw z at T
+  chain-at (suc n) p path s o l e B h es bs q T =
+      let t = take prefixMost p in let u = drop prefixMost p in
+      let H = padded 16 (digits 4 (s + 1) ++ digits 2 (length t)) in
+      let short = take-short prefixMost p in
+      let X = has-three 16 prefixMost (n * 128) H (padded prefixMost t) (chainBodies n u (s + 1)) refl (length-padded prefixMost t short) (length-chain n u (s + 1)) bs in
+      let few = slots-small m s (chainEntries (suc n) o) long es in
+      let z : path ++ t ++ u ≡ path ++ p = append-assoc path t u ∙ ap (λ (x : List ℕ). path ++ x) (take-append-drop prefixMost p) in
+      let c : slotOf (layChain n u (s + 1) (o + 128) l) ≡ s + 1 = slot-chain n u (s + 1) (o + 128) l (omega arith) in
+      let room = X .room in (
+        entry-first m s Prefix o (chainEntries n (o + 128)) (omega arith) (omega arith) h es,
+        rw c (prefix-at m o (s + 1) t (take-some p (omega arith)) short (omega arith) (X .first) (X .second)),
+        chain-below n p (s + 1) (o + 128) l e B,
+        chain-at n u (path ++ t) (s + 1) (o + 128) l (chain-less n p e) B (eighths o 128 h refl) (entries-right m s (entryOf Prefix o ∷ []) (chainEntries n (o + 128)) 1 refl es) (X .third)
+            (omega arith) (rw z T),
+      )
+    where
+      take-some : (p : List ℕ) → 1 ≤ length p → 1 ≤ length (take prefixMost p)
+      take-some [] g = absurd (omega arith)
+      take-some (x ∷ p) g = omega arith
+
   mutual
     unfolding Tree Trees
 
     pub tree-at : (a : Art) (path : List ℕ) (s o : ℕ) → Well E a path → InOrder a → o % 8 ≡ 0 → Entries m s (entries a o) → Has m o (bodies a s o) → Tree E m path (layOf a s o)
     tree-at (Art.leaf k v) path s o W O e es bs = leaf-here k v path s o W e es bs
     tree-at (Art.prefix p a) path s o W O e es bs =
-        let H = padded 16 (digits 4 (s + 1) ++ digits 2 (length p)) in
-        let short = W .0 .short in
-        let T = has-three 16 112 (size a) H (padded 112 p) (bodies a (s + 1) (o + 128)) refl (length-padded 112 p short) (length-bodies E a (path ++ p) (W .1) (s + 1) (o + 128)) bs in
-        let few = slots-small m s (entries (Art.prefix p a) o) long es in
-        let room = T .room in (
-          entry-first m s Prefix o (entries a (o + 128)) (omega arith) (omega arith) e es,
-          rw (slot-lay a (s + 1) (o + 128)) (prefix-at m o (s + 1) p (W .0 .some) short (omega arith) (T .first) (T .second)),
-          inner-lay a (s + 1) (o + 128) (W .0 .inner),
-          tree-at a (path ++ p) (s + 1) (o + 128) (W .1) O (eighths o 128 e refl) (entries-right m s (entryOf Prefix o ∷ []) (entries a (o + 128)) 1 refl es) (T .third),
-        )
+        let n = chain (length p) in
+        let l = layOf a (s + n) (o + n * 128) in
+        let here = tree-at a (path ++ p) (s + n) (o + n * 128) (W .1) O (eighths o (n * 128) e (chain-eight n))
+        (entries-right m s (chainEntries n o) (entries a (o + n * 128)) n (length-chain-entries n o) es) (has-right (chainBodies n p s) (bodies a (s + n) (o + n * 128)) (n * 128) (length-chain n p s) bs) in
+        chain-at n p path s o l refl (λ q. inner-lay a (s + n) (o + n * 128) q (W .0 .inner)) e (entries-left m s (chainEntries n o) (entries a (o + n * 128)) es)
+        (has-left (chainBodies n p s) (bodies a (s + n) (o + n * 128)) bs) (slot-lay a (s + n) (o + n * 128)) here
     tree-at (Art.node kind ks) path s o W O e es bs =
         let B = nodeBody kind (bytesOf ks) (childSlots (s + 1) ks) in
         let rest = bodiesKids ks (s + 1) (o + bodySize kind) in
@@ -247,11 +272,11 @@ pub record Laid (E : Edition) (f n : ℕ) (a : Art) (m : List ℕ) : Type 0 wher
 
 size-some : (E : Edition) (a : Art) (path : List ℕ) → Well E a path → 8 ≤ size a
 size-some E (Art.leaf k v) path W = omega arith
-size-some E (Art.prefix p a) path W = omega arith
+size-some E (Art.prefix p a) path W = let o = W .0 .some in omega arith
 size-some E (Art.node kind ks) path W = let r = inner-range (W .0 .sort) in omega (arith, size-least kind (omega arith) (omega arith))
 
-counted-tree : (E : Edition) (m : List ℕ) (a : Art) (d : ℕ) → Tree E m [] (layOf a 1 d) → length (records a) ≡ sum leafy (rootItems (tree (layOf a 1 d)))
-counted-tree E m a d T = rw (tree-items (layOf a 1 d), records-items E m [] (layOf a 1 d) T, art-lay a 1 d)
+counted-tree : (E : Edition) (m : List ℕ) (a : Art) (d : ℕ) → Firm a → Tree E m [] (layOf a 1 d) → length (records a) ≡ sum leafy (rootItems (tree (layOf a 1 d)))
+counted-tree E m a d F T = rw (tree-items (layOf a 1 d), records-items E m [] (layOf a 1 d) T, art-lay a 1 d F)
 
 pub laid-stands : (E : Edition) (f n : ℕ) (a : Art) (m : List ℕ) → FitsFields E → Well E a [] → InOrder a → ImageFits f n (some a) → Laid E f n a m
     → Stands E m (imageState f n (some a))
@@ -284,8 +309,8 @@ laid-stands E f n a m fit W O F L =
       editionIs = refl;
       rootIs = sym (slot-lay a 1 d);
       rootAt = root-tree E m (layOf a 1 d) here;
-      counted = counted-tree E m a d here;
-      state = rw (art-lay a 1 d);
+      counted = counted-tree E m a d (well-firm E a [] W) here;
+      state = rw (art-lay a 1 d (well-firm E a [] W));
     }
 
 pub image-laid : (E : Edition) (f n : ℕ) (a : Art) → Well E a [] → ImageFits f n (some a) → Laid E f n a (imageOf E f n (length (records a)) (some a))

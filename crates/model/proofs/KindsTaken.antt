@@ -1,15 +1,14 @@
 -- The kinds that put and erase take and free are kinds, and none that is freed is 3. Assumes nothing.
-use Prim.Native.Nat.{ℕ, suc, _+_, _≤_}
+use Prim.Native.Nat.{ℕ, zero, suc, _+_, _-_, _≤_}
 use native.Mathlib.Omega.{arith}
 use mathlib.Core.List.{List, [], _∷_, _++_}
-use mathlib.Core.Bool.{Bool, true, false}
 use lib.ListN.{length, drop, getD}
 use lib.Dec.{ltb, eqb, lit≤}
-use Rattle.layout.specs.Kind.{Prefix, most, shrinkMark, kindUp, kindDown, Inner}
+use Rattle.layout.specs.Kind.{most, shrinkMark, kindUp, kindDown, Inner}
 use Rattle.layout.specs.Kind.Inner.{node4, node16, node48, node256}
-use Rattle.model.specs.Strings.{pick, same, shared}
+use Rattle.model.specs.Strings.{same, shared}
 use Rattle.model.specs.Edition.{Edition, Lawful}
-use Rattle.model.specs.Tree.{Art, Kids, count, has, Change, over, putLeaf, cutPrefix, addChild, putTree, putKids, Left, LeftKids, lessOne, loneChild, underPrefix, close, closeUnder, afterKids, eraseTree, eraseKids}
+use Rattle.model.specs.Tree.{Art, Kids, count, has, chain, prefixes, rechained, Change, over, putLeaf, cutPrefix, addChild, putTree, putKids, Left, LeftKids, lessOne, loneChild, underPrefix, close, closeUnder, afterKids, eraseTree, eraseKids}
 use Rattle.model.specs.Tree.Art.{leaf, prefix, node}
 use Rattle.model.specs.Tree.Kids.{nil, kid}
 use Rattle.model.specs.Tree.Left.{gone, one, kept}
@@ -32,19 +31,34 @@ near node16 = omega arith
 near node48 = omega arith
 near node256 = omega arith
 
-prefix-if : (t : Bool) → Kinds (pick t [] (Prefix ∷ []))
-prefix-if true = tt
-prefix-if false = (lit≤ tt, tt)
+prefixes-kinds : (n : ℕ) (ks : List ℕ) → Kinds ks → Kinds (prefixes n ++ ks)
+prefixes-kinds zero ks h = h
+prefixes-kinds (suc n) ks h = (lit≤ tt, prefixes-kinds n ks h)
+
+prefixes-listed : (n : ℕ) (ks : List ℕ) → Listed ks → Listed (prefixes n ++ ks)
+prefixes-listed zero ks h = h
+prefixes-listed (suc n) ks h = (omega arith, prefixes-listed n ks h)
+
+prefixes-alone : (n : ℕ) → Kinds (prefixes n)
+prefixes-alone zero = tt
+prefixes-alone (suc n) = (lit≤ tt, prefixes-alone n)
+
+prefixes-freed : (n : ℕ) → Listed (prefixes n)
+prefixes-freed zero = tt
+prefixes-freed (suc n) = (omega arith, prefixes-freed n)
+
+re-kinds : (m n : ℕ) (x : Art) (c : Change Left) → KindsOk c → KindsOk (rechained m n x c)
+re-kinds m n x c h = record { takes = prefixes-kinds (n - m) (c .takes) (h .takes); frees = prefixes-listed (m - n) (c .frees) (h .frees) }
 
 lone-kinds : (b : ℕ) (x : Art) (c : Change Left) → KindsOk c → KindsOk (loneChild b x c)
 lone-kinds b (leaf k v) c h = record { takes = h .takes; frees = h .frees }
-lone-kinds b (prefix p a) c h = record { takes = h .takes; frees = h .frees }
+lone-kinds b (prefix p a) c h = re-kinds (chain (length p)) (chain (suc (length p))) (prefix (b ∷ p) a) c h
 lone-kinds b (node kind ks) c h = record { takes = (lit≤ tt, h .takes); frees = h .frees }
 
 under-kinds : (p : List ℕ) (b : ℕ) (x : Art) (c : Change Left) → KindsOk c → KindsOk (underPrefix p b x c)
-under-kinds p b (leaf k v) c h = record { takes = h .takes; frees = (omega arith, h .frees) }
-under-kinds p b (prefix t a) c h = record { takes = h .takes; frees = (omega arith, h .frees) }
-under-kinds p b (node kind ks) c h = record { takes = h .takes; frees = h .frees }
+under-kinds p b (leaf k v) c h = record { takes = h .takes; frees = prefixes-listed (chain (length p)) (c .frees) (h .frees) }
+under-kinds p b (prefix t a) c h = re-kinds (chain (length p) + chain (length t)) (chain (length p + suc (length t))) (prefix (p ++ b ∷ t) a) c h
+under-kinds p b (node kind ks) c h = re-kinds (chain (length p)) (chain (length p + 1)) (prefix (p ++ b ∷ []) (node kind ks)) c h
 
 pub close-kinds : (l : Left) (c : Change Left) → KindsOk c → KindsOk (close l c)
 close-kinds gone c h = h
@@ -71,20 +85,11 @@ module _ {E : Edition} (L : Lawful E) where
   leaf-kinds : (d : ℕ) (k v k' v' : List ℕ) → KindsOk (putLeaf E d k v k' v')
   leaf-kinds d k v k' v' = bool-cases (same k k')
       (λ e. bool-cases (eqb (length v) (length v')) (λ t. rw (e, t) record { takes = tt; frees = tt }) (λ t. rw (e, t) record { takes = tt; frees = tt }))
-      (λ e. rw e record { takes = (lit≤ tt, (lit≤ tt, prefix-if (eqb (shared (drop d (E .walked k)) (drop d (E .walked k'))) 0))); frees = tt })
+      (λ e. rw e record { takes = (lit≤ tt, (lit≤ tt, prefixes-alone (chain (shared (drop d (E .walked k)) (drop d (E .walked k')))))); frees = tt })
 
   split-kinds : (d : ℕ) (k v p : List ℕ) (a : Art) → KindsOk (cutPrefix E d k v p a)
   split-kinds d k v p a = let q = shared p (drop d (E .walked k)) in let n = length (drop (suc q) p) in
-      record { takes = (lit≤ tt, (lit≤ tt, go (eqb q 0) (eqb n 0))); frees = go' (eqb q 0) (eqb n 0) }
-    where
-      go : (t u : Bool) → Kinds (pick t [] (pick u [] (Prefix ∷ [])))
-      go true u = tt
-      go false u = prefix-if u
-
-      go' : (t u : Bool) → Listed (pick t (pick u (Prefix ∷ []) []) [])
-      go' true true = (omega arith, tt)
-      go' true false = tt
-      go' false u = tt
+      record { takes = (lit≤ tt, (lit≤ tt, prefixes-alone (chain q + chain n - chain (length p)))); frees = prefixes-freed (chain (length p) - (chain q + chain n)) }
 
   add-kinds : (d : ℕ) (k v : List ℕ) (kind : ℕ) (ks : Kids) → Near kind → KindsOk (addChild E d k v kind ks)
   add-kinds d k v kind ks o = bool-cases (ltb (count ks) (most kind))

@@ -13,7 +13,7 @@ use Rattle.model.specs.Edition.{Edition}
 use Rattle.model.specs.Tree as model
 use Rattle.model.specs.Tree.{Art, Kids, Change, over, findTree, Left, gone, one, kept, LeftKids, fewer, still, numbered, unnumbered, carried, lessOne, close, closeUnder, afterKids, consKid, fromChild, eraseTree, eraseKids}
 use Rattle.model.specs.State.{State, room, eraseChange, eraseDone, eraseFound, eraseIn, onErase}
-use Rattle.model.specs.Frame.{Lay, LayKids, Root, bare, tree, art, artKids, rootArt, RootAt, Tree, Trees, Stands}
+use Rattle.model.specs.Frame.{Lay, LayKids, Root, bare, tree, atop, art, artKids, rootArt, RootAt, Tree, Trees, Stands}
 use Rattle.model.specs.Frame.Lay.{leaf, prefix, node}
 use Rattle.model.specs.Frame.LayKids.{nil, kid}
 use Rattle.model.specs.Mark.{Mark, mark, marks, marksAll, rootMarks, count}
@@ -35,6 +35,13 @@ unfoldable mutual
   knotsAll y p (Kids.kid b j a ks) = knots y (p ++ b ∷ []) a + knotsAll y p ks
 
 module _ (y : List ℕ) where
+  -- the Prefixes of a chain are one
+  knots-atop : (p q : List ℕ) (a : Art) → knots y p (atop q a) ≡ knots y (p ++ q) a
+  unfolding knots
+  knots-atop p q (Art.leaf k v) = refl
+  knots-atop p q (Art.prefix t a) = ap (λ (z : List ℕ). knots y z a) (sym (append-assoc p q t))
+  knots-atop p q (Art.node kind ks) = refl
+
   here : (p : List ℕ) → 1 ≤ pick (same p y) 1 0 → p ≡ y
   here p h = bool-cases (same p y) (λ t. same-true p y t) (λ t. let z : 1 ≤ 0 = rw t at h in absurd (omega arith))
 
@@ -46,7 +53,7 @@ module _ (y : List ℕ) where
     knot-of s k p (leaf t o e k' v) i h = absurd (omega (arith, ap (λ (z : Mark). z .kind) (is-same (mark s k y y) (mark t Leaf k' k') (omega (arith, leaf-marks (is (mark s k y y)) p t o e k' v)))))
     knot-of s k p (prefix t o q l) i h = elim (decLe 1 (is (mark s k y y) (mark t Prefix p (p ++ q)))) [
       | yes g ↦ absurd (omega (arith, ap (λ (z : Mark). z .kind) (is-same (mark s k y y) (mark t Prefix p (p ++ q)) g)))
-      | no g ↦ knot-of s k (p ++ q) l i (omega (arith, prefix-marks (is (mark s k y y)) p t o q l))
+      | no g ↦ omega (arith, knots-atop p q (art l), knot-of s k (p ++ q) l i (omega (arith, prefix-marks (is (mark s k y y)) p t o q l)))
     ]
     knot-of s k p (node t o kind ks) i h = elim (decLe 1 (is (mark s k y y) (mark t kind p p))) [
       | yes g ↦ let e = ap (λ (z : Mark). z .from) (is-same (mark s k y y) (mark t kind p p) g) in rw (← e, same-refl y) (omega arith)
@@ -66,7 +73,7 @@ module _ (y : List ℕ) where
 
       knot-in : (p : List ℕ) (l : Lay) → Tree E f p l → 1 ≤ knots y p (art l) → Knot (marks p l) y
       knot-in p (leaf s o e k v) T h = absurd (omega arith)
-      knot-in p (prefix s o q l) T h = knot-more (λ x. omega (arith, prefix-marks (is x) p s o q l)) (knot-in (p ++ q) l (T .3) h)
+      knot-in p (prefix s o q l) T h = knot-more (λ x. omega (arith, prefix-marks (is x) p s o q l)) (knot-in (p ++ q) l (T .3) (omega (arith, knots-atop p q (art l))))
       knot-in p (node s o kind ks) T h = elim (decLe 1 (pick (same p y) 1 0)) [
         | yes g ↦ let e = here p g in rw e (record { slot = s; kind = kind; inner = T .1 .inner .range; there = omega (arith, node-marks (is (mark s kind y y)) y s o kind ks, is-self (mark s kind y y)) })
         | no g ↦ knot-more (λ x. omega (arith, node-marks (is x) p s o kind ks)) (knots-in p ks (T .2) (omega arith))

@@ -4,19 +4,19 @@ use mathlib.Core.Path.{_≡_, refl, sym, ap, _∙_}
 use mathlib.Core.List.{List, [], _∷_, _++_}
 use mathlib.Core.Option.{Option, none, some}
 use native.Mathlib.Omega.{arith}
-use lib.ListN.{length, length-append}
+use lib.ListN.{length, take, drop, length-append}
 use Rattle.layout.specs.Number.{Bytes}
-use Rattle.layout.specs.Place.{dataStart}
+use Rattle.layout.specs.Place.{dataStart, prefixMost}
 use Rattle.layout.specs.Kind.{EmptyRoot, Inner, bodySize, most}
 use Rattle.layout.specs.Kind.Inner.{node4, node16, node48, node256}
 use Rattle.layout.specs.Entry.{entryOf}
 use Rattle.layout.proofs.KindLaws.{inner-range, size-eighth}
 use Rattle.model.specs.Strings.{All, Byte}
 use Rattle.model.specs.Edition.{Edition}
-use Rattle.model.specs.Tree.{Art, Kids, count, extentOf}
+use Rattle.model.specs.Tree.{Art, Kids, count, extentOf, chain}
 use Rattle.model.specs.Tree.Art.{leaf, prefix, node}
 use Rattle.model.specs.Tree.Kids.{nil, kid}
-use Rattle.model.specs.Image.{digits, numbers, padded, slots, slotsKids, size, sizeKids, bytesOf, childSlots, spread, upFrom, nodeBody, entries, entriesKids, bodies, bodiesKids, header, imageOf}
+use Rattle.model.specs.Image.{digits, numbers, padded, slots, slotsKids, size, sizeKids, bytesOf, childSlots, spread, upFrom, nodeBody, chainEntries, chainBodies, entries, entriesKids, bodies, bodiesKids, header, imageOf}
 use Rattle.model.proofs.Well.{Well, WellKids}
 use Rattle.model.proofs.GoodState.{TreeOk, treeSlots, treeSize}
 use Rattle.model.proofs.StringLaws.{all-append, eqb-cases}
@@ -54,14 +54,32 @@ length-node kind bs ss node256 e o =
 pub extent-fits : (k v : List ℕ) → length (k ++ v) ≤ extentOf k v
 extent-fits k v = let n = length-append k v in omega arith
 
+pub take-short : (n : ℕ) (p : List ℕ) → length (take n p) ≤ n
+take-short zero p = omega arith
+take-short (suc n) [] = omega arith
+take-short (suc n) (x ∷ p) = let on = take-short n p in omega arith
+
+pub chain-eight : (n : ℕ) → n * 128 % 8 ≡ 0
+chain-eight n = omega arith
+
+pub length-chain : (n : ℕ) (p : List ℕ) (s : ℕ) → length (chainBodies n p s) ≡ n * 128
+length-chain zero p s = refl
+length-chain (suc n) p s =
+    let H = padded 16 (digits 4 (s + 1) ++ digits 2 (length (take prefixMost p))) in
+    let on = length-chain n (drop prefixMost p) (s + 1) in
+    omega (arith, length-append (H ++ padded prefixMost (take prefixMost p)) (chainBodies n (drop prefixMost p) (s + 1)), part H 16 prefixMost (take prefixMost p) refl (take-short prefixMost p))
+
+pub length-chain-entries : (n o : ℕ) → length (chainEntries n o) ≡ n
+length-chain-entries zero o = refl
+length-chain-entries (suc n) o = ap suc (length-chain-entries n (o + 128))
+
 module _ (E : Edition) where
   mutual
     pub length-bodies : (a : Art) (path : List ℕ) → Well E a path → (s o : ℕ) → length (bodies a s o) ≡ size a
     length-bodies (leaf k v) path h s o = part (padded 16 (digits 4 (o + 16) ++ digits 2 (length k) ++ digits 2 (length v))) 16 (extentOf k v) (k ++ v) refl (extent-fits k v)
     length-bodies (prefix p a) path h s o =
-        let H = padded 16 (digits 4 (s + 1) ++ digits 2 (length p)) in
-        let B = bodies a (s + 1) (o + 128) in
-        length-append (H ++ padded 112 p) B ∙ rw (part H 16 112 p refl (h .0 .short), length-bodies a (path ++ p) (h .1) (s + 1) (o + 128))
+        let n = chain (length p) in
+        length-append (chainBodies n p s) (bodies a (s + n) (o + n * 128)) ∙ rw (length-chain n p s, length-bodies a (path ++ p) (h .1) (s + n) (o + n * 128))
     length-bodies (node kind ks) path h s o =
         let m = length-bytes ks in let n = length-slots (s + 1) ks in
         let here = length-node kind (bytesOf ks) (childSlots (s + 1) ks) (h .0 .sort) (m ∙ sym n) (rw n (h .0 .atMost)) in
@@ -77,7 +95,9 @@ module _ (E : Edition) where
 mutual
   pub length-entries : (a : Art) (o : ℕ) → length (entries a o) ≡ slots a
   length-entries (leaf k v) o = refl
-  length-entries (prefix p a) o = let on = length-entries a (o + 128) in omega arith
+  length-entries (prefix p a) o =
+      let n = chain (length p) in
+      length-append (chainEntries n o) (entries a (o + n * 128)) ∙ rw (length-chain-entries n o, length-entries a (o + n * 128))
   length-entries (node kind ks) o = let on = length-entries-kids ks (o + bodySize kind) in omega arith
 
   pub length-entries-kids : (ks : Kids) (o : ℕ) → length (entriesKids ks o) ≡ slotsKids ks
@@ -134,6 +154,24 @@ all-kid-bytes : (E : Edition) (ks : Kids) (path : List ℕ) (lo : ℕ) → WellK
 all-kid-bytes E nil path lo h = tt
 all-kid-bytes E (kid c j a ks) path lo h = (h .1, all-kid-bytes E ks path (suc c) (h .3))
 
+all-take : (n : ℕ) (p : List ℕ) → All Byte p → All Byte (take n p)
+all-take zero p h = tt
+all-take (suc n) [] h = tt
+all-take (suc n) (x ∷ p) h = (h .0, all-take n p (h .1))
+
+all-drop : (n : ℕ) (p : List ℕ) → All Byte p → All Byte (drop n p)
+all-drop zero p h = h
+all-drop (suc n) [] h = tt
+all-drop (suc n) (x ∷ p) h = all-drop n p (h .1)
+
+all-chain : (n : ℕ) (p : List ℕ) (s : ℕ) → All Byte p → All Byte (chainBodies n p s)
+all-chain zero p s h = tt
+all-chain (suc n) p s h =
+    let D = digits 4 (s + 1) ++ digits 2 (length (take prefixMost p)) in
+    all-three (padded 16 D) (padded prefixMost (take prefixMost p)) (chainBodies n (drop prefixMost p) (s + 1))
+    (all-padded 16 D (all-append Byte (digits 4 (s + 1)) (digits 2 (length (take prefixMost p))) (all-digits 4 (s + 1)) (all-digits 2 (length (take prefixMost p)))))
+    (all-padded prefixMost (take prefixMost p) (all-take prefixMost p h)) (all-chain n (drop prefixMost p) (s + 1) (all-drop prefixMost p h))
+
 module _ (E : Edition) where
   mutual
     pub all-bodies : (a : Art) (path : List ℕ) → Well E a path → (s o : ℕ) → All Byte (bodies a s o)
@@ -143,9 +181,8 @@ module _ (E : Edition) where
         (all-padded 16 D (all-three (digits 4 (o + 16)) (digits 2 (length k)) (digits 2 (length v)) (all-digits 4 (o + 16)) (all-digits 2 (length k)) (all-digits 2 (length v))))
         (all-padded (extentOf k v) (k ++ v) (all-append Byte k v (h .starts .legal .bytes) (h .fits .bytes)))
     all-bodies (prefix p a) path h s o =
-        let D = digits 4 (s + 1) ++ digits 2 (length p) in
-        all-three (padded 16 D) (padded 112 p) (bodies a (s + 1) (o + 128)) (all-padded 16 D (all-append Byte (digits 4 (s + 1)) (digits 2 (length p)) (all-digits 4 (s + 1)) (all-digits 2 (length p))))
-        (all-padded 112 p (h .0 .chars)) (all-bodies a (path ++ p) (h .1) (s + 1) (o + 128))
+        let n = chain (length p) in
+        all-append Byte (chainBodies n p s) (bodies a (s + n) (o + n * 128)) (all-chain n p s (h .0 .chars)) (all-bodies a (path ++ p) (h .1) (s + n) (o + n * 128))
     all-bodies (node kind ks) path h s o =
         all-append Byte (nodeBody kind (bytesOf ks) (childSlots (s + 1) ks)) (bodiesKids ks (s + 1) (o + bodySize kind))
         (all-node kind (bytesOf ks) (childSlots (s + 1) ks) (h .0 .sort) (rw (length-bytes ks) (h .0 .atMost)) (all-kid-bytes E ks path 0 (h .1)))
@@ -188,7 +225,7 @@ module _ (E : Edition) where
       where
         up : (n : ℕ) → (16 + (n + 7) / 8 * 8) % 8 ≡ 0
         up n = omega arith
-    size-eight (prefix p a) path h = eighths 128 (size a) refl (size-eight a (path ++ p) (h .1))
+    size-eight (prefix p a) path h = eighths (chain (length p) * 128) (size a) (chain-eight (chain (length p))) (size-eight a (path ++ p) (h .1))
     size-eight (node kind ks) path h = eighths (bodySize kind) (sizeKids ks) (inner-eighth (h .0 .sort)) (size-eight-kids ks path 0 (h .1))
 
     pub size-eight-kids : (ks : Kids) (path : List ℕ) (lo : ℕ) → WellKids E ks path lo → sizeKids ks % 8 ≡ 0

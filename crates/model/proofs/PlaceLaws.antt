@@ -1,5 +1,5 @@
 -- In a tree that stands, no two bodies of one kind are known by the same: no two Leaves have one key, no two inner nodes of a kind one path,
--- no two Prefixes one start or one end. Assumes nothing.
+-- no two Prefixes one start or one end, where a chain is one Prefix. Assumes nothing.
 use Prim.Native.Nat.{ℕ, suc, _+_, _<_, _≤_}
 use mathlib.Core.Path.{_≡_, refl, sym, ap, _∙_}
 use mathlib.Core.List.{List, [], _∷_, _++_}
@@ -8,10 +8,11 @@ use native.Mathlib.Omega.{arith}
 use native.Mathlib.Decide.{decLe}
 use lib.ListN.{length, take, getD, length-append}
 use lib.Seq.{getD-take, take-take, take-append-seam, getD-append-seam}
+use Rattle.layout.specs.Number.{Bytes}
 use Rattle.layout.specs.Kind.{Leaf, Prefix}
 use Rattle.model.specs.Edition.{Edition}
 use Rattle.model.specs.Body.{Asc}
-use Rattle.model.specs.Frame.{Lay, LayKids, IsNode, pairs, Begins, Tree, Trees}
+use Rattle.model.specs.Frame.{Lay, LayKids, IsNode, pairs, Begins, Tree, Trees, Single}
 use Rattle.model.specs.Frame.Lay.{leaf, prefix, node}
 use Rattle.model.specs.Frame.LayKids.{nil, kid}
 use Rattle.model.specs.Mark.{Mark, mark, marks, marksAll, count}
@@ -70,7 +71,7 @@ record Least (y p : List ℕ) (c : ℕ) (l : Lay) (n : ℕ) : Type 0 where
   pub few : Few y p n
   pub deep : IsNode l → c ≡ Prefix → 1 ≤ n → length p < length y
 
-module _ {E : Edition} {w : Mark → ℕ} {c : ℕ} {y : List ℕ} (N : Names E w c y) (f : List ℕ) where
+module _ {E : Edition} {w : Mark → ℕ} {c : ℕ} {y : List ℕ} (N : Names E w c y) (f : List ℕ) (chains : Single E) (B : Bytes f) where
   prefix-least : (s o : ℕ) (p q : List ℕ) (l : Lay) → IsNode l → Least y (p ++ q) c l (count w (marks (p ++ q) l)) → Least y p c (prefix s o q l) (count w (marks p (prefix s o q l)))
   prefix-least s o p q l i L =
       let m = mark s Prefix p (p ++ q) in
@@ -119,7 +120,7 @@ module _ {E : Edition} {w : Mark → ℕ} {c : ℕ} {y : List ℕ} (N : Names E 
     tree-least p (leaf s o e k v) T =
         let q = leaf-marks w p s o e k v in
         record { few = record { few = omega (arith, N .one (mark s Leaf k k)); begins = λ h. rw (← N .leaf s k (omega arith)) (T .1 .begins) }; deep = λ t. absurd t }
-    tree-least p (prefix s o q l) T = prefix-least s o p q l (T .2) (tree-least (p ++ q) l (T .3))
+    tree-least p (prefix s o q l) T = prefix-least s o p q l (chains f p q l B (T .2) (T .3)) (tree-least (p ++ q) l (T .3))
     tree-least p (node s o kind ks) T = node-least s o kind p ks (T .1 .inner .range .0) (trees-below 0 p ks (T .2) (inner-asc f o kind (pairs ks) (T .1 .inner)))
 
     trees-below : (lo : ℕ) (p : List ℕ) (ks : LayKids) → Trees E f p ks → Asc lo (pairs ks) → Below lo y p (count w (marksAll p ks))

@@ -7,7 +7,7 @@ use mathlib.Core.List.{List, [], _∷_, _++_, append-assoc, append-nil}
 use mathlib.Core.Bool.{true, false}
 use mathlib.Core.Option.{Option, none, some}
 use mathlib.Core.Logic.{_≢_}
-use lib.ListN.{length, drop, getD, length-append}
+use lib.ListN.{length, drop, getD}
 use lib.Seq.{take-append-seam, getD-append-seam}
 use lib.Dec.{eqb, lit<, lit≤}
 use borrow.Author.Tests.{ne-eqb}
@@ -24,7 +24,7 @@ use Rattle.model.proofs.StringLaws.{bool-cases, eqb-cases, ltb-cases, c
 use Rattle.model.proofs.SetLaws.{all-keys-map, Other, lookup-none, lookup-after, lookup-before, upsert-after, upsert-before}
 use Rattle.model.proofs.Well.{Distinct, Zeros, Placed, Starts, PrefixW, NodeW, Well, WellKids}
 use Rattle.model.proofs.GoodState.{TreeOk}
-use Rattle.model.proofs.WellLaws.{Walk, walk-start, walk-rest, walk-as, walk-byte, walk-skip, walk-step, walk-starts, inside-short, inside-bytes, parted-from, walk-on, walk-lt, ahead-kids, node-inside, inner-inside}
+use Rattle.model.proofs.WellLaws.{Walk, walk-start, walk-rest, walk-as, walk-byte, walk-skip, walk-step, walk-starts, inside-bytes, parted-from, walk-on, walk-lt, ahead-kids, node-inside, inner-inside}
 use Rattle.model.proofs.FindLaws.{AtPrefix, other-kid, other-kids, at-prefix, other-below}
 use Rattle.model.proofs.FindLaws.AtPrefix.{along, aside}
 use Rattle.model.proofs.KidsLaws.{carried-records, carried-has, kids-ahead, join-records, carried-well, joined-well, grown-well}
@@ -69,8 +69,7 @@ module _ {E : Edition} (L : Lawful E) where
   as-prefix-well [] a path e h = rw (append-nil path) at h
   as-prefix-well (x ∷ p) a path e h =
       let i = inner-inside L a (path ++ x ∷ p) e h in
-      let o = inside-short L (path ++ x ∷ p) i in let f = L .fits in
-      (record { some = omega arith; short = omega (arith, length-append path (x ∷ p)); chars = all-right Byte path (x ∷ p) (inside-bytes L (path ++ x ∷ p) i); inner = e }, h)
+      (record { some = omega arith; chars = all-right Byte path (x ∷ p) (inside-bytes L (path ++ x ∷ p) i); inner = e }, h)
 
   -- ---- a key and a tree part after w
   fork-well : (path w : List ℕ) (b c : ℕ) (k v : List ℕ) (y : Art) → Starts E (path ++ w ++ b ∷ []) k → LegalValue v → Well E y (path ++ w ++ c ∷ []) → b ≢ c → b < 256 → c < 256
@@ -168,7 +167,7 @@ module _ {E : Edition} (L : Lawful E) where
 
   put-under : (p : List ℕ) (a : Art) (path k v : List ℕ) (c : Change Art) → PrefixW p a → PutOk E a (path ++ p) k v c → PutOk E (prefix p a) path k v (over (λ x. prefix p x) c)
   put-under p a path k v c h o = record {
-    well = (record { some = h .some; short = h .short; chars = h .chars; inner = o .inner (h .inner) }, o .well);
+    well = (record { some = h .some; chars = h .chars; inner = o .inner (h .inner) }, o .well);
     set = o .set;
     new = o .new;
     inner = λ z. clash (cc);

@@ -2,7 +2,7 @@
 -- accounted for. And what its header says, in the words of the state. Assumes nothing.
 use Prim.Native.Nat.{ℕ, zero, suc, _+_, _*_, _%_, _<_, _≤_}
 use mathlib.Core.Path.{_≡_, refl, sym, ap, _∙_}
-use mathlib.Core.List.{List, [], _∷_, _++_, map}
+use mathlib.Core.List.{List, [], _∷_, _++_, map, append-assoc}
 use mathlib.Core.Bool.{Bool, true, false}
 use mathlib.Core.Option.{some}
 use native.Mathlib.Omega.{arith}
@@ -17,19 +17,21 @@ use Rattle.layout.specs.Kind.Inner.{node4, node16, node48, node256}
 use Rattle.layout.proofs.NumberLaws.{le-lt}
 use Rattle.layout.proofs.KindLaws.{range-inner}
 use Rattle.model.specs.Strings.{pick, All, Byte}
-use Rattle.model.specs.Edition.{Edition}
-use Rattle.model.specs.Tree.{count, taken, isInner}
-use Rattle.model.specs.Records.{records, recordsKids, recordsOf}
+use Rattle.model.specs.Edition.{Edition, Lawful}
+use Rattle.model.specs.Tree.{Art, count, taken}
+use Rattle.model.specs.Records.{Record, records, recordsKids, recordsOf}
 use Rattle.model.specs.State.{State, kinds}
 use Rattle.model.specs.Image.{slots, slotsKids, size, sizeKids}
 use Rattle.model.specs.Item.{Item, body, extent, inside, onSlot, bulk, leafy, sum, Sound}
-use Rattle.model.specs.Body.{Text, PrefixAt, Node48At, InnerAt, Asc, lookKid, namedChild}
-use Rattle.model.specs.Frame.{Lay, LayKids, Root, bare, tree, slotOf, IsNode, art, artKids, items, itemsAll, pairs, Places, NodeOf, LeafOf, Tree, Trees, RootAt, rootArt, rootItems, Numbers, FrameLength, SlotCapacity, listItems, freed, viewOf, stateOf, Heap, Stands}
+use Rattle.model.specs.Body.{Text, Node48At, InnerAt, Asc, lookKid, namedChild}
+use Rattle.model.specs.Frame.{Lay, LayKids, Root, bare, tree, slotOf, Below, atop, art, artKids, items, itemsAll, pairs, Places, NodeOf, LeafOf, Tree, Trees, RootAt, rootArt, rootItems, Numbers, FrameLength, SlotCapacity, listItems, freed, viewOf, stateOf, Heap, Stands}
 use Rattle.model.specs.Frame.Lay.{leaf, prefix, node}
 use Rattle.model.specs.Frame.LayKids.{nil, kid}
-use Rattle.model.proofs.Well.{Well, WellKids, LeafW, PrefixW, NodeW, Distinct, Zeros, Placed}
+use Rattle.model.proofs.Well.{Well, WellKids, LeafW, NodeW, Distinct, Zeros, Placed}
+use Rattle.model.proofs.WellLaws.{Inside, inside-left, node-inside}
+use Rattle.model.proofs.ChainLaws.{Hung, below-hung, atop-slots, atop-size}
 use Rattle.model.proofs.GoodState.{TreeOk, treeSlots, treeSize, weigh, freeOf, GoodState}
-use Rattle.model.proofs.StringLaws.{clash, all-left, all-right}
+use Rattle.model.proofs.StringLaws.{clash, all-append, all-left, all-right}
 use Rattle.model.proofs.ItemLaws.{in-yes, in-under, in-over, sum-app, sum-cons, sum-add, sum-as}
 use Rattle.model.proofs.UniqueLaws.{look-first, look-later, asc-parts}
 
@@ -58,13 +60,11 @@ leaf-well E f path o e k v B L =
       fits = record { passes = omega (arith, le-lt 2 f (o + 6) B); bytes = all-right Byte k v b };
     }
 
-node-inner : (l : Lay) → IsNode l → isInner (art l) ≡ true
-node-inner (leaf s o e k v) h = absurd h
-node-inner (prefix s o p l) h = absurd h
-node-inner (node s o kind ks) h = refl
-
-pub prefix-well : (f : List ℕ) (o : ℕ) (p : List ℕ) (l : Lay) → Bytes f → PrefixAt f o p (slotOf l) → IsNode l → PrefixW p (art l)
-prefix-well f o p l B P I = record { some = P .some; short = P .most; chars = bytes-text f (o + 16) p B (P .text); inner = node-inner l I }
+pub atop-well : (E : Edition) (p : List ℕ) (a : Art) (path : List ℕ) → 1 ≤ length p → All Byte p → Hung p a → Well E a (path ++ p) → Well E (atop p a) path
+atop-well E p (Art.leaf k v) path h c B W = absurd B
+atop-well E p (Art.prefix q a) path h c B W =
+    (record { some = omega (arith, length-append p q); chars = all-append Byte p q c (W .0 .chars); inner = W .0 .inner }, rw (append-assoc path p q) at (W .1))
+atop-well E p (Art.node kind ks) path h c B W = (record { some = h; chars = c; inner = refl }, W)
 
 pub length-pairs : (ks : LayKids) → length (pairs ks) ≡ count (artKids ks)
 unfolding pairs
@@ -147,13 +147,21 @@ module _ (E : Edition) (f : List ℕ) (B : Bytes f) where
 
     pub tree-well : (path : List ℕ) (l : Lay) → Tree E f path l → Well E (art l) path
     tree-well path (leaf s o e k v) T = leaf-well E f path o e k v B (T .1)
-    tree-well path (prefix s o p l) T = (prefix-well f o p l B (T .1) (T .2), tree-well (path ++ p) l (T .3))
+    tree-well path (prefix s o p l) T =
+        atop-well E p (art l) path (T .1 .some) (bytes-text f (o + 16) p B (T .1 .text)) (below-hung p l (T .2)) (tree-well (path ++ p) l (T .3))
     tree-well path (node s o kind ks) T = (node-well f o kind ks (T .1), trees-well path 0 ks (inner-asc f o kind (pairs ks) (T .1 .inner)) (T .2))
 
     pub trees-well : (path : List ℕ) (lo : ℕ) (ks : LayKids) → Asc lo (pairs ks) → Trees E f path ks → WellKids E (artKids ks) path lo
     trees-well path lo nil A T = tt
     trees-well path lo (kid b j l ks) A T =
         let q = asc-kid lo b j l ks A in (q .0, q .1, tree-well (path ++ b ∷ []) l (T .0), trees-well path (suc b) ks (q .3) (T .1))
+
+-- the path to what stands below a Prefix leads on
+pub below-inside : {E : Edition} (L : Lawful E) (f path p : List ℕ) (l : Lay) → Bytes f → Below p l → Tree E f path l → Inside E path
+unfolding Tree
+below-inside L f path p (leaf s o e k v) B H T = absurd H
+below-inside L f path p (prefix s o q l) B H T = inside-left path q (below-inside L f (path ++ q) q l B (T .2) (T .3))
+below-inside {E} L f path p (node s o kind ks) B H T = node-inside L kind (artKids ks) path (tree-well E f B path (node s o kind ks) T)
 
 -- ---- sums over the items of a tree
 
@@ -162,29 +170,41 @@ unfoldable pub bodied : Item → ℕ
 bodied (body s k o) = 1
 bodied (extent e n) = 0
 
-mutual
-  unfolding items itemsAll sum bodied bulk
+atop-records : (p : List ℕ) (a : Art) → records (atop p a) ≡ records a
+atop-records p (Art.leaf k v) = refl
+atop-records p (Art.prefix q a) = refl
+atop-records p (Art.node kind ks) = refl
 
-  pub slots-items : (l : Lay) → sum bodied (items l) ≡ slots (art l)
-  slots-items (leaf s o e k v) = refl
-  slots-items (prefix s o p l) = let on = slots-items l in omega arith
-  slots-items (node s o kind ks) = let on = slots-items-all ks in omega arith
+module _ (E : Edition) (f : List ℕ) where
+  mutual
+    unfolding items itemsAll sum bodied bulk Tree Trees
 
-  pub slots-items-all : (ks : LayKids) → sum bodied (itemsAll ks) ≡ slotsKids (artKids ks)
-  slots-items-all nil = refl
-  slots-items-all (kid b j l ks) = omega (arith, sum-app bodied (items l) (itemsAll ks), slots-items l, slots-items-all ks)
+    pub slots-items : (path : List ℕ) (l : Lay) → Tree E f path l → sum bodied (items l) ≡ slots (art l)
+    slots-items path (leaf s o e k v) T = refl
+    slots-items path (prefix s o p l) T =
+        let on = slots-items (path ++ p) l (T .3) in
+        omega (arith, atop-slots p (T .1 .some) (T .1 .most) (art l) (below-hung p l (T .2)))
+    slots-items path (node s o kind ks) T = let on = slots-items-all path ks (T .2) in omega arith
 
-mutual
-  unfolding items itemsAll sum bulk
+    pub slots-items-all : (path : List ℕ) (ks : LayKids) → Trees E f path ks → sum bodied (itemsAll ks) ≡ slotsKids (artKids ks)
+    slots-items-all path nil T = refl
+    slots-items-all path (kid b j l ks) T =
+        omega (arith, sum-app bodied (items l) (itemsAll ks), slots-items (path ++ b ∷ []) l (T .0), slots-items-all path ks (T .1))
 
-  pub size-items : (l : Lay) → sum bulk (items l) ≡ size (art l)
-  size-items (leaf s o e k v) = omega arith
-  size-items (prefix s o p l) = let on = size-items l in omega arith
-  size-items (node s o kind ks) = let on = size-items-all ks in omega arith
+  mutual
+    unfolding items itemsAll sum bulk Tree Trees
 
-  pub size-items-all : (ks : LayKids) → sum bulk (itemsAll ks) ≡ sizeKids (artKids ks)
-  size-items-all nil = refl
-  size-items-all (kid b j l ks) = omega (arith, sum-app bulk (items l) (itemsAll ks), size-items l, size-items-all ks)
+    pub size-items : (path : List ℕ) (l : Lay) → Tree E f path l → sum bulk (items l) ≡ size (art l)
+    size-items path (leaf s o e k v) T = omega arith
+    size-items path (prefix s o p l) T =
+        let on = size-items (path ++ p) l (T .3) in
+        omega (arith, atop-size p (T .1 .some) (T .1 .most) (art l) (below-hung p l (T .2)))
+    size-items path (node s o kind ks) T = let on = size-items-all path ks (T .2) in omega arith
+
+    pub size-items-all : (path : List ℕ) (ks : LayKids) → Trees E f path ks → sum bulk (itemsAll ks) ≡ sizeKids (artKids ks)
+    size-items-all path nil T = refl
+    size-items-all path (kid b j l ks) T =
+        omega (arith, sum-app bulk (items l) (itemsAll ks), size-items (path ++ b ∷ []) l (T .0), size-items-all path ks (T .1))
 
 -- a body that is no Leaf's
 pub leafy-other : (s k o : ℕ) → 2 ≤ k → leafy (body s k o) ≡ 0
@@ -200,7 +220,7 @@ module _ (E : Edition) (f : List ℕ) where
 
     pub records-items : (path : List ℕ) (l : Lay) → Tree E f path l → sum leafy (items l) ≡ length (records (art l))
     records-items path (leaf s o e k v) T = refl
-    records-items path (prefix s o p l) T = leafy-cons s 2 o (items l) (omega arith) ∙ records-items (path ++ p) l (T .3)
+    records-items path (prefix s o p l) T = leafy-cons s 2 o (items l) (omega arith) ∙ records-items (path ++ p) l (T .3) ∙ ap (λ (r : List Record). length r) (sym (atop-records p (art l)))
     records-items path (node s o kind ks) T = let r = T .1 .inner .range in leafy-cons s kind o (itemsAll ks) (omega arith) ∙ records-items-all path ks (T .2)
 
     pub records-items-all : (path : List ℕ) (ks : LayKids) → Trees E f path ks → sum leafy (itemsAll ks) ≡ length (recordsKids (artKids ks))
@@ -285,15 +305,15 @@ module _ (w : Item → ℕ) (m : ℕ → ℕ) (same : (s k o : ℕ) → w (body 
 
 -- ---- the whole frame
 
-root-slots : (r : Root) → sum bodied (rootItems r) ≡ treeSlots (rootArt r)
-unfolding rootItems sum bodied
-root-slots (bare s o) = refl
-root-slots (tree l) = slots-items l
+root-slots : (E : Edition) (f : List ℕ) (r : Root) → RootAt E f r → sum bodied (rootItems r) ≡ treeSlots (rootArt r)
+unfolding rootItems sum bodied RootAt
+root-slots E f (bare s o) R = refl
+root-slots E f (tree l) R = slots-items E f [] l R
 
-root-size : (r : Root) → sum bulk (rootItems r) ≡ treeSize (rootArt r)
-unfolding rootItems sum bulk
-root-size (bare s o) = refl
-root-size (tree l) = size-items l
+root-size : (E : Edition) (f : List ℕ) (r : Root) → RootAt E f r → sum bulk (rootItems r) ≡ treeSize (rootArt r)
+unfolding rootItems sum bulk RootAt
+root-size E f (bare s o) R = refl
+root-size E f (tree l) R = size-items E f [] l R
 
 pub root-records : (E : Edition) (f : List ℕ) (r : Root) → RootAt E f r → sum leafy (rootItems r) ≡ length (recordsOf (rootArt r))
 unfolding rootItems sum leafy inside RootAt
@@ -325,8 +345,8 @@ good-at E f n ls r B H R c =
     record {
       well = root-well E f r B R;
       recs = c ∙ root-records E f r R;
-      used = omega (arith, sum-app bodied (rootItems r) (freed 1 ls), root-slots r, sum-freed bodied (λ k. 1) bodied-is ls eight);
-      laid = omega (arith, sum-app bulk (rootItems r) (freed 1 ls), root-size r, sum-freed bulk bodySize bulk-is ls eight);
+      used = omega (arith, sum-app bodied (rootItems r) (freed 1 ls), root-slots E f r R, sum-freed bodied (λ k. 1) bodied-is ls eight);
+      laid = omega (arith, sum-app bulk (rootItems r) (freed 1 ls), root-size E f r R, sum-freed bulk bodySize bulk-is ls eight);
       nine = omega (arith, length-map ls length);
       three = List·getD-map length ls 2 [] ∙ z;
       fitsU = head .givenIn .1;

@@ -6,7 +6,7 @@ use mathlib.Core.Option.{Option, none, some}
 use lib.ListN.{length, getD, take}
 use lib.Dec.{eqb}
 use Rattle.layout.specs.Number.{le, byteAt, Bytes}
-use Rattle.layout.specs.Place.{atEdition, atF, atN, atD, atB, atU, atR, atX, atRoot, atHead, atSpare, headerSize, entryAt, dataStart, node48Index}
+use Rattle.layout.specs.Place.{atEdition, atF, atN, atD, atB, atU, atR, atX, atRoot, atHead, atSpare, headerSize, entryAt, dataStart, node48Index, prefixMost}
 use Rattle.layout.specs.Kind.{Leaf, Prefix, Node48, EmptyRoot, fewest, most}
 use Rattle.layout.specs.Entry.{placeOf, highOf}
 use Rattle.model.specs.Strings.{pick}
@@ -37,16 +37,29 @@ slotOf (leaf s o e k v) = s
 slotOf (prefix s o p l) = s
 slotOf (node s o kind ks) = s
 
+-- of kind 4 to 7
 abbrev pub IsNode : Lay → Type 0
 IsNode (leaf s o e k v) = ⊥
 IsNode (prefix s o p l) = ⊥
 IsNode (node s o kind ks) = Unit {0}
 
+-- what may stand below a Prefix of bytes p: "its child is of kind 4 to 7"; below a full one also the next of a chain, "each full but the last"
+abbrev pub Below : List ℕ → Lay → Type 0
+Below p (leaf s o e k v) = ⊥
+Below p (prefix s o q l) = length p ≡ prefixMost
+Below p (node s o kind ks) = Unit {0}
+
+-- a shared beginning goes on: the Prefixes of a chain are one in the tree
+abbrev pub atop : List ℕ → Art → Art
+atop p (Art.leaf k v) = Art.prefix p (Art.leaf k v)
+atop p (Art.prefix q a) = Art.prefix (p ++ q) a
+atop p (Art.node kind ks) = Art.prefix p (Art.node kind ks)
+
 -- the tree without slots and places
 abbrev mutual
   pub art : Lay → Art
   art (leaf s o e k v) = Art.leaf k v
-  art (prefix s o p l) = Art.prefix p (art l)
+  art (prefix s o p l) = atop p (art l)
   art (node s o kind ks) = Art.node kind (artKids ks)
 
   pub artKids : LayKids → Kids
@@ -103,12 +116,16 @@ unfoldable mutual
   -- the tree stands in f, and this path leads to it. "A Prefix has 1 to 112 bytes and its child is of kind 4 to 7."
   pub Tree : Edition → List ℕ → List ℕ → Lay → Type 0
   Tree E f path (leaf s o e k v) = Entry f s Leaf o × LeafOf E f path o e k v
-  Tree E f path (prefix s o p l) = Entry f s Prefix o × PrefixAt f o p (slotOf l) × IsNode l × Tree E f (path ++ p) l
+  Tree E f path (prefix s o p l) = Entry f s Prefix o × PrefixAt f o p (slotOf l) × Below p l × Tree E f (path ++ p) l
   Tree E f path (node s o kind ks) = Entry f s kind o × NodeOf f o kind ks × Trees E f path ks
 
   pub Trees : Edition → List ℕ → List ℕ → LayKids → Type 0
   Trees E f path nil = Unit {0}
   Trees E f path (kid b j l ks) = Tree E f (path ++ b ∷ []) l × Trees E f path ks
+
+-- of an edition: in a good frame every chain is one Prefix
+abbrev pub Single : Edition → Type 0
+Single E = (f path p : List ℕ) (l : Lay) → Bytes f → Below p l → Tree E f (path ++ p) l → IsNode l
 
 -- "EmptyRoot stands only at the root"
 pub data Root : Type 0 where

@@ -2,14 +2,14 @@
 use Prim.Native.Nat.{ℕ, zero, suc, _+_, _-_, _*_, _/_, _%_}
 use mathlib.Core.List.{List, [], _∷_, _++_}
 use mathlib.Core.Option.{Option, none, some}
-use lib.ListN.{length, replicate}
+use lib.ListN.{length, replicate, take, drop}
 use lib.Dec.{leb, eqb}
-use Rattle.layout.specs.Place.{dataStart}
+use Rattle.layout.specs.Place.{dataStart, prefixMost}
 use Rattle.layout.specs.Kind.{Leaf, Prefix, Node4, Node16, Node48, Node256, EmptyRoot, bodySize}
 use Rattle.layout.specs.Entry.{entryOf}
 use Rattle.model.specs.Strings.{pick}
 use Rattle.model.specs.Edition.{Edition}
-use Rattle.model.specs.Tree.{Art, Kids, count, carried, extentOf}
+use Rattle.model.specs.Tree.{Art, Kids, count, carried, extentOf, chain}
 use Rattle.model.specs.Tree.Art.{leaf, prefix, node}
 use Rattle.model.specs.Tree.Kids.{nil, kid}
 use Rattle.model.specs.Records.{Record}
@@ -68,7 +68,7 @@ padded n bs = bs ++ replicate (n - length bs) 0
 abbrev mutual
   pub slots : Art → ℕ
   slots (leaf k v) = 1
-  slots (prefix p a) = 1 + slots a
+  slots (prefix p a) = chain (length p) + slots a
   slots (node kind ks) = 1 + slotsKids ks
 
   pub slotsKids : Kids → ℕ
@@ -78,7 +78,7 @@ abbrev mutual
 abbrev mutual
   pub size : Art → ℕ
   size (leaf k v) = bodySize Leaf + extentOf k v
-  size (prefix p a) = bodySize Prefix + size a
+  size (prefix p a) = chain (length p) * bodySize Prefix + size a
   size (node kind ks) = bodySize kind + sizeKids ks
 
   pub sizeKids : Kids → ℕ
@@ -118,12 +118,23 @@ nodeBody kind bs ss =
     (pick (eqb kind Node48) (padded 8 (digits 2 (length bs)) ++ spread 256 0 bs (upFrom 1 (length bs)) ++ padded 192 (numbers 4 ss))
     (padded 8 (digits 2 (length bs)) ++ numbers 4 (spread 256 0 bs ss))))
 
+-- "a chain of Prefixes, each full but the last, in live and packed frames": the entries of n Prefixes, the first of them at o
+abbrev pub chainEntries : ℕ → ℕ → List ℕ
+chainEntries zero o = []
+chainEntries (suc n) o = entryOf Prefix o ∷ chainEntries n (o + bodySize Prefix)
+
+-- and the bodies, which hold the bytes p; the first has slot s, and each names the next slot
+abbrev pub chainBodies : ℕ → List ℕ → ℕ → List ℕ
+chainBodies zero p s = []
+chainBodies (suc n) p s =
+    padded 16 (digits 4 (s + 1) ++ digits 2 (length (take prefixMost p))) ++ padded prefixMost (take prefixMost p) ++ chainBodies n (drop prefixMost p) (s + 1)
+
 -- "bodies follow one another from D in that order, a Leaf's extent right after its body": the entries of a tree whose first
 -- body lies at o, and the bodies and extents of one whose first slot is s
 abbrev mutual
   pub entries : Art → ℕ → List ℕ
   entries (leaf k v) o = entryOf Leaf o ∷ []
-  entries (prefix p a) o = entryOf Prefix o ∷ entries a (o + bodySize Prefix)
+  entries (prefix p a) o = chainEntries (chain (length p)) o ++ entries a (o + chain (length p) * bodySize Prefix)
   entries (node kind ks) o = entryOf kind o ∷ entriesKids ks (o + bodySize kind)
 
   pub entriesKids : Kids → ℕ → List ℕ
@@ -134,7 +145,7 @@ abbrev mutual
   pub bodies : Art → ℕ → ℕ → List ℕ
   bodies (leaf k v) s o =
       padded (bodySize Leaf) (digits 4 (o + bodySize Leaf) ++ digits 2 (length k) ++ digits 2 (length v)) ++ padded (extentOf k v) (k ++ v)
-  bodies (prefix p a) s o = padded 16 (digits 4 (s + 1) ++ digits 2 (length p)) ++ padded 112 p ++ bodies a (s + 1) (o + bodySize Prefix)
+  bodies (prefix p a) s o = chainBodies (chain (length p)) p s ++ bodies a (s + chain (length p)) (o + chain (length p) * bodySize Prefix)
   bodies (node kind ks) s o = nodeBody kind (bytesOf ks) (childSlots (s + 1) ks) ++ bodiesKids ks (s + 1) (o + bodySize kind)
 
   pub bodiesKids : Kids → ℕ → ℕ → List ℕ

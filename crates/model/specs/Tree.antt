@@ -1,11 +1,12 @@
 -- The live tree of a frame without slots and places, and what look-up, put and erase make of it: "What a call needs and frees",
 -- item by item.
-use Prim.Native.Nat.{ℕ, zero, suc, _+_, _*_, _/_}
+use Prim.Native.Nat.{ℕ, zero, suc, _+_, _-_, _*_, _/_}
 use mathlib.Core.List.{List, [], _∷_, _++_}
 use mathlib.Core.Bool.{Bool, true, false}
 use mathlib.Core.Option.{Option, none, some}
-use lib.ListN.{length, take, drop, getD}
+use lib.ListN.{length, take, drop, getD, replicate}
 use lib.Dec.{ltb, eqb}
+use Rattle.layout.specs.Place.{prefixMost}
 use Rattle.layout.specs.Kind.{Leaf, Prefix, Node4, Node48, most, shrinkMark, kindUp, kindDown}
 use Rattle.model.specs.Strings.{pick, same, shared}
 use Rattle.model.specs.Edition.{Edition}
@@ -79,6 +80,14 @@ unnumbered (kid b j a ks) = kid b 0 a (unnumbered ks)
 abbrev pub carried : ℕ → Kids → Kids
 carried kind ks = pick (eqb kind Node48) (numbered 1 ks) (unnumbered ks)
 
+-- "A shared beginning longer than 112 bytes is a chain of Prefixes, each full but the last": how many Prefixes n bytes come to. The tree has
+-- the shared beginning whole.
+abbrev pub chain : ℕ → ℕ
+chain n = (n + (prefixMost - 1)) / prefixMost
+
+abbrev pub prefixes : ℕ → List ℕ
+prefixes n = replicate n Prefix
+
 -- a shared beginning becomes a Prefix, if it is not empty
 abbrev pub asPrefix : List ℕ → Art → Art
 asPrefix [] a = a
@@ -130,10 +139,6 @@ abbrev mutual
 abbrev pub newKey : List ℕ → List ℕ → Art → List ℕ → List ℕ → Change Art
 newKey k v a takes frees = record { now = a; takes = Leaf ∷ takes; frees = frees; extent = extentOf k v; dead = 0; fresh = true }
 
--- a Prefix is needed if q > 0
-abbrev pub prefixIf : ℕ → List ℕ
-prefixIf q = pick (eqb q 0) [] (Prefix ∷ [])
-
 -- at a Leaf. "Put, key present: with the same value length the extent is overwritten and nothing is needed; otherwise a new
 -- extent, and the old one's size is added to X." "a Leaf with another key, q walked bytes shared from there: a Node4, and a Prefix
 -- if q > 0"
@@ -144,18 +149,19 @@ putLeaf E d k v k' v' =
     (record { now = leaf k v; takes = []; frees = []; extent = 0; dead = 0; fresh = false })
     (record { now = leaf k v; takes = []; frees = []; extent = extentOf k v; dead = extentOf k' v'; fresh = false }))
     (let r = drop d (E .walked k) in let r' = drop d (E .walked k') in let q = shared r r' in
-    newKey k v (asPrefix (take q r) (fork (getD r q 0) (leaf k v) (getD r' q 0) (leaf k' v'))) (Node4 ∷ prefixIf q) [])
+    newKey k v (asPrefix (take q r) (fork (getD r q 0) (leaf k v) (getD r' q 0) (leaf k' v'))) (Node4 ∷ prefixes (chain q)) [])
 
 -- "a Prefix of p bytes matched for q < p: a Node4; the part before has q bytes, the part after p - 1 - q. Both non-empty: one
--- more Prefix. One: the old body is rewritten. None: it is freed."
+-- more Prefix. One: the old body is rewritten. None: it is freed." Of a chain: "need or free as many Prefixes as the frame then has more or
+-- fewer, in place of document 01's list"
 abbrev pub cutPrefix : Edition → ℕ → List ℕ → List ℕ → List ℕ → Art → Change Art
 cutPrefix E d k v p a =
     let r = drop d (E .walked k) in let q = shared p r in
     let after = drop (suc q) p in
     newKey k v
     (asPrefix (take q p) (fork (getD r q 0) (leaf k v) (getD p q 0) (asPrefix after a)))
-    (Node4 ∷ pick (eqb q 0) [] (pick (eqb (length after) 0) [] (Prefix ∷ [])))
-    (pick (eqb q 0) (pick (eqb (length after) 0) (Prefix ∷ []) []) [])
+    (Node4 ∷ prefixes (chain q + chain (length after) - chain (length p)))
+    (prefixes (chain (length p) - (chain q + chain (length after))))
 
 -- "an inner node without that byte: nothing if not full, else the next kind, and the old body is freed"
 abbrev pub addChild : Edition → ℕ → List ℕ → List ℕ → ℕ → Kids → Change Art
@@ -210,19 +216,23 @@ lessOne kind (kid b j a (kid b' j' a' ks)) c =
     (record { now = kept (node (kindDown kind) (carried (kindDown kind) all)); takes = kindDown kind ∷ c .takes; frees = kind ∷ c .frees; extent = 0; dead = c .dead; fresh = false })
     (record { now = kept (node kind all); takes = c .takes; frees = c .frees; extent = 0; dead = c .dead; fresh = false })
 
+-- the tree a is left, and `now` Prefixes stand where `was` stood: the more are needed, the fewer freed
+abbrev pub rechained : ℕ → ℕ → Art → Change Left → Change Left
+rechained was now a c = record { now = kept a; takes = prefixes (now - was) ++ c .takes; frees = prefixes (was - now) ++ c .frees; extent = c .extent; dead = c .dead; fresh = c .fresh }
+
 -- one child is left, and no Prefix stands above. "If it is a Prefix, the byte joins it .. If it is an inner node .. where there is
 -- none, a Prefix is needed."
 abbrev pub loneChild : ℕ → Art → Change Left → Change Left
 loneChild b (leaf k v) c = over (λ x. kept (leaf k v)) c
-loneChild b (prefix p a) c = over (λ x. kept (prefix (b ∷ p) a)) c
-loneChild b (node kind ks) c = record { now = kept (prefix (b ∷ []) (node kind ks)); takes = Prefix ∷ c .takes; frees = c .frees; extent = 0; dead = c .dead; fresh = false }
+loneChild b (prefix p a) c = rechained (chain (length p)) (chain (suc (length p))) (prefix (b ∷ p) a) c
+loneChild b (node kind ks) c = rechained 0 (chain 1) (prefix (b ∷ []) (node kind ks)) c
 
 -- one child is left, under a Prefix of bytes p. "If that child is a Leaf, a Prefix just above is freed too. If it is a Prefix, the
 -- byte joins it (and a Prefix above joins as well, the lower body then freed). If it is an inner node, a Prefix above takes the byte"
 abbrev pub underPrefix : List ℕ → ℕ → Art → Change Left → Change Left
-underPrefix p b (leaf k v) c = record { now = kept (leaf k v); takes = c .takes; frees = Prefix ∷ c .frees; extent = 0; dead = c .dead; fresh = false }
-underPrefix p b (prefix p' a) c = record { now = kept (prefix (p ++ b ∷ p') a); takes = c .takes; frees = Prefix ∷ c .frees; extent = 0; dead = c .dead; fresh = false }
-underPrefix p b (node kind ks) c = over (λ x. kept (prefix (p ++ b ∷ []) (node kind ks))) c
+underPrefix p b (leaf k v) c = record { now = kept (leaf k v); takes = c .takes; frees = prefixes (chain (length p)) ++ c .frees; extent = c .extent; dead = c .dead; fresh = c .fresh }
+underPrefix p b (prefix p' a) c = rechained (chain (length p) + chain (length p')) (chain (length p + suc (length p'))) (prefix (p ++ b ∷ p') a) c
+underPrefix p b (node kind ks) c = rechained (chain (length p)) (chain (length p + 1)) (prefix (p ++ b ∷ []) (node kind ks)) c
 
 abbrev pub close : Left → Change Left → Change Left
 close gone c = c

@@ -1,6 +1,6 @@
 -- One law for each case of the tree at a slot: a Leaf, a Prefix with the node below, an inner node. Assumes nothing.
 use Prim.Native.Nat.{ℕ, _+_, _-_, _≤_}
-use mathlib.Core.Path.{_≡_, refl, sym, ap, _∙_}
+use mathlib.Core.Path.{_≡_, refl, sym, ap, subst, _∙_}
 use mathlib.Core.List.{List, [], _∷_, _++_}
 use native.Mathlib.Omega.{arith}
 use lib.ListN.{length, length-append}
@@ -9,11 +9,14 @@ use Rattle.layout.specs.Place.{entryAt, prefixChild, prefixLength}
 use Rattle.layout.specs.Kind.{Leaf, Prefix, bodySize}
 use Rattle.layout.specs.Entry.{highOf, placeOf, entryOf}
 use Rattle.model.specs.Edition.{edition1}
+use Rattle.model.specs.Tree.{Art}
 use Rattle.model.specs.Image.{nodeOf, digits, padded, slots, size, entries, bodies}
-use Rattle.model.specs.Frame.{Lay, LayKids, slotOf, art, IsNode, Entry, NodeOf, Tree, Trees}
+use Rattle.model.specs.Frame.{Lay, LayKids, slotOf, IsNode, atop, art, Entry, NodeOf, Tree, Trees}
 use Rattle.model.specs.Frame.Lay.{leaf, prefix, node}
 use Rattle.model.proofs.Edition1.{lawful1}
 use Rattle.model.proofs.StandsGood.{tree-well}
+use Rattle.model.proofs.ChainLaws.{Hung, below-hung, packed-atop, packed-hung, atop-slots, atop-size, atop-entries, atop-bodies}
+use Rattle.model.proofs.OneBody.{below-node}
 use Rattle.model.proofs.PackedLaws.{packed-well}
 use Rattle.model.proofs.PackedBytes.{length-bodies, length-entries}
 use Rattle.model.proofs.UniqueLaws.{tree-unique}
@@ -131,8 +134,28 @@ module _ {f : List ℕ} {s left : ℕ} {out : List ℕ} {at : Next} (T : TreeRea
     prefix-tree : Tree edition1 f (T .path) (prefix s o (is-prefix .bytes) (is-prefix .below))
     prefix-tree = rw (is-prefix .is) at (T .tree)
 
+    prefix-hung : Hung (is-prefix .bytes) (packedLay (is-prefix .below))
+    unfolding Tree
+    prefix-hung = packed-hung (is-prefix .bytes) (art (is-prefix .below)) (below-hung (is-prefix .bytes) (is-prefix .below) (prefix-tree .2))
+
+    -- in edition 1 an inner node stands below
+    prefix-inner : IsNode (is-prefix .below)
+    unfolding Tree
+    prefix-inner = below-node f (T .path) (is-prefix .bytes) (is-prefix .below) (T .bytes) (prefix-tree .2) (prefix-tree .3)
+
+    packed-prefix : packedLay (prefix s o (is-prefix .bytes) (is-prefix .below)) ≡ atop (is-prefix .bytes) (packedLay (is-prefix .below))
+    packed-prefix = packed-atop (is-prefix .bytes) (art (is-prefix .below))
+
     prefix-room : Room (1 + slots (packedLay (is-prefix .below))) (bodySize Prefix + size (packedLay (is-prefix .below))) at out
-    prefix-room = rw (is-prefix .is) at (T .room)
+    unfolding Tree
+    prefix-room =
+        let b = is-prefix .bytes in
+        let a = packedLay (is-prefix .below) in
+        let P = prefix-tree .1 in
+        let R : Room (slots (packedLay (prefix s o b (is-prefix .below)))) (size (packedLay (prefix s o b (is-prefix .below)))) at out = rw (is-prefix .is) at (T .room) in
+        let e : slots (packedLay (prefix s o b (is-prefix .below))) ≡ 1 + slots a = ap slots packed-prefix ∙ atop-slots b (P .some) (P .most) a prefix-hung in
+        let g : size (packedLay (prefix s o b (is-prefix .below))) ≡ bodySize Prefix + size a = ap size packed-prefix ∙ atop-size b (P .some) (P .most) a prefix-hung in
+        subst (λ n. Room n (bodySize Prefix + size a) at out) e (subst (λ n. Room (slots (packedLay (prefix s o b (is-prefix .below)))) n at out) g R)
 
     prefix-inside : Inside f (prefix s o (is-prefix .bytes) (is-prefix .below))
     prefix-inside = rw (is-prefix .is) at (T .inside)
@@ -148,7 +171,7 @@ module _ {f : List ℕ} {s left : ℕ} {out : List ℕ} {at : Next} (T : TreeRea
     -- its bytes are no more than the path has left
     prefix-left : length (T .path) + length (is-prefix .bytes) ≤ 112
     unfolding Tree
-    prefix-left = omega (arith, node-short f (T .path ++ is-prefix .bytes) (is-prefix .below) (T .bytes) (prefix-tree .2) (prefix-tree .3), length-append (T .path) (is-prefix .bytes))
+    prefix-left = omega (arith, node-short f (T .path ++ is-prefix .bytes) (is-prefix .below) (T .bytes) prefix-inner (prefix-tree .3), length-append (T .path) (is-prefix .bytes))
 
     module _ {c n : ℕ} (ec : c ≡ le 4 f (o + prefixChild)) (en : n ≡ le 2 f (o + prefixLength)) where
       child-is : slotOf (is-prefix .below) ≡ c
@@ -194,12 +217,18 @@ module _ {f : List ℕ} {s left : ℕ} {out : List ℕ} {at : Next} (T : TreeRea
             let ep : here .place ≡ at .place + bodySize Prefix = head .placeIs ∙ ap (λ (m : ℕ). at .place + m) head-long in
             let low = prefix-room .table in
             let D : Laid (entries (packedLay l) (at .place + bodySize Prefix)) (bodies (packedLay l) (at .slot + 1) (at .place + bodySize Prefix)) here out' out'' r = laid-as (cc) (cc) (P .laid) in
+            let b = is-prefix .bytes in
+            let S = prefix-tree .1 in
+            let ee : entries (packedLay (prefix s o b l)) (at .place) ≡ entryOf Prefix (at .place) ∷ entries (packedLay l) (at .place + bodySize Prefix)
+            = ap (λ (a : Art). entries a (at .place)) packed-prefix ∙ atop-entries b (S .some) (S .most) (packedLay l) (at .place) prefix-hung in
+            let eb : bodies (packedLay (prefix s o b l)) (at .slot) (at .place) ≡ prefixBody (at .slot + 1) b ++ bodies (packedLay l) (at .slot + 1) (at .place + bodySize Prefix)
+            = ap (λ (a : Art). bodies a (at .slot) (at .place)) packed-prefix ∙ atop-bodies b (S .some) (S .most) (packedLay l) (at .slot) (at .place) prefix-hung in
             record {
-              lay = prefix s o (is-prefix .bytes) l;
+              lay = prefix s o b l;
               path = T .path;
               tree = prefix-tree;
               slotIs = refl;
-              laid = laid-join (omega (arith, length-entries (packedLay l) (at .place + bodySize Prefix))) head D;
+              laid = laid-as (sym ee) (sym eb) (laid-join (omega (arith, length-entries (packedLay l) (at .place + bodySize Prefix))) head D);
             }
 
         pub prefix-node : NodeRemains f s left out at c (left - n) out' here
@@ -207,7 +236,7 @@ module _ {f : List ℕ} {s left : ℕ} {out : List ℕ} {at : Next} (T : TreeRea
         prefix-node =
             record {
               ready = prefix-below;
-              kind = node-kind f (T .path ++ is-prefix .bytes) c (is-prefix .below) (prefix-tree .2) (prefix-tree .3) child-is;
+              kind = node-kind f (T .path ++ is-prefix .bytes) c (is-prefix .below) prefix-inner (prefix-tree .3) child-is;
               fewer = omega arith;
               packed = λ out'' r P. prefix-packed P;
             }

@@ -4,8 +4,8 @@ use mathlib.Core.Path.{_≡_, refl, sym, ap, subst, _∙_}
 use mathlib.Core.List.{List, [], _∷_, _++_, append-assoc}
 use mathlib.Core.Bool.{false}
 use native.Mathlib.Omega.{arith}
-use lib.ListN.{length}
-use Rattle.layout.specs.Place.{entryAt}
+use lib.ListN.{length, length-append}
+use Rattle.layout.specs.Place.{entryAt, prefixMost}
 use Rattle.layout.specs.Kind.{Leaf, Prefix, fewest, shrinkMark, kindDown, Inner}
 use Rattle.layout.specs.Kind.Inner.{node4, node16, node48, node256}
 use Rattle.layout.specs.Entry.{highOf}
@@ -15,12 +15,13 @@ use Rattle.model.specs.Tree.{Art, Kids, Change, Left, count, carried, extentOf,
 use Rattle.model.specs.Tree.Left.{gone, one, kept}
 use Rattle.model.specs.State.{State, eraseChange}
 use Rattle.model.specs.Body.{InnerAt, childIn}
-use Rattle.model.specs.Frame.{Lay, LayKids, Root, IsNode, tree, slotOf, art, artKids, pairs, NodeOf, Tree, Trees, Heap, viewOf, Stands}
+use Rattle.model.specs.Frame.{Lay, LayKids, Root, IsNode, tree, slotOf, atop, art, artKids, pairs, NodeOf, Tree, Trees, Heap, viewOf, Stands}
 use Rattle.model.specs.Frame.Lay.{leaf, prefix, node}
 use Rattle.model.specs.Frame.LayKids.{nil, kid}
 use Rattle.model.specs.Touch.{hasByte}
 use Rattle.model.proofs.StringLaws.{same-refl, clash}
 use Rattle.model.proofs.StandsGood.{length-pairs}
+use Rattle.model.proofs.OneBody.{OneBody, node-inner, one-body, freeing, lone-one, leaf-one, join-one, back-one}
 use Rattle.node.specs.Kids.{removeKid}
 use Rattle.inner.proofs.InnerLaws.{inner-asc}
 use Rattle.room.specs.declared.fit.Needs.{Needs}
@@ -29,15 +30,15 @@ use Rattle.room.proofs.FitLaws.{nine, asks-small}
 use Rattle.between.specs.Hole.{Step, under, among, app, plug, pathOf, appKids, artIn}
 use Rattle.between.specs.Work.{Around}
 use Rattle.between.specs.Lead.{Leads, NotUnder}
-use Rattle.between.proofs.TreeLaws.{node-parts, kid-parts}
-use Rattle.between.proofs.HoleLaws.{art-plug, plug-among, path-among, hole-out}
+use Rattle.between.proofs.TreeLaws.{prefix-parts, node-parts, kid-parts}
+use Rattle.between.proofs.HoleLaws.{art-plug, plug-under, plug-among, path-under, path-among, hole-out}
 use Rattle.between.proofs.KidsLaws.{art-app, app-left, app-look, app-remove, remove-len, remove-trees}
 use Rattle.between.proofs.WorkLaws.{stands-tree}
-use Rattle.between.proofs.LeadLaws.{leads-byte, leads-of}
+use Rattle.between.proofs.LeadLaws.{HangsIn, hangs-in, hangs-over, hangs-free, hangs-under, leads-byte, leads-of}
+use Rattle.between.proofs.OneLaws.{one-above}
 use Rattle.between.proofs.EraseLaws.{withNow, node-erase, less-stays, less-shrinks, plug-erase, plug-lone, plug-under-lone}
 use Rattle.descent.specs.declared.spot.Spot.{Spot}
-use Rattle.descent.specs.declared.spot.Body.{Body}
-use Rattle.descent.specs.Spot.{Capped, Topped, InTree, SpotAt}
+use Rattle.descent.specs.Spot.{Topped, InTree, SpotAt}
 use Rattle.descent.proofs.SeatLaws.{kindIn, Seat, seat}
 use Rattle.erase_join.specs.Lone.{Couple}
 use Rattle.plan.specs.Erase.{EraseFrom, PairFrom, Erasing, ErasePlan}
@@ -64,20 +65,6 @@ module _ {k r : List ℕ} (kind : ℕ) (ls : LayKids) (b j : ℕ) (rs : LayKids)
   stay-count : count stay ≡ length (pairs (app ls rs))
   stay-count = ap count (sym (art-app ls rs)) ∙ sym (length-pairs (app ls rs))
 
-  pub keeps : {n : Needs} → 2 ≤ length (pairs (app ls rs)) → (length (pairs (app ls rs)) ≡ shrinkMark kind → ⊥) → Asks n [] 0 → Erasing k (artIn up holder) n
-  keeps h m A =
-      let z = stay-count in
-      let a = Art.node kind stay in
-      let c = leaves (kept a) [] (Leaf ∷ []) in
-      planned c (artIn up a) (plug-erase L holder a c (there ∙ less-stays kind stay (leaves gone [] (Leaf ∷ [])) (omega arith) (λ y. m (sym z ∙ y))) refl) A
-
-  pub falls : {n : Needs} → 2 ≤ length (pairs (app ls rs)) → length (pairs (app ls rs)) ≡ shrinkMark kind → Asks n (kindDown kind ∷ []) 0 → Erasing k (artIn up holder) n
-  falls h m A =
-      let z = stay-count in
-      let a = Art.node (kindDown kind) (carried (kindDown kind) stay) in
-      let c = leaves (kept a) (kindDown kind ∷ []) (kind ∷ Leaf ∷ []) in
-      planned c (artIn up a) (plug-erase L holder a c (there ∙ less-shrinks kind stay (leaves gone [] (Leaf ∷ [])) (omega arith) (z ∙ m)) refl) A
-
   -- one child is left
   module _ (x i : ℕ) (u : Lay) (is : app ls rs ≡ kid x i u nil) where
     abbrev pub alone : Change Left
@@ -86,40 +73,65 @@ module _ {k r : List ℕ} (kind : ℕ) (ls : LayKids) (b j : ℕ) (rs : LayKids)
     pub alone-there : eraseTree edition1 holder (length (pathOf up)) k ≡ alone
     alone-there = there ∙ ap (λ (z : Kids). lessOne kind z (leaves gone [] (Leaf ∷ []))) (sym (art-app ls rs) ∙ ap artKids is)
 
-  -- and closes with what stands above: no Prefix, or the Prefix of bytes p
-  closes : {n : Needs} (x i : ℕ) (u : Lay) (is : app ls rs ≡ kid x i u nil) (a : Art) → NotUnder up → (let c = loneChild x (art u) (alone x i u is) in (c .now ≡ kept a) × Asks n (c .takes) (c .extent)) → Erasing k (artIn up holder) n
-  closes x i u is a free h = let c = alone x i u is in planned (loneChild x (art u) c) (artIn up a) (plug-lone L holder x (art u) a c free (alone-there x i u is) refl (h .0)) (h .1)
+  -- the node hangs where it may
+  module _ (H : HangsIn up holder) where
+    pub keeps : {n : Needs} → 2 ≤ length (pairs (app ls rs)) → (length (pairs (app ls rs)) ≡ shrinkMark kind → ⊥) → Asks n [] 0 → Erasing k (artIn up holder) n
+    keeps h m A =
+        let z = stay-count in
+        let a = Art.node kind stay in
+        let c = leaves (kept a) [] (Leaf ∷ []) in
+        planned c (artIn up a) (plug-erase L holder a c H (hangs-over up holder a (λ p q. tt) H) (there ∙ less-stays kind stay (leaves gone [] (Leaf ∷ [])) (omega arith) (λ y. m (sym z ∙ y))) refl) A
 
-  -- with none, an inner node needs a Prefix
-  pub closes-leaf : {n : Needs} (x i : ℕ) (u : Lay) → app ls rs ≡ kid x i u nil → NotUnder up → kindIn u < 4 → (IsNode u → 4 ≤ kindIn u) → Asks n [] 0 → Erasing k (artIn up holder) n
-  closes-leaf x i (leaf s o e k' v') is free l g A = closes x i (leaf s o e k' v') is (Art.leaf k' v') free (refl, A)
-  closes-leaf x i (prefix s o p t) is free l g A = closes x i (prefix s o p t) is (Art.prefix (x ∷ p) (art t)) free (refl, A)
-  closes-leaf x i (node s o kind' ks) is free l g A = absurd (omega (arith, g tt))
+    pub falls : {n : Needs} → 2 ≤ length (pairs (app ls rs)) → length (pairs (app ls rs)) ≡ shrinkMark kind → Asks n (kindDown kind ∷ []) 0 → Erasing k (artIn up holder) n
+    falls h m A =
+        let z = stay-count in
+        let a = Art.node (kindDown kind) (carried (kindDown kind) stay) in
+        let c = leaves (kept a) (kindDown kind ∷ []) (kind ∷ Leaf ∷ []) in
+        planned c (artIn up a) (plug-erase L holder a c H (hangs-over up holder a (λ p q. tt) H) (there ∙ less-shrinks kind stay (leaves gone [] (Leaf ∷ [])) (omega arith) (z ∙ m)) refl) A
 
-  pub closes-node : {n : Needs} (x i : ℕ) (u : Lay) → app ls rs ≡ kid x i u nil → NotUnder up → 4 ≤ kindIn u → Asks n (Prefix ∷ []) 0 → Erasing k (artIn up holder) n
-  closes-node x i (leaf s o e k' v') is free l A = absurd (omega arith)
-  closes-node x i (prefix s o p t) is free l A = absurd (omega arith)
-  closes-node x i (node s o kind' ks) is free l A = closes x i (node s o kind' ks) is (Art.prefix (x ∷ []) (Art.node kind' (artKids ks))) free (refl, A)
+    -- the child that is left closes with what stands above: no Prefix, or the Prefix of bytes p
+    closes : {n : Needs} (x i : ℕ) (u : Lay) (is : app ls rs ≡ kid x i u nil) (a : Art) {takes frees : List ℕ} → NotUnder up → loneChild x (art u) (alone x i u is) ≡ leaves (kept a) takes frees → Asks n takes 0 → Erasing k (artIn up holder) n
+    closes x i u is a {takes} {frees} free e A =
+        planned (leaves (kept a) takes frees) (artIn up a)
+        (plug-lone L holder x (art u) a (alone x i u is) free H (hangs-free up holder a free H) (alone-there x i u is) refl (ap (λ (c : Change Left). c .now) e) ∙ ap (withNow (kept (artIn up a))) e) A
 
--- under a Prefix of bytes p nothing is needed
+    -- with none, an inner node needs a Prefix
+    pub closes-leaf : {n : Needs} (x i : ℕ) (u : Lay) → app ls rs ≡ kid x i u nil → NotUnder up → kindIn u < 4 → (IsNode u → 4 ≤ kindIn u) → OneBody 1 u → Asks n [] 0 → Erasing k (artIn up holder) n
+    closes-leaf x i (leaf s o e k' v') is free l g O A = closes x i (leaf s o e k' v') is (Art.leaf k' v') free refl A
+    closes-leaf x i (prefix s o p t) is free l g O A =
+        closes x i (prefix s o p t) is (atop (x ∷ p) (art t)) free (lone-one (alone x i (prefix s o p t) is) x p (art t) (node-inner t (O .0)) (O .1) (O .2)) A
+    closes-leaf x i (node s o kind' ks) is free l g O A = absurd (omega (arith, g tt))
+
+    pub closes-node : {n : Needs} (x i : ℕ) (u : Lay) → app ls rs ≡ kid x i u nil → NotUnder up → 4 ≤ kindIn u → Asks n (Prefix ∷ []) 0 → Erasing k (artIn up holder) n
+    closes-node x i (leaf s o e k' v') is free l A = absurd (omega arith)
+    closes-node x i (prefix s o p t) is free l A = absurd (omega arith)
+    closes-node x i (node s o kind' ks) is free l A = closes x i (node s o kind' ks) is (Art.prefix (x ∷ []) (Art.node kind' (artKids ks))) free refl A
+
+-- under a Prefix of bytes p, the only one there, nothing is needed
 module _ {n : Needs} {k r : List ℕ} (kind : ℕ) (ls : LayKids) (b j : ℕ) (rs : LayKids) (s o : ℕ) (p : List ℕ) (xs : List Step) (L : Leads edition1 k (under s o p ∷ xs) (b ∷ r)) (first : hasByte b ls ≡ false) (v : List ℕ)
-    (x i : ℕ) (A : Asks n [] 0) where
+    (free : NotUnder xs) (some : 1 ≤ length p) (x i : ℕ) (A : Asks n [] 0) where
   abbrev node-there : Art
   node-there = holder kind ls b j rs (under s o p ∷ xs) L first v
 
-  under-closes : (u : Lay) (is : app ls rs ≡ kid x i u nil) (a : Art) → (let c = underPrefix p x (art u) (alone kind ls b j rs (under s o p ∷ xs) L first v x i u is) in (c .now ≡ kept a) × Asks n (c .takes) (c .extent)) → Erasing k (artIn (under s o p ∷ xs) node-there) n
-  under-closes u is a h =
-      let c = alone kind ls b j rs (under s o p ∷ xs) L first v x i u is in
-      planned (underPrefix p x (art u) c) (artIn xs a) (plug-under-lone L node-there x (art u) a c (alone-there kind ls b j rs (under s o p ∷ xs) L first v x i u is) refl (h .0)) (h .1)
+  module _ (H : HangsIn xs (Art.prefix p node-there)) where
+    under-closes : (u : Lay) (is : app ls rs ≡ kid x i u nil) (a : Art) (frees : List ℕ) → (let c = alone kind ls b j rs (under s o p ∷ xs) L first v x i u is in underPrefix p x (art u) c ≡ freeing c frees a)
+        → Erasing k (artIn (under s o p ∷ xs) node-there) n
+    under-closes u is a frees e =
+        let c = alone kind ls b j rs (under s o p ∷ xs) L first v x i u is in
+        planned (freeing c frees a) (artIn xs a)
+        (plug-under-lone L node-there x (art u) a c refl H (hangs-free xs (Art.prefix p node-there) a free H) (alone-there kind ls b j rs (under s o p ∷ xs) L first v x i u is) refl (ap (λ (c : Change Left). c .now) e)
+        ∙ ap (withNow (kept (artIn xs a))) e) A
 
-  pub closes-under : (u : Lay) → app ls rs ≡ kid x i u nil → Erasing k (artIn (under s o p ∷ xs) node-there) n
-  closes-under (leaf s' o' e k' v') is = under-closes (leaf s' o' e k' v') is (Art.leaf k' v') (refl, A)
-  closes-under (prefix s' o' p' t) is = under-closes (prefix s' o' p' t) is (Art.prefix (p ++ x ∷ p') (art t)) (refl, A)
-  closes-under (node s' o' kind' ks) is = under-closes (node s' o' kind' ks) is (Art.prefix (p ++ x ∷ []) (Art.node kind' (artKids ks))) (refl, A)
-
-pub closes-capped : {n : Needs} {k r : List ℕ} (kind : ℕ) (ls : LayKids) (b j : ℕ) (rs : LayKids) (up : List Step) (v : List ℕ) (x i : ℕ) (u : Lay) (a : Body) → Leads edition1 k up (b ∷ r) → hasByte b ls ≡ false
-    → app ls rs ≡ kid x i u nil → Capped up a → Asks n [] 0 → Erasing k (artIn up (Art.node kind (appKids (artKids ls) (Kids.kid b j (Art.leaf k v) (artKids rs))))) n
-closes-capped kind ls b j rs up v x i u a L first is C A = rw (C .is) (closes-under kind ls b j rs (a .slot) (a .place) (C .bytes) (C .up) (rw (C .is) at L) first v x i A u is)
+    pub closes-under : (u : Lay) → app ls rs ≡ kid x i u nil → OneBody (length p + 1) u → length p ≤ prefixMost → Erasing k (artIn (under s o p ∷ xs) node-there) n
+    closes-under (leaf s' o' e k' v') is O h =
+        let u = leaf s' o' e k' v' in
+        under-closes u is (Art.leaf k' v') (Prefix ∷ []) (leaf-one (alone kind ls b j rs (under s o p ∷ xs) L first v x i u is) p x some k' v' h)
+    closes-under (prefix s' o' p' t) is O h =
+        let u = prefix s' o' p' t in
+        under-closes u is (atop (p ++ x ∷ p') (art t)) (Prefix ∷ []) (join-one (alone kind ls b j rs (under s o p ∷ xs) L first v x i u is) p x some p' (art t) (node-inner t (O .0)) (O .1) (O .2))
+    closes-under (node s' o' kind' ks) is O h =
+        let u = node s' o' kind' ks in
+        under-closes u is (Art.prefix (p ++ x ∷ []) (Art.node kind' (artKids ks))) [] (back-one (alone kind ls b j rs (under s o p ∷ xs) L first v x i u is) p x some kind' (artKids ks) O)
 
 -- ---- marks
 
@@ -231,14 +243,21 @@ module _ {f k : List ℕ} {st : State} {s : Spot} (W : Stands edition1 f st) (S 
   abbrev holder-lay : Lay
   holder-lay = node (s .node .slot) (s .node .place) (s .node .kind) kids
 
+  whole-tree : Tree edition1 f [] (plug (D .up) holder-lay)
+  whole-tree = stands-tree W (plug (D .up) holder-lay) (q ∙ ap tree (D .whole))
+
   hole-there : Around edition1 f (D .up) (s .node .slot) × Tree edition1 f (pathOf (D .up)) holder-lay
-  hole-there = let z = hole-out edition1 f (D .up) holder-lay (stands-tree W (plug (D .up) holder-lay) (q ∙ ap tree (D .whole))) in (z .0, z .2)
+  hole-there = let z = hole-out edition1 f (D .up) holder-lay whole-tree in (z .0, z .2)
 
   pub node-of : NodeOf f (s .node .place) (s .node .kind) kids
   node-of = node-parts edition1 f (pathOf (D .up)) (s .node .slot) (s .node .place) (s .node .kind) kids (hole-there .1) .1
 
   leads : Leads edition1 k (D .up) (s .byte ∷ D .rest)
   leads = leads-of f (s .node .slot) (s .byte ∷ D .rest) (hole-there .0) (D .word)
+
+  holder-hangs : HangsIn (D .up) (Art.node (s .node .kind) (appKids (artKids (D .before)) (Kids.kid (s .byte) (D .place) (Art.leaf k (D .value)) (artKids (D .after)))))
+  holder-hangs =
+      subst (λ (z : Kids). HangsIn (D .up) (Art.node (s .node .kind) z)) (art-app (D .before) (kid (s .byte) (D .place) lost-leaf (D .after))) (hangs-in edition1 f (D .up) holder-lay whole-tree)
 
   first : hasByte (s .byte) (D .before) ≡ false
   first = app-left (s .byte) (D .place) lost-leaf 0 (D .before) (D .after) (inner-asc (pairs kids) (node-of .inner))
@@ -254,13 +273,13 @@ module _ {f k : List ℕ} {st : State} {s : Spot} (W : Stands edition1 f st) (S 
     end-keeps m A =
         let r = node-of .inner .range in
         let m' : length (pairs stays) ≡ shrinkMark (s .node .kind) → ⊥ = λ z. m (fewer ∙ ap (λ i. i + 1) z) in
-        rw art-is (keeps (s .node .kind) (D .before) (s .byte) (D .place) (D .after) (D .up) leads first (D .value) (enough (s .node .kind) (length (pairs stays)) (r .0) (r .1) (omega (arith, fewer, node-of .least)) m') m' A)
+        rw art-is (keeps (s .node .kind) (D .before) (s .byte) (D .place) (D .after) (D .up) leads first (D .value) holder-hangs (enough (s .node .kind) (length (pairs stays)) (r .0) (r .1) (omega (arith, fewer, node-of .least)) m') m' A)
 
     pub end-falls : length (pairs kids) ≡ shrinkMark (s .node .kind) + 1 → (s .node .kind ≡ 4 → ⊥) → Asks n (kindDown (s .node .kind) ∷ []) 0 → Erasing k (art l) n
     end-falls m d A =
         let r = node-of .inner .range in
         let e : length (pairs stays) ≡ shrinkMark (s .node .kind) = omega (arith, fewer) in
-        rw art-is (falls (s .node .kind) (D .before) (s .byte) (D .place) (D .after) (D .up) leads first (D .value) (omega (arith, e, marks-two (s .node .kind) (r .0) (r .1) d)) e A)
+        rw art-is (falls (s .node .kind) (D .before) (s .byte) (D .place) (D .after) (D .up) leads first (D .value) holder-hangs (omega (arith, e, marks-two (s .node .kind) (r .0) (r .1) d)) e A)
 
   -- of two children one is left
   module _ (two : length (pairs kids) ≡ 2) where
@@ -289,31 +308,46 @@ module _ {f k : List ℕ} {st : State} {s : Spot} (W : Stands edition1 f st) (S 
       child-kind : (high : ℕ) → high ≡ highOf f r → high ≡ kindIn child
       child-kind high h = h ∙ ap (highOf f) child-slot ∙ child-seat .entry .kindIs
 
-    child-low : IsNode child → 4 ≤ kindIn child
-    child-low =
+    child-stands : Tree edition1 f (pathOf (D .up) ++ left-alone .byte ∷ []) child
+    child-stands =
         let path = pathOf (D .up) in
         let T = remove-trees edition1 f path (D .before) (D .after) (s .byte) (D .place) lost-leaf (node-parts edition1 f path (s .node .slot) (s .node .place) (s .node .kind) kids (hole-there .1) .2) .1 in
         let a = left-alone in
-        node-low f (path ++ a .byte ∷ []) (a .child) (kid-parts edition1 f path (a .byte) (a .place) (a .child) nil (subst (Trees edition1 f path) (a .is) T) .0)
+        kid-parts edition1 f path (a .byte) (a .place) (a .child) nil (subst (Trees edition1 f path) (a .is) T) .0
+
+    child-low : IsNode child → 4 ≤ kindIn child
+    child-low = node-low f (pathOf (D .up) ++ left-alone .byte ∷ []) child child-stands
+
+    child-one : (n : ℕ) → n ≤ length (pathOf (D .up)) + 1 → OneBody n child
+    child-one n h = one-body f (pathOf (D .up) ++ left-alone .byte ∷ []) n child (W .bytes) (omega (arith, length-append (pathOf (D .up)) (left-alone .byte ∷ []))) child-stands
 
     module _ {n : Needs} where
       pub end-under : 1 ≤ s .above .slot → Asks n [] 0 → Erasing k (art l) n
       end-under c A =
           let a = left-alone in
-          rw art-is (closes-capped (s .node .kind) (D .before) (s .byte) (D .place) (D .after) (D .up) (D .value) (a .byte) (a .place) (a .child) (s .above) leads first (a .is) (D .top .capped c) A)
+          let C = D .top .capped c in
+          let b = s .above in
+          let up = under (b .slot) (b .place) (C .bytes) ∷ C .up in
+          let T : Tree edition1 f [] (plug up holder-lay) = rw (C .is) at whole-tree in
+          let H : HangsIn up (Art.node (s .node .kind) (appKids (artKids (D .before)) (Kids.kid (s .byte) (D .place) (Art.leaf k (D .value)) (artKids (D .after))))) = rw (C .is) at holder-hangs in
+          let P = prefix-parts edition1 f (pathOf (C .up)) (b .slot) (b .place) (C .bytes) holder-lay (hole-out edition1 f (C .up) (prefix (b .slot) (b .place) (C .bytes) holder-lay) (rw (plug-under (b .slot) (b .place) (C .bytes) (C .up) holder-lay) at T) .2) .1 in
+          let n : length (C .bytes) + 1 ≤ length (pathOf (D .up)) + 1 = omega (arith, ap (λ (z : List Step). length (pathOf z)) (C .is), ap length (path-under (b .slot) (b .place) (C .bytes) (C .up)), length-append (pathOf (C .up)) (C .bytes)) in
+          let L : Leads edition1 k up (s .byte ∷ D .rest) = rw (C .is) at leads in
+          rw (art-is, C .is) (closes-under (s .node .kind) (D .before) (s .byte) (D .place) (D .after) (b .slot) (b .place) (C .bytes) (C .up) L first (D .value)
+          (one-above f (b .slot) (b .place) (C .bytes) (C .up) holder-lay (W .bytes) T) (P .some) (a .byte) (a .place) A (hangs-under (b .slot) (b .place) (C .bytes) (C .up) _ _ H) (a .child) (a .is) (child-one (length (C .bytes) + 1) n) (P .most))
 
       module _ (c r high : ℕ) (is : removeKid (s .byte) (pairs kids) ≡ (c, r) ∷ []) (read : high ≡ highOf f r) (bare : s .above .slot ≡ 0) where
         pub end-leaf : high < 4 → Asks n [] 0 → Erasing k (art l) n
         end-leaf g A =
             let a = left-alone in
             let z = child-kind c r is high read in
-            rw art-is (closes-leaf (s .node .kind) (D .before) (s .byte) (D .place) (D .after) (D .up) leads first (D .value) (a .byte) (a .place) (a .child) (a .is) (D .top .without bare) (omega arith) child-low A)
+            rw art-is (closes-leaf (s .node .kind) (D .before) (s .byte) (D .place) (D .after) (D .up) leads first (D .value) holder-hangs (a .byte) (a .place) (a .child) (a .is) (D .top .without bare) (omega arith) child-low (child-one 1 (omega arith)) A)
 
         pub end-node : 4 ≤ high → Asks n (Prefix ∷ []) 0 → Erasing k (art l) n
         end-node g A =
             let a = left-alone in
             let z = child-kind c r is high read in
-            rw art-is (closes-node (s .node .kind) (D .before) (s .byte) (D .place) (D .after) (D .up) leads first (D .value) (a .byte) (a .place) (a .child) (a .is) (D .top .without bare) (omega arith) A)
+            rw art-is (closes-node (s .node .kind) (D .before) (s .byte) (D .place) (D .after) (D .up) leads first (D .value) holder-hangs (a .byte) (a .place) (a .child) (a .is) (D .top .without bare) (omega arith) A)
 
 -- ---- the code's ends
 

@@ -9,31 +9,35 @@ use lib.Seq.{getD-drop}
 use lib.Dec.{eqb}
 use borrow.Author.Tests.{eq-eqb, ne-eqb, lt-ltb, le-ltb}
 use Rattle.layout.specs.Number.{le}
-use Rattle.layout.specs.Place.{leafValue, prefixLength}
+use Rattle.layout.specs.Place.{leafValue, prefixLength, prefixMost}
 use Rattle.layout.specs.Kind.{Prefix, Node4, bodySize, most, kindUp}
 use Rattle.model.specs.Strings.{pick, same, shared}
-use Rattle.model.specs.Edition.{edition1}
-use Rattle.model.specs.Tree.{Art, Change, over, extentOf, putLeaf, cutPrefix, putTree}
+use Rattle.model.specs.Edition.{Legal, edition1}
+use Rattle.model.specs.Tree.{Art, Change, over, extentOf, chain, prefixes, putLeaf, cutPrefix, putTree}
 use Rattle.model.specs.State.{State, putIn, putChange}
 use Rattle.model.specs.Body.{InnerAt, PrefixAt}
-use Rattle.model.specs.Frame.{Lay, art, pairs, rootArt, slotOf, Tree, Stands}
+use Rattle.model.specs.Frame.{Lay, tree, slotOf, IsNode, art, pairs, rootArt, Tree, Stands}
 use Rattle.model.specs.Frame.Lay.{leaf, prefix, node}
 use Rattle.model.proofs.StringLaws.{bool-cases, ltb-cases, same-refl, same-true}
 use Rattle.model.proofs.Edition1.{lawful1}
+use Rattle.model.proofs.ChainLaws.{inner-atop}
+use Rattle.model.proofs.StandsGood.{leaf-well}
+use Rattle.model.proofs.OneBody.{node-inner, below-node, prefix-if, cut-if, parts-short}
 use Rattle.inner.proofs.InnerLaws.{inner-room}
 use Rattle.room.specs.declared.fit.Needs.{Needs}
 use Rattle.room.specs.Fit.{Asks}
 use Rattle.room.proofs.FitLaws.{nine, asks-small}
-use Rattle.between.specs.Hole.{pathOf, artIn}
+use Rattle.between.specs.Hole.{plug, pathOf, artIn}
 use Rattle.between.proofs.TreeLaws.{leaf-parts, prefix-parts, node-parts}
 use Rattle.between.proofs.HoleLaws.{art-plug}
 use Rattle.between.proofs.KidsLaws.{look-none}
-use Rattle.between.proofs.LeadLaws.{plug-put, node-put, node-grow}
+use Rattle.between.proofs.LeadLaws.{HangsIn, hangs-in, plug-put, node-put, node-grow}
+use Rattle.between.proofs.WorkLaws.{stands-tree}
 use Rattle.descent.specs.declared.spot.Spot.{Spot}
 use Rattle.descent.specs.Spot.{Way, InTree, SpotAt, Going}
 use Rattle.descent.proofs.SeatLaws.{hole}
 use Rattle.descent.proofs.LookLaws.{found-leaf}
-use Rattle.plan.specs.Plan.{Bodies, PutFrom, withLeaf, forkTakes, cutTakes, growTakes}
+use Rattle.plan.specs.Plan.{Bodies, PutFrom, withLeaf, prefixIf, forkTakes, cutTakes, growTakes}
 
 -- ---- needs of bodies
 
@@ -80,9 +84,9 @@ up-kind = nine (λ k. kindUp k < 9) (omega arith) (omega arith) (omega arith) (o
 root-tree : {f : List ℕ} (k v : List ℕ) {st : State} (W : Stands edition1 f st) → putChange edition1 st k v ≡ putIn edition1 (rootArt (W .root)) k v
 root-tree k v W = ap (λ s. putIn edition1 (s .tree) k v) (W .state)
 
-put-there : {k : List ℕ} {l : Lay} {s : Spot} (v : List ℕ) (W : Way k l s) (t : Lay) → W .sub ≡ t → putTree edition1 (art l) 0 k v ≡ over (artIn (W .steps)) (putTree edition1 (art t) (s .depth) k v)
-put-there {k} {l} {s} v W t e =
-    ap (λ x. putTree edition1 x 0 k v) (ap art (W .whole) ∙ art-plug (W .steps) (W .sub)) ∙ plug-put (W .leads) v (art (W .sub))
+put-there : {k : List ℕ} {l : Lay} {s : Spot} (v : List ℕ) (W : Way k l s) (t : Lay) → HangsIn (W .steps) (art (W .sub)) → W .sub ≡ t → putTree edition1 (art l) 0 k v ≡ over (artIn (W .steps)) (putTree edition1 (art t) (s .depth) k v)
+put-there {k} {l} {s} v W t H e =
+    ap (λ x. putTree edition1 x 0 k v) (ap art (W .whole) ∙ art-plug (W .steps) (W .sub)) ∙ plug-put (W .leads) v (art (W .sub)) H
     ∙ ap (λ x. over (artIn (W .steps)) (putTree edition1 (art x) (length (pathOf (W .steps))) k v)) e
     ∙ ap (λ n. over (artIn (W .steps)) (putTree edition1 (art t) n k v)) (sym (W .deep))
 
@@ -96,8 +100,10 @@ asks-as g c d e A = rw e A
 asks-there : {f k : List ℕ} {st : State} {s : Spot} {n : Needs} (v : List ℕ) (W : Stands edition1 f st) (I : InTree k (W .root) s) (t : Lay) → I .spot .way .sub ≡ t → (d : Change Art) → putTree edition1 (art t) (s .depth) k v ≡ d
     → Asks n (d .takes) (d .extent) → AsksFor n (putChange edition1 st k v)
 asks-there {f} {k} {st} {s} v W I t e d q A =
+    let w = I .spot .way in
+    let H = hangs-in edition1 f (w .steps) (w .sub) (stands-tree W (plug (w .steps) (w .sub)) (I .is ∙ ap tree (w .whole))) in
     asks-as (artIn (I .spot .way .steps)) (putChange edition1 st k v) d
-    (root-tree k v W ∙ ap (λ r. putIn edition1 (rootArt r) k v) (I .is) ∙ put-there v (I .spot .way) t e ∙ ap (over (artIn (I .spot .way .steps))) q) A
+    (root-tree k v W ∙ ap (λ r. putIn edition1 (rootArt r) k v) (I .is) ∙ put-there v (I .spot .way) t H e ∙ ap (over (artIn (I .spot .way .steps))) q) A
 
 -- ---- by the end of the descent
 
@@ -133,12 +139,28 @@ module _ {f k : List ℕ} {st : State} {s : Spot} (W : Stands edition1 f st) (S 
       both true v' A = A
       both false v' A = A
 
-  pub asks-other : {n : Needs} (v : List ℕ) → s .end ≡ 3 → Asks n (withLeaf (forkTakes (s .shared))) (extentOf k v) → AsksFor n (putChange edition1 st k v)
-  asks-other v e A =
+  -- two records share no more than one Prefix holds
+  pub other-short : (I : InTree k (W .root) s) → Legal edition1 k → s .end ≡ 3 → s .shared ≤ prefixMost
+  other-short I legal e =
+      let F = I .spot .other e in
+      let way = I .spot .way in
+      let path = pathOf (way .steps) in
+      let t = leaf (s .here .slot) (s .here .place) (F .extent) (F .key) (F .value) in
+      let L = leaf-parts edition1 f path (s .here .slot) (s .here .place) (F .extent) (F .key) (F .value) (stands-there I t (F .is)) .1 in
+      let old = leaf-well edition1 f path (s .here .place) (F .extent) (F .key) (F .value) (W .bytes) L .starts in
+      let w = edition1 .walked k in
+      let w' = edition1 .walked (F .key) in
+      omega (arith, F .shares, ap (λ d. shared (drop d w) (drop d w')) (way .deep), parts-short k (F .key) path (way .rest) (old .rest) legal (old .legal) (F .differs) (way .leads .word) (old .word))
+
+  pub asks-other : {n : Needs} (v : List ℕ) → Legal edition1 k → s .end ≡ 3 → Asks n (withLeaf (forkTakes (s .shared))) (extentOf k v) → AsksFor n (putChange edition1 st k v)
+  asks-other v legal e A =
       let I = S .inTree (λ z. omega arith) in
       let F = I .spot .other e in
+      let t = leaf (s .here .slot) (s .here .place) (F .extent) (F .key) (F .value) in
+      let q : prefixes (chain (shared (drop (s .depth) (edition1 .walked k)) (drop (s .depth) (edition1 .walked (F .key))))) ≡ prefixIf (s .shared)
+      = ap (λ i. prefixes (chain i)) (sym (F .shares)) ∙ prefix-if (s .shared) (other-short I legal e) in
       let z : same k (F .key) ≡ false = bool-cases (same k (F .key)) (λ t. absurd (F .differs (same-true k (F .key) t))) (λ t. t) in
-      asks-there v W I (leaf (s .here .slot) (s .here .place) (F .extent) (F .key) (F .value)) (F .is) (putLeaf edition1 (s .depth) k v (F .key) (F .value)) refl (rw (z, ← F .shares) A)
+      asks-there v W I t (F .is) (putLeaf edition1 (s .depth) k v (F .key) (F .value)) refl (rw (z, q) A)
 
   pub node-there : s .end ≡ 4 → (ks : List (ℕ × ℕ)) × InnerAt f (s .here .place) (s .here .kind) ks
   node-there e =
@@ -161,23 +183,40 @@ module _ {f k : List ℕ} {st : State} {s : Spot} (W : Stands edition1 f st) (S 
       (λ l h. asks-there v W I t (F .is) _ (node-put edition1 k v (s .depth) (F .byte) (s .here .kind) (F .kids) b absent (omega arith)) (rw l at A))
       (λ l h. asks-there v W I t (F .is) _ (node-grow edition1 k v (s .depth) (F .byte) (s .here .kind) (F .kids) b absent (omega arith)) (rw l at A))
 
+  -- the Prefix that is matched in part, above an inner node
+  pub parted-at : (I : InTree k (W .root) s) (e : s .end ≡ 5) → let F = I .spot .parted e in PrefixAt f (s .here .place) (F .bytes) (slotOf (F .below)) × IsNode (F .below)
+  parted-at I e =
+      let F = I .spot .parted e in
+      let path = pathOf (I .spot .way .steps) in
+      let T = prefix-parts edition1 f path (s .here .slot) (s .here .place) (F .bytes) (F .below) (stands-there I (prefix (s .here .slot) (s .here .place) (F .bytes) (F .below)) (F .is)) in
+      (T .1, below-node f path (F .bytes) (F .below) (W .bytes) (T .2) (T .3))
+
   pub prefix-there : s .end ≡ 5 → (p : List ℕ) × (below : ℕ) × PrefixAt f (s .here .place) p below × (s .shared < length p)
   prefix-there e =
       let I = S .inTree (λ z. omega arith) in
       let F = I .spot .parted e in
-      (F .bytes, slotOf (F .below), prefix-parts edition1 f (pathOf (I .spot .way .steps)) (s .here .slot) (s .here .place) (F .bytes) (F .below) (stands-there I (prefix (s .here .slot) (s .here .place) (F .bytes) (F .below)) (F .is)) .1, F .less)
+      (F .bytes, slotOf (F .below), parted-at I e .0, F .less)
+
+  -- and the Prefix is cut
+  pub parted-put : (v : List ℕ) (I : InTree k (W .root) s) (e : s .end ≡ 5) → let F = I .spot .parted e in
+      putTree edition1 (art (prefix (s .here .slot) (s .here .place) (F .bytes) (F .below))) (s .depth) k v ≡ cutPrefix edition1 (s .depth) k v (F .bytes) (art (F .below))
+  parted-put v I e =
+      let F = I .spot .parted e in
+      let w = drop (s .depth) (edition1 .walked k) in
+      let z : eqb (shared (F .bytes) w) (length (F .bytes)) ≡ false = ne-eqb (shared (F .bytes) w) (length (F .bytes)) (λ y. omega (arith, F .shares, F .less)) in
+      ap (λ x. putTree edition1 x (s .depth) k v) (sym (inner-atop (F .bytes) (art (F .below)) (node-inner (F .below) (parted-at I e .1)))) ∙ rw z refl
 
   pub asks-parted : {n : Needs} (v : List ℕ) (m : ℕ) → s .end ≡ 5 → m ≡ le 2 f (s .here .place + prefixLength) → Asks n (withLeaf (cutTakes (s .shared) m)) (extentOf k v) → AsksFor n (putChange edition1 st k v)
   asks-parted {n} v m e q A =
       let I = S .inTree (λ z. omega arith) in
       let F = I .spot .parted e in
       let t = prefix (s .here .slot) (s .here .place) (F .bytes) (F .below) in
-      let P = prefix-parts edition1 f (pathOf (I .spot .way .steps)) (s .here .slot) (s .here .place) (F .bytes) (F .below) (stands-there I t (F .is)) .1 in
+      let P = parted-at I e .0 in
       let w = drop (s .depth) (edition1 .walked k) in
-      let z : eqb (shared (F .bytes) w) (length (F .bytes)) ≡ false = ne-eqb (shared (F .bytes) w) (length (F .bytes)) (λ y. omega (arith, F .shares, F .less)) in
       let y : m ≡ length (F .bytes) = q ∙ P .long in
       let B : Asks n (withLeaf (cutTakes (shared (F .bytes) w) (length (F .bytes)))) (extentOf k v) = rw (← F .shares, ← y) A in
-      asks-there v W I t (F .is) (cutPrefix edition1 (s .depth) k v (F .bytes) (art (F .below))) (rw z refl) (rw (length-drop (suc (shared (F .bytes) w)) (F .bytes)) B)
+      asks-there v W I t (F .is) (cutPrefix edition1 (s .depth) k v (F .bytes) (art (F .below))) (parted-put v I e)
+      (rw (length-drop (suc (shared (F .bytes) w)) (F .bytes), cut-if (shared (F .bytes) w) (length (F .bytes)) (omega (arith, F .shares, F .less)) (P .most)) B)
 
 -- ---- what the code counts on
 

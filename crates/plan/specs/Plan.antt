@@ -2,10 +2,9 @@
 use Prim.Native.Nat.{ℕ, suc, _-_}
 use mathlib.Core.List.{List, [], _∷_}
 use lib.Dec.{ltb, eqb}
-use Rattle.layout.specs.Kind.{Leaf, Node4, most, kindUp}
+use Rattle.layout.specs.Kind.{Leaf, Prefix, Node4, most, kindUp}
 use Rattle.model.specs.Strings.{pick}
 use Rattle.model.specs.Edition.{edition1, Legal, LegalValue}
-use Rattle.model.specs.Tree.{prefixIf}
 use Rattle.model.specs.State.{State, putChange}
 use Rattle.model.specs.Frame.{Stands}
 use Rattle.room.specs.declared.fit.Needs.{Needs}
@@ -16,6 +15,10 @@ use Rattle.descent.specs.Spot.{SpotAt}
 -- a new record takes a Leaf
 abbrev pub withLeaf : List ℕ → List ℕ
 withLeaf takes = Leaf ∷ takes
+
+-- a Prefix for q bytes, if there are any
+abbrev pub prefixIf : ℕ → List ℕ
+prefixIf q = pick (eqb q 0) [] (Prefix ∷ [])
 
 -- two records part after q shared bytes
 abbrev pub forkTakes : ℕ → List ℕ

@@ -21,8 +21,8 @@ use Rattle.between.specs.Work.{Work}
 use Rattle.between.specs.Lead.{Leads}
 use Rattle.between.proofs.HoleLaws.{art-plug}
 use Rattle.between.proofs.KidsLaws.{look-none}
-use Rattle.between.proofs.WorkLaws.{standsView, work-of, work-open}
-use Rattle.between.proofs.LeadLaws.{leads-rest, leads-byte, plug-put}
+use Rattle.between.proofs.WorkLaws.{stands-tree, standsView, work-of, work-open}
+use Rattle.between.proofs.LeadLaws.{leads-rest, leads-byte, hangs-in, plug-put}
 use Rattle.descent.specs.declared.spot.Spot.{Spot}
 use Rattle.descent.specs.Spot.{NoByte}
 use Rattle.leaf_new.specs.Make.{Makes}
@@ -59,7 +59,7 @@ module _ {f : List ℕ} {st : State} {S : Stands edition1 f st} {k : List ℕ} {
   pub lacks-put : (v : List ℕ) {a : Art} {takes frees : List ℕ} → putTree edition1 (Art.node kind (artKids ks)) (length (pathOf xs)) k v ≡ newKey k v a takes frees → putChange edition1 st k v ≡ newKey k v (artIn xs a) takes frees
   lacks-put v e =
       ap (λ t. putIn edition1 t k v) (ap (λ s. s .tree) (S .state) ∙ ap rootArt (P .is) ∙ ap some (art-plug xs (node n o kind ks)))
-      ∙ plug-put (P .leads) v (Art.node kind (artKids ks)) ∙ ap (over (artIn xs)) e
+      ∙ plug-put (P .leads) v (Art.node kind (artKids ks)) (hangs-in edition1 f xs (node n o kind ks) (stands-tree S (plug xs (node n o kind ks)) (P .is))) ∙ ap (over (artIn xs)) e
 
   -- the tree opened at the node
   pub lacks-work : Work edition1 f (standsView S) xs n ((pathOf xs, node n o kind ks) ∷ []) []

@@ -1,14 +1,13 @@
 -- What a put makes, by the end of its descent: a new record or another value; and that its needs are small. Assumes nothing.
-use Prim.Native.Nat.{ℕ, suc, _+_, _≤_}
+use Prim.Native.Nat.{ℕ, suc, _+_, _-_, _≤_}
 use mathlib.Core.Path.{_≡_, refl, sym, ap, subst, _∙_}
 use mathlib.Core.List.{List, [], _∷_}
 use mathlib.Core.Bool.{Bool, true, false}
 use native.Mathlib.Omega.{arith}
 use native.Mathlib.Decide.{ℕ-discrete, decLt}
-use lib.ListN.{length, getD, drop}
+use lib.ListN.{length, getD, drop, length-drop}
 use lib.Seq.{getD-drop}
 use lib.Dec.{eqb}
-use borrow.Author.Tests.{ne-eqb}
 use Rattle.layout.specs.Kind.{Prefix, Node4, most, kindUp}
 use Rattle.model.specs.Strings.{pick, same, shared}
 use Rattle.model.specs.Edition.{edition1, Legal, LegalValue}
@@ -18,6 +17,7 @@ use Rattle.model.specs.Frame.{Lay, Root, rootArt, tree, art, pairs, Stands}
 use Rattle.model.specs.Frame.Lay.{leaf, prefix, node}
 use Rattle.model.proofs.StringLaws.{bool-cases, same-refl, same-true}
 use Rattle.model.proofs.Edition1.{lawful1}
+use Rattle.model.proofs.OneBody.{prefix-if, cut-if}
 use Rattle.room.specs.declared.fit.Needs.{Needs}
 use Rattle.room.specs.Fit.{Small, Asks}
 use Rattle.room.proofs.FitLaws.{asks-small}
@@ -27,6 +27,7 @@ use Rattle.between.proofs.KidsLaws.{look-none}
 use Rattle.descent.specs.declared.spot.Spot.{Spot}
 use Rattle.descent.specs.Spot.{InTree, SpotAt}
 use Rattle.leaf_new.proofs.DoneLaws.{change-is}
+use Rattle.plan.proofs.PutLaws.{other-short, parted-at, parted-put}
 
 -- a change that takes at most three bodies and the extent of this record, and makes a new record or not
 pub record Light (k v : List ℕ) (new : Bool) (c : Change Art) : Type 0 where
@@ -74,14 +75,14 @@ module _ {f k : List ℕ} {st : State} {p : Spot} (v : List ℕ) (w : Stands edi
       there I (leaf (p .here .slot) (p .here .place) (F .extent) k (F .value)) (F .is)
       (rw (same-refl k) (light-present k v (Art.leaf k v) (eqb (length v) (length (F .value))) (extentOf k (F .value))))
 
-  light-other : p .end ≡ 3 → Light k v true (putChange edition1 st k v)
-  light-other e =
+  light-other : Legal edition1 k → p .end ≡ 3 → Light k v true (putChange edition1 st k v)
+  light-other legal e =
       let I = S .inTree (λ z. omega arith) in
       let F = I .spot .other e in
       let z : same k (F .key) ≡ false = bool-cases (same k (F .key)) (λ t. absurd (F .differs (same-true k (F .key) t))) (λ t. t) in
       let q = shared (drop (p .depth) (edition1 .walked k)) (drop (p .depth) (edition1 .walked (F .key))) in
       there I (leaf (p .here .slot) (p .here .place) (F .extent) (F .key) (F .value)) (F .is)
-      (rw z (light-new k v _ (Node4 ∷ pick (eqb q 0) [] (Prefix ∷ [])) [] (omega (arith, one-most (eqb q 0)))))
+      (rw (z, prefix-if q (omega (arith, F .shares, other-short w S I legal e))) (light-new k v _ (Node4 ∷ pick (eqb q 0) [] (Prefix ∷ [])) [] (omega (arith, one-most (eqb q 0)))))
 
   light-missing : p .end ≡ 4 → Light k v true (putChange edition1 st k v)
   light-missing e =
@@ -99,22 +100,23 @@ module _ {f k : List ℕ} {st : State} {p : Spot} (v : List ℕ) (w : Stands edi
   light-parted e =
       let I = S .inTree (λ z. omega arith) in
       let F = I .spot .parted e in
-      let w = drop (p .depth) (edition1 .walked k) in
-      let q = shared (F .bytes) w in
-      let z : eqb q (length (F .bytes)) ≡ false = ne-eqb q (length (F .bytes)) (λ y. omega (arith, F .shares, F .less)) in
+      let n = length (F .bytes) in
+      let q = shared (F .bytes) (drop (p .depth) (edition1 .walked k)) in
       there I (prefix (p .here .slot) (p .here .place) (F .bytes) (F .below)) (F .is)
-      (rw z (light-new k v _ (Node4 ∷ pick (eqb q 0) [] (pick (eqb (length (drop (suc q) (F .bytes))) 0) [] (Prefix ∷ []))) _ (omega (arith, cut-most (eqb q 0) (eqb (length (drop (suc q) (F .bytes))) 0)))))
+      (subst (Light k v true) (sym (parted-put w S v I e))
+      (rw (length-drop (suc q) (F .bytes), cut-if q n (omega (arith, F .shares, F .less)) (parted-at w S I e .0 .most))
+      (light-new k v _ (Node4 ∷ pick (eqb q 0) [] (pick (eqb (n - suc q) 0) [] (Prefix ∷ []))) _ (omega (arith, cut-most (eqb q 0) (eqb (n - suc q) 0))))))
 
   light-empty : p .end ≡ 1 → Light k v true (putChange edition1 st k v)
   light-empty e =
       let q : putChange edition1 st k v ≡ newKey k v (Art.leaf k v) [] _ = ap (λ (s : State). putIn edition1 (s .tree) k v) (w .state) ∙ ap (λ (r : Root). putIn edition1 (rootArt r) k v) (S .empty e) in
       subst (Light k v true) (sym q) (light-new k v (Art.leaf k v) [] _ (omega arith))
 
-  pub light-absent : (p .end ≡ 2 → ⊥) → Light k v true (putChange edition1 st k v)
-  light-absent n = elim (ℕ-discrete (p .end) 1) [
+  pub light-absent : Legal edition1 k → (p .end ≡ 2 → ⊥) → Light k v true (putChange edition1 st k v)
+  light-absent legal n = elim (ℕ-discrete (p .end) 1) [
     | yes e ↦ light-empty e
     | no e ↦ let r = S .inTree e .spot .range in elim (ℕ-discrete (p .end) 3) [
-      | yes h ↦ light-other h
+      | yes h ↦ light-other legal h
       | no h ↦ elim (ℕ-discrete (p .end) 4) [
         | yes i ↦ light-missing i
         | no i ↦ light-parted (omega (arith, r .0, r .1))
@@ -124,4 +126,4 @@ module _ {f k : List ℕ} {st : State} {p : Spot} (v : List ℕ) (w : Stands edi
 
   -- of either
   pub light-small-any : {n : Needs} → Asks n (putChange edition1 st k v .takes) (putChange edition1 st k v .extent) → Legal edition1 k → LegalValue v → Small n
-  light-small-any A g h = elim (ℕ-discrete (p .end) 2) [ yes e ↦ light-small (light-found e) A g h | no e ↦ light-small (light-absent e) A g h ]
+  light-small-any A g h = elim (ℕ-discrete (p .end) 2) [ yes e ↦ light-small (light-found e) A g h | no e ↦ light-small (light-absent g e) A g h ]

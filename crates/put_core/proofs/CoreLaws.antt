@@ -134,4 +134,4 @@ module _ {f k v : List ℕ} {r : Room} (A : Roomed f k v r) {p : Spot} (S : (s :
       was-there e T h = written false (λ s w. light-found v w (S s w) h .fresh) e T
 
       pub is-new : {f' : List ℕ} → b ≡ true → PutStep f k v f' → (p .end ≡ 2 → ⊥) → PutMade f k v 0 f'
-      is-new e T h = written true (λ s w. light-absent v w (S s w) h .fresh) e T
+      is-new e T h = written true (λ s w. light-absent v w (S s w) (A .legal) h .fresh) e T

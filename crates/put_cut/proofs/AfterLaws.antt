@@ -10,8 +10,8 @@ use Rattle.model.specs.Edition.{edition1}
 use Rattle.model.specs.Tree.{Art, Change, extentOf, fork, newKey, putTree}
 use Rattle.model.specs.State.{State}
 use Rattle.model.specs.Item.{Item, body, cover, leafy}
-use Rattle.model.specs.Frame.{Lay, slotOf, art, View, Heap, Stands, Begins}
-use Rattle.model.specs.Frame.Lay.{prefix, node}
+use Rattle.model.specs.Frame.{Lay, slotOf, atop, art, View, Heap, Stands, Begins}
+use Rattle.model.specs.Frame.Lay.{node}
 use Rattle.model.specs.Touch.{Touch}
 use Rattle.model.specs.Mark.{mark, marks, count, like}
 use Rattle.model.specs.Freedom.{is}
@@ -46,7 +46,7 @@ use Rattle.put_split.proofs.OtherLaws.{relink-ok}
 use Rattle.prefix_body.specs.Prefix.{Shortened}
 use Rattle.put_cut.specs.Cut.{AfterLeft}
 use Rattle.put_cut.proofs.ModelLaws.{madeOf, made-after, put-cut, touch-after, path-is}
-use Rattle.put_cut.proofs.SpotLaws.{front-none, front-gone, front-path, front-byte, takes-of, took-of, xs, old, own, w0, root-at, cut, word, tail-is, room-two}
+use Rattle.put_cut.proofs.SpotLaws.{front-none, front-gone, front-path, front-byte, takes-of, took-of, xs, old, own, w0, root-at, below-inner, cut, word, tail-is, cut-short, room-two}
 use Rattle.put_cut.proofs.StageLaws.{forks-of, fork-leaves, holder-own, holder-own-some, shorter, short-work, short-since}
 
 module _ {f k v : List ℕ} {p : Spot} (N : AfterLeft f k v p) where
@@ -54,13 +54,13 @@ module _ {f k v : List ℕ} {p : Spot} (N : AfterLeft f k v p) where
   after-some = omega (arith, tail-is (N .at), N .after)
 
   abbrev afterChange : Change Art
-  afterChange = newKey k v (fork (cut (N .at) .b) (Art.leaf k v) (cut (N .at) .c) (Art.prefix (cut (N .at) .t) (art (N .at .part .below)))) (Node4 ∷ []) []
+  afterChange = newKey k v (fork (cut (N .at) .b) (Art.leaf k v) (cut (N .at) .c) (atop (cut (N .at) .t) (art (N .at .part .below)))) (Node4 ∷ []) []
 
-  puts : putTree edition1 (Art.prefix (N .at .part .bytes) (art (N .at .part .below))) (length (pathOf (xs (N .at)))) k v ≡ afterChange
+  puts : putTree edition1 (art (old (N .at))) (length (pathOf (xs (N .at)))) k v ≡ afterChange
   puts =
       let Q = cut (N .at) in
       let a = art (N .at .part .below) in
-      put-cut k (pathOf (xs (N .at))) (word (N .at)) Q v a ∙ ap (λ x. madeOf k v (Q .b) (Q .c) a x (Q .t)) (front-gone (N .at) (N .before)) ∙ made-after k v (Q .b) (Q .c) a (Q .t) after-some
+      put-cut k (pathOf (xs (N .at))) (word (N .at)) Q v a (below-inner (N .at)) ∙ ap (λ x. madeOf k v (Q .b) (Q .c) a x (Q .t)) (front-gone (N .at) (N .before)) ∙ made-after k v (Q .b) (Q .c) a (Q .t) (below-inner (N .at)) after-some (omega (arith, cut-short (N .at)))
 
   module _ {f1 : List ℕ} {q : ℕ} (eq : q ≡ p .shared + 1) (D : Shortened f f1 (p .here .place) q) where
     begun : {s : State} (w : Stands edition1 f s) → Work edition1 f1 (standsView w) (xs (N .at)) (p .here .slot) (((pathOf (xs (N .at)) ++ cut (N .at) .w) ++ cut (N .at) .c ∷ [], shorter (N .at) eq after-some D) ∷ []) []

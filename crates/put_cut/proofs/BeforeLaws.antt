@@ -45,7 +45,7 @@ use Rattle.put_split.proofs.SplitLaws.{booked-two, from-two}
 use Rattle.put_split.proofs.PartedLaws.{byte-here}
 use Rattle.put_cut.specs.Cut.{BeforeLeft}
 use Rattle.put_cut.proofs.ModelLaws.{madeOf, made-before, put-cut, touch-before, here-left, path-is}
-use Rattle.put_cut.proofs.SpotLaws.{tail-gone, xs, old, own, w0, root-at, opened, old-sum, cut, word, shares, write-ok}
+use Rattle.put_cut.proofs.SpotLaws.{tail-gone, xs, old, own, w0, root-at, opened, below-inner, old-sum, cut, cut-short, word, shares, write-ok}
 use Rattle.put_cut.proofs.StageLaws.{fork-leaves, bare-took, barePlace, bareKnot, bare-work, bare-since}
 
 module _ {f k v : List ℕ} {p : Spot} (N : BeforeLeft f k v p) where
@@ -58,11 +58,11 @@ module _ {f k v : List ℕ} {p : Spot} (N : BeforeLeft f k v p) where
   abbrev pub beforeChange : Change Art
   beforeChange = newKey k v (Art.prefix (cut (N .at) .w) (fork (cut (N .at) .b) (Art.leaf k v) (cut (N .at) .c) (art (N .at .part .below)))) (Node4 ∷ []) []
 
-  pub before-puts : putTree edition1 (Art.prefix (N .at .part .bytes) (art (N .at .part .below))) (length (pathOf (xs (N .at)))) k v ≡ beforeChange
+  pub before-puts : putTree edition1 (art (old (N .at))) (length (pathOf (xs (N .at)))) k v ≡ beforeChange
   before-puts =
       let Q = cut (N .at) in
       let a = art (N .at .part .below) in
-      put-cut k (pathOf (xs (N .at))) (word (N .at)) Q v a ∙ ap (madeOf k v (Q .b) (Q .c) a (Q .w)) before-gone ∙ made-before k v (Q .b) (Q .c) a (Q .w) some
+      put-cut k (pathOf (xs (N .at))) (word (N .at)) Q v a (below-inner (N .at)) ∙ ap (madeOf k v (Q .b) (Q .c) a (Q .w)) before-gone ∙ made-before k v (Q .b) (Q .c) a (Q .w) some (omega (arith, cut-short (N .at)))
 
   module _ {f1 f2 : List ℕ} {m y : ℕ} (took : (h : View) → Heap f h → Roomy h Node4 → Took f f1 h Node4 m) (ey : y ≡ slotOf (N .at .part .below)) (G : Forked f1 f2 k v m (cut (N .at) .b) (cut (N .at) .c) y) where
     abbrev knot : {s : State} → Stands edition1 f s → Lay
@@ -89,7 +89,7 @@ module _ {f k v : List ℕ} {p : Spot} (N : BeforeLeft f k v p) where
           make-prefix (pathOf (xs (N .at))) [] [] (p .here .slot) (p .here .place) (cut (N .at) .w) (knot w) (work-write (forked w) (omega arith) (omega arith) (Y .only) (omega arith) (omega arith)) (Y .at) tt
 
       closed : {s : State} (w : Stands edition1 f s) → Work edition1 f3 (view2 w) [] (slotOf (plug (xs (N .at)) (crown w))) (([], plug (xs (N .at)) (crown w)) ∷ []) []
-      closed w = work-close (xs (N .at)) (crown w) [] (topped w) refl (suits-any (xs (N .at)) (old (N .at)) (crown w) (λ z. z) (opened (N .at) w .1))
+      closed w = work-close (xs (N .at)) (crown w) [] (topped w) refl (suits-any (xs (N .at)) (old (N .at)) (crown w) (λ q z. z) (opened (N .at) w .1))
 
       booked : {s : State} (w : Stands edition1 f s) → Booked (standsView w) (view2 w) (Leaf ∷ Node4 ∷ []) [] (extentOf k v) 0 (w .nums .R)
       booked w = booked-two (standsView w) k v (w .heap .lists .eight)

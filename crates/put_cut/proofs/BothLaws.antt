@@ -13,7 +13,7 @@ use Rattle.model.specs.Edition.{edition1}
 use Rattle.model.specs.Tree.{Art, Change, extentOf, fork, newKey, putTree}
 use Rattle.model.specs.State.{State}
 use Rattle.model.specs.Item.{Item, body, cover, leafy}
-use Rattle.model.specs.Frame.{Lay, slotOf, art, View, Heap, Stands, Begins}
+use Rattle.model.specs.Frame.{Lay, slotOf, atop, art, View, Heap, Stands, Begins}
 use Rattle.model.specs.Frame.Lay.{prefix, node}
 use Rattle.model.specs.Touch.{Touch}
 use Rattle.model.specs.Mark.{mark, marks, count, like}
@@ -51,7 +51,7 @@ use Rattle.put_split.proofs.OtherLaws.{relink-ok}
 use Rattle.prefix_body.specs.Prefix.{Shortened}
 use Rattle.put_cut.specs.Cut.{BothLeft}
 use Rattle.put_cut.proofs.ModelLaws.{made-both, put-cut, touch-both, here-left, path-is}
-use Rattle.put_cut.proofs.SpotLaws.{takes-of, took-of, xs, old, own, w0, root-at, opened, cut, word, shares, tail-is, write-ok, room-three}
+use Rattle.put_cut.proofs.SpotLaws.{takes-of, took-of, xs, old, own, w0, root-at, opened, below-inner, cut, word, shares, tail-is, cut-short, write-ok, room-three}
 use Rattle.put_cut.proofs.StageLaws.{forks-of, fork-leaves, holder-own, holder-own-some, shorter, short-work, short-since}
 
 module _ {f k v : List ℕ} {p : Spot} (N : BothLeft f k v p) where
@@ -62,13 +62,13 @@ module _ {f k v : List ℕ} {p : Spot} (N : BothLeft f k v p) where
   both-some = omega (arith, tail-is (N .at), N .after)
 
   abbrev bothChange : Change Art
-  bothChange = newKey k v (Art.prefix (cut (N .at) .w) (fork (cut (N .at) .b) (Art.leaf k v) (cut (N .at) .c) (Art.prefix (cut (N .at) .t) (art (N .at .part .below))))) (Node4 ∷ Prefix ∷ []) []
+  bothChange = newKey k v (Art.prefix (cut (N .at) .w) (fork (cut (N .at) .b) (Art.leaf k v) (cut (N .at) .c) (atop (cut (N .at) .t) (art (N .at .part .below))))) (Node4 ∷ Prefix ∷ []) []
 
-  puts : putTree edition1 (Art.prefix (N .at .part .bytes) (art (N .at .part .below))) (length (pathOf (xs (N .at)))) k v ≡ bothChange
+  puts : putTree edition1 (art (old (N .at))) (length (pathOf (xs (N .at)))) k v ≡ bothChange
   puts =
       let Q = cut (N .at) in
       let a = art (N .at .part .below) in
-      put-cut k (pathOf (xs (N .at))) (word (N .at)) Q v a ∙ made-both k v (Q .b) (Q .c) a (Q .w) (Q .t) some both-some
+      put-cut k (pathOf (xs (N .at))) (word (N .at)) Q v a (below-inner (N .at)) ∙ made-both k v (Q .b) (Q .c) a (Q .w) (Q .t) (below-inner (N .at)) some both-some (cut-short (N .at))
 
   module _ {f1 : List ℕ} {q : ℕ} (eq : q ≡ p .shared + 1) (D : Shortened f f1 (p .here .place) q) where
     begun : {s : State} (w : Stands edition1 f s) → Work edition1 f1 (standsView w) (xs (N .at)) (p .here .slot) (((pathOf (xs (N .at)) ++ cut (N .at) .w) ++ cut (N .at) .c ∷ [], shorter (N .at) eq both-some D) ∷ []) []
@@ -173,7 +173,7 @@ module _ {f k v : List ℕ} {p : Spot} (N : BothLeft f k v p) where
                     let bs : List Item = b1 ∷ b2 ∷ b4 ∷ [] in
                     let e8 = w .heap .lists .eight in
                     let link = A .put .way .linkIs in
-                    let suits = suits-any (xs A) (old A) (crown w) (λ z. z) (opened A w .1) in
+                    let suits = suits-any (xs A) (old A) (crown w) (λ q z. z) (opened A w .1) in
                     let Z2 = since-take prefix-kind (took w .heap) (since-take node4-kind (begun w .heap) (short-since A eq both-some D w) (took w)) (took-top w) in
                     let Z3 = fork-since (pathOf (xs A) ++ Q .w) [] (place4 w) below (ready w) G refl (left w) (A .put .ready .legal .passes) begins Z2
                     (λ a. omega (arith, sum-cons (cover a) b2 (b4 ∷ []), sum-cons (cover a) b4 [])) in

@@ -44,7 +44,7 @@ use Rattle.put_split.proofs.SplitLaws.{booked-two, from-two}
 use Rattle.put_split.proofs.OtherLaws.{relink-ok}
 use Rattle.put_cut.specs.Cut.{NoneLeft}
 use Rattle.put_cut.proofs.ModelLaws.{madeOf, put-cut, touch-none, path-is}
-use Rattle.put_cut.proofs.SpotLaws.{front-none, front-gone, front-path, front-byte, tail-gone, xs, old, own, w0, root-at, opened, old-sum, cut, word}
+use Rattle.put_cut.proofs.SpotLaws.{front-none, front-gone, front-path, front-byte, tail-gone, xs, old, own, w0, root-at, opened, below-inner, old-sum, cut, word}
 use Rattle.put_cut.proofs.StageLaws.{fork-leaves, bare-took, barePlace, bareKnot, bare-work, bare-since}
 
 module _ {f k v : List ℕ} {p : Spot} (N : NoneLeft f k v p) where
@@ -54,11 +54,11 @@ module _ {f k v : List ℕ} {p : Spot} (N : NoneLeft f k v p) where
   abbrev pub noneChange : Change Art
   noneChange = newKey k v (fork (cut (N .at) .b) (Art.leaf k v) (cut (N .at) .c) (art (N .at .part .below))) (Node4 ∷ []) (Prefix ∷ [])
 
-  pub none-puts : putTree edition1 (Art.prefix (N .at .part .bytes) (art (N .at .part .below))) (length (pathOf (xs (N .at)))) k v ≡ noneChange
+  pub none-puts : putTree edition1 (art (old (N .at))) (length (pathOf (xs (N .at)))) k v ≡ noneChange
   none-puts =
       let Q = cut (N .at) in
       let a = art (N .at .part .below) in
-      put-cut k (pathOf (xs (N .at))) (word (N .at)) Q v a ∙ ap (λ x. madeOf k v (Q .b) (Q .c) a x (Q .t)) (front-gone (N .at) (N .before)) ∙ ap (madeOf k v (Q .b) (Q .c) a []) none-gone
+      put-cut k (pathOf (xs (N .at))) (word (N .at)) Q v a (below-inner (N .at)) ∙ ap (λ x. madeOf k v (Q .b) (Q .c) a x (Q .t)) (front-gone (N .at) (N .before)) ∙ ap (madeOf k v (Q .b) (Q .c) a []) none-gone
 
   module _ {f1 f2 : List ℕ} {m y : ℕ} (took : (h : View) → Heap f h → Roomy h Node4 → Took f f1 h Node4 m) (ey : y ≡ slotOf (N .at .part .below)) (G : Forked f1 f2 k v m (cut (N .at) .b) (cut (N .at) .c) y) where
     abbrev knot : {s : State} → Stands edition1 f s → Lay

@@ -2,24 +2,26 @@
 use Prim.Native.Nat.{ℕ, _+_, _-_, _<_, _≤_}
 use mathlib.Core.Path.{_≡_, refl, sym, ap, subst, _∙_}
 use mathlib.Core.List.{List, [], _∷_, _++_, append-assoc, append-nil}
+use mathlib.Core.Bool.{true}
 use native.Mathlib.Omega.{arith}
 use lib.ListN.{length, getD, take, drop}
 use lib.Seq.{getD-append-seam}
 use Rattle.layout.specs.Number.{byteAt, le}
-use Rattle.layout.specs.Place.{prefixChild, prefixLength, prefixBytes}
+use Rattle.layout.specs.Place.{prefixChild, prefixLength, prefixBytes, prefixMost}
 use Rattle.layout.specs.Kind.{Leaf, Prefix, Node4, Kind}
 use Rattle.model.specs.Strings.{shared, Parted}
 use Rattle.model.specs.Edition.{edition1}
-use Rattle.model.specs.Tree.{Art, extentOf, newKey, putTree}
+use Rattle.model.specs.Tree.{Art, isInner, extentOf, newKey, putTree}
 use Rattle.model.specs.State.{State}
 use Rattle.model.specs.Item.{Item, body, sum}
 use Rattle.model.specs.Body.{PrefixAt}
 use Rattle.model.specs.Frame.{Lay, slotOf, IsNode, art, items, View, Heap, tree, rootItems, Stands}
 use Rattle.model.specs.Frame.Lay.{prefix}
 use Rattle.model.proofs.StringLaws.{shared-whole, Meets, whole, part, ends, meets}
-use Rattle.model.proofs.WellLaws.{Inside, inside-left, not-inside, prefix-inside}
+use Rattle.model.proofs.WellLaws.{Inside, inside-left, not-inside}
 use Rattle.model.proofs.Edition1.{key-passes, lawful1}
-use Rattle.model.proofs.StandsGood.{tree-well}
+use Rattle.model.proofs.StandsGood.{below-inside}
+use Rattle.model.proofs.OneBody.{node-inner, node-below}
 use Rattle.room.specs.View.{Roomy}
 use Rattle.room.specs.Step.{Takes, Took}
 use Rattle.room.specs.Book.{RoomFor}
@@ -29,7 +31,8 @@ use Rattle.between.specs.Hole.{Step, plug, pathOf, stepsItems}
 use Rattle.between.specs.Work.{Suits, Work}
 use Rattle.between.proofs.TreeLaws.{prefix-sum}
 use Rattle.between.proofs.HoleLaws.{plug-sum}
-use Rattle.between.proofs.WorkLaws.{standsView, stands-sum, first-owns, work-of, work-open, forest-first, open-prefix, open-node}
+use Rattle.between.proofs.WorkLaws.{standsView, stands-sum, first-owns, work-of, work-open, forest-first, open-node}
+use Rattle.between.proofs.OneLaws.{open-one}
 use Rattle.between.proofs.LeadLaws.{leads-rest}
 use Rattle.between.proofs.BookedLaws.{room-same}
 use Rattle.descent.specs.declared.spot.Spot.{Spot}
@@ -85,7 +88,10 @@ module _ {f k v : List ℕ} {p : Spot} (A : AtPart f k v p) where
 
   pub parts : {s : State} (w : Stands edition1 f s)
       → Work edition1 f (standsView w) xs (p .here .slot) ((pathOf xs ++ A .part .bytes, A .part .below) ∷ []) (own ∷ []) × PrefixAt f (p .here .place) (A .part .bytes) (slotOf (A .part .below)) × IsNode (A .part .below)
-  parts w = open-prefix (pathOf xs) [] [] (p .here .slot) (p .here .place) (A .part .bytes) (A .part .below) (opened w .0)
+  parts w = open-one (pathOf xs) [] [] (p .here .slot) (p .here .place) (A .part .bytes) (A .part .below) (w .bytes) (opened w .0)
+
+  pub below-inner : isInner (art (A .part .below)) ≡ true
+  below-inner = node-inner (A .part .below) (parts w0 .2)
 
   -- all that the tree owns
   pub old-sum : {s : State} (w : Stands edition1 f s) (z : Item → ℕ) → sum z (rootItems (w .root)) ≡ sum z (stepsItems xs) + (z own + sum z (items (A .part .below)))
@@ -98,7 +104,10 @@ module _ {f k v : List ℕ} {p : Spot} (A : AtPart f k v p) where
 
   -- a legal walked string goes on from the Prefix
   inside : Inside edition1 (pathOf xs ++ A .part .bytes)
-  inside = prefix-inside lawful1 (A .part .bytes) (art (A .part .below)) (pathOf xs) (tree-well edition1 f (w0 .bytes) (pathOf xs) old (forest-first edition1 f (pathOf xs) old [] (opened w0 .0 .trees) .0))
+  inside =
+      let b = A .part .bytes in
+      let l = A .part .below in
+      below-inside lawful1 f (pathOf xs ++ b) b l (w0 .bytes) (node-below b l (parts w0 .2)) (forest-first edition1 f (pathOf xs ++ b) l [] (parts w0 .0 .trees) .0)
 
   pub cut : Parted (A .put .way .rest) (A .part .bytes)
   cut = go (meets (A .part .bytes) (A .put .way .rest))
@@ -118,6 +127,9 @@ module _ {f k v : List ℕ} {p : Spot} (A : AtPart f k v p) where
 
   pub tail-is : p .shared + 1 + length (cut .t) ≡ length (A .part .bytes)
   tail-is = omega (arith, shares, length-is k (pathOf xs) word cut)
+
+  pub cut-short : length (cut .w) + length (cut .t) < prefixMost
+  cut-short = omega (arith, length-is k (pathOf xs) word cut, parts w0 .1 .most)
 
   -- no part before
   module _ (none : p .shared ≡ 0) where

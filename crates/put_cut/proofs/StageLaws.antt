@@ -15,6 +15,7 @@ use Rattle.model.specs.Frame.{Lay, slotOf, art, items, View, Heap, rootItems, S
 use Rattle.model.specs.Frame.Lay.{prefix, node}
 use Rattle.model.specs.Touch.{holder}
 use Rattle.model.proofs.ItemLaws.{sum-app, sum-cons}
+use Rattle.model.proofs.OneBody.{node-below}
 use Rattle.room.specs.View.{listOf, placeFrom, taken, Roomy}
 use Rattle.room.specs.Step.{Takes, Took}
 use Rattle.room.specs.Book.{RoomFor}
@@ -36,7 +37,7 @@ use Rattle.put_split.proofs.PartedLaws.{begins-here}
 use Rattle.prefix_body.specs.Prefix.{Shortened}
 use Rattle.put_cut.specs.Cut.{AtPart}
 use Rattle.put_cut.proofs.ModelLaws.{path-is, after-is}
-use Rattle.put_cut.proofs.SpotLaws.{takes-of, took-of, xs, own, w0, opened, parts, old-sum, cut, word, shares, tail-is, room-two}
+use Rattle.put_cut.proofs.SpotLaws.{takes-of, took-of, xs, old, own, w0, opened, parts, old-sum, cut, word, shares, tail-is, room-two}
 
 -- what `fork` asks of the work
 pub forks-of : {f f1 k v : List ℕ} {p : Spot} (A : AtPart f k v p) {h : View} {ys : List Step} {s m o : ℕ} {ts : List (List ℕ × Lay)} {loose : List Item}
@@ -61,7 +62,7 @@ module _ {f k v : List ℕ} {p : Spot} (A : AtPart f k v p) where
 
   -- ---- no part after: the child stands below the Node4, and the Prefix's body is loose
 
-  module _ (gone : cut A .t ≡ []) {a : Art} {fs : List ℕ} (puts : putTree edition1 (Art.prefix (A .part .bytes) (art (A .part .below))) (length (pathOf (xs A))) k v ≡ newKey k v a (Node4 ∷ []) fs) where
+  module _ (gone : cut A .t ≡ []) {a : Art} {fs : List ℕ} (puts : putTree edition1 (art (old A)) (length (pathOf (xs A))) k v ≡ newKey k v a (Node4 ∷ []) fs) where
     begun : {s : State} (w : Stands edition1 f s) → Work edition1 f (standsView w) (xs A) (p .here .slot) (((pathOf (xs A) ++ cut A .w) ++ cut A .c ∷ [], A .part .below) ∷ []) (own A ∷ [])
     begun w =
         work-path (A .part .below)
@@ -115,7 +116,7 @@ module _ {f k v : List ℕ} {p : Spot} (A : AtPart f k v p) where
         let at : PrefixAt f1 (p .here .place) (cut A .t) (slotOf (A .part .below)) = subst (λ x. PrefixAt f1 (p .here .place) x (slotOf (A .part .below))) (ap (λ i. drop i (A .part .bytes)) ed ∙ after-is k (pathOf (xs A)) (word A) (cut A))
         (D .at (A .part .bytes) (slotOf (A .part .below)) (P .1) (omega (arith, tail-is A))) in
         make-prefix ((pathOf (xs A) ++ cut A .w) ++ cut A .c ∷ []) [] [] (p .here .slot) (p .here .place) (cut A .t) (A .part .below)
-        (work-path (A .part .below) (path-is k (pathOf (xs A)) (word A) (cut A)) (work-write (P .0) (omega arith) (omega arith) (D .only) (omega arith) (omega arith))) at (P .2)
+        (work-path (A .part .below) (path-is k (pathOf (xs A)) (word A) (cut A)) (work-write (P .0) (omega arith) (omega arith) (D .only) (omega arith) (omega arith))) at (node-below (cut A .t) (A .part .below) (P .2))
 
     pub short-since : {s : State} (w : Stands edition1 f s) → Since f (standsView w) f1 (standsView w) [] (own A ∷ []) [] []
     short-since w =

@@ -70,7 +70,7 @@ module _ {f : List ℕ} {s : State} (w : Stands edition1 f s) (xs : List Step) (
   loose = leaf-loose w xs n o e k v' er
 
   close : {g : List ℕ} {h : View} (e' : ℕ) (v : List ℕ) → Work edition1 g h xs n ((pathOf xs, leaf n o e' k v) ∷ []) [] → Work edition1 g h [] (slotOf (plug xs (leaf n o e' k v))) (([], plug xs (leaf n o e' k v)) ∷ []) []
-  close e' v W = work-close xs (leaf n o e' k v) [] W refl (suits-any xs (leaf n o e k v') (leaf n o e' k v) (λ z. z) (leaf-opened w xs n o e k v' er .1))
+  close e' v W = work-close xs (leaf n o e' k v) [] W refl (suits-any xs (leaf n o e k v') (leaf n o e' k v) (λ q z. z) (leaf-opened w xs n o e k v' er .1))
 
   -- ---- with the same length
 

@@ -6,11 +6,10 @@ use mathlib.Core.Bool.{Bool, true, false}
 use native.Mathlib.Omega.{arith}
 use lib.ListN.{length, drop}
 use lib.Dec.{eqb}
-use borrow.Author.Tests.{eq-eqb, ne-eqb}
+use borrow.Author.Tests.{eq-eqb}
 use Rattle.layout.specs.Kind.{Leaf, Prefix, Node4, Kind}
 use Rattle.model.specs.Strings.{pick, shared}
 use Rattle.model.specs.Edition.{edition1}
-use Rattle.model.specs.Tree.{Art, asPrefix, prefixIf}
 use Rattle.model.specs.State.{State, tally}
 use Rattle.model.specs.Item.{Item, body, leafy, sum}
 use Rattle.model.specs.Frame.{Lay, slotOf, View, tree, rootItems, Stands}
@@ -72,13 +71,6 @@ tally-three a b c j = go (eqb a j) (eqb b j) (eqb c j)
     go false false false = refl
 
 -- ---- a Prefix of some bytes
-
-pub as-prefix-some : (w : List ℕ) (a : Art) → 1 ≤ length w → asPrefix w a ≡ Art.prefix w a
-as-prefix-some [] a l = absurd (omega arith)
-as-prefix-some (x ∷ w) a l = refl
-
-pub prefix-if-some : (q : ℕ) → 1 ≤ q → prefixIf q ≡ Prefix ∷ []
-prefix-if-some q l = rw (ne-eqb q 0 (λ z. omega arith)) refl
 
 pub prefix-look : (k w r : List ℕ) (d s o : ℕ) (t : Lay) → drop d (edition1 .walked k) ≡ w ++ r → findLay edition1 (prefix s o w t) d k ≡ findLay edition1 t (d + length w) k
 prefix-look k w r d s o t e = rw (eq-eqb (shared w (drop d (edition1 .walked k))) (length w) (ap (shared w) e ∙ shared-whole w r)) refl

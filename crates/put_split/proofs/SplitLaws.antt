@@ -8,10 +8,11 @@ use native.Mathlib.Omega.{arith}
 use lib.ListN.{length, getD, drop}
 use lib.Seq.{drop-append-seam}
 use Rattle.layout.specs.Number.{Bytes}
+use Rattle.layout.specs.Place.{prefixMost}
 use Rattle.layout.specs.Kind.{Leaf, Prefix, Node4}
 use Rattle.layout.specs.Entry.{placeOf}
 use Rattle.model.specs.Edition.{edition1}
-use Rattle.model.specs.Tree.{Art, extentOf, asPrefix, fork, newKey, prefixIf, putTree}
+use Rattle.model.specs.Tree.{Art, extentOf, asPrefix, fork, newKey, chain, prefixes, putTree}
 use Rattle.model.specs.State.{State}
 use Rattle.model.specs.Item.{Item, body, cover, leafy}
 use Rattle.model.specs.Frame.{Lay, slotOf, View, Stands, Begins}
@@ -19,6 +20,9 @@ use Rattle.model.specs.Frame.Lay.{leaf, prefix, node}
 use Rattle.model.specs.Touch.{Touch, touch, holder, touchPut}
 use Rattle.model.specs.Freedom.{is}
 use Rattle.model.proofs.ItemLaws.{sum-cons}
+use Rattle.model.proofs.Edition1.{key-passes}
+use Rattle.model.proofs.ChainLaws.{as-some}
+use Rattle.model.proofs.OneBody.{prefix-some}
 use Rattle.model.proofs.MarkLaws.{leaf-marks, prefix-marks, stay-more}
 use Rattle.room.specs.View.{listOf, placeFrom, taken}
 use Rattle.room.specs.Step.{Took}
@@ -41,9 +45,9 @@ use Rattle.leaf_new.proofs.DoneLaws.{Edited}
 use Rattle.prefix_body.specs.Prefix.{PrefixWritten}
 use Rattle.put_split.specs.Parts.{Forked}
 use Rattle.put_split.specs.Split.{Beside}
-use Rattle.put_split.proofs.PartedLaws.{byte-here, begins-here, begins-there, put-leaf, touch-leaf}
+use Rattle.put_split.proofs.PartedLaws.{byte-here, begins-here, part-short, begins-there, put-leaf, touch-leaf}
 use Rattle.put_split.proofs.ForkLaws.{work-under, forkKids, fork-marks, fork-sum, fork-art, fork-look, fork-work, fork-since}
-use Rattle.put_split.proofs.EndLaws.{node4-kind, prefix-kind, leaf-kind, leafy-not, tally-two, tally-three, as-prefix-some, prefix-if-some, prefix-look, took-slot, end-work, end-since, end-booked, holders-in, holders-some}
+use Rattle.put_split.proofs.EndLaws.{node4-kind, prefix-kind, leaf-kind, leafy-not, tally-two, tally-three, prefix-look, took-slot, end-work, end-since, end-booked, holders-in, holders-some}
 
 -- the kinds of what is taken, in the order of the takes
 pub two-kinds : Kinds (Node4 ∷ Leaf ∷ [])
@@ -87,7 +91,7 @@ module _ {f : List ℕ} {st : State} {w : Stands edition1 f st} {k : List ℕ} {
     pub put-none : putTree edition1 (Art.leaf k' v') (length (pathOf xs)) k v ≡ newKey k v (fork (P .parted .b) (Art.leaf k v) (P .parted .c) (Art.leaf k' v')) (Node4 ∷ []) []
     put-none =
         put-leaf k k' (pathOf xs) (P .word) (P .word') (P .parted) v v' (P .differs)
-        ∙ ap (λ x. newKey k v (asPrefix x (fork (P .parted .b) (Art.leaf k v) (P .parted .c) (Art.leaf k' v'))) (Node4 ∷ prefixIf (length x)) []) none
+        ∙ ap (λ x. newKey k v (asPrefix x (fork (P .parted .b) (Art.leaf k v) (P .parted .c) (Art.leaf k' v'))) (Node4 ∷ prefixes (chain (length x))) []) none
 
     whole : pathOf xs ++ P .parted .w ≡ pathOf xs
     whole = ap (λ x. pathOf xs ++ x) none ∙ append-nil (pathOf xs)
@@ -156,11 +160,14 @@ module _ {f : List ℕ} {st : State} {w : Stands edition1 f st} {k : List ℕ} {
 
   -- some bytes are shared: a Prefix of slot `top` stands in the hole, and the Node4 below it
   module _ (some : 1 ≤ length (P .parted .w)) where
+    short : length (P .parted .w) ≤ prefixMost
+    short = omega (arith, part-short k (pathOf xs) (P .word) (P .parted) (P .legal), key-passes k (P .legal) .short)
+
     pub put-some : putTree edition1 (Art.leaf k' v') (length (pathOf xs)) k v ≡ newKey k v (Art.prefix (P .parted .w) (fork (P .parted .b) (Art.leaf k v) (P .parted .c) (Art.leaf k' v'))) (Node4 ∷ Prefix ∷ []) []
     put-some =
         put-leaf k k' (pathOf xs) (P .word) (P .word') (P .parted) v v' (P .differs)
-        ∙ ap (λ x. newKey k v x (Node4 ∷ prefixIf (length (P .parted .w))) []) (as-prefix-some (P .parted .w) (fork (P .parted .b) (Art.leaf k v) (P .parted .c) (Art.leaf k' v')) some)
-        ∙ ap (λ x. newKey k v (Art.prefix (P .parted .w) (fork (P .parted .b) (Art.leaf k v) (P .parted .c) (Art.leaf k' v'))) (Node4 ∷ x) []) (prefix-if-some (length (P .parted .w)) some)
+        ∙ ap (λ x. newKey k v x (Node4 ∷ prefixes (chain (length (P .parted .w)))) []) (as-some (P .parted .w) (fork (P .parted .b) (Art.leaf k v) (P .parted .c) (Art.leaf k' v')) some)
+        ∙ ap (λ x. newKey k v (Art.prefix (P .parted .w) (fork (P .parted .b) (Art.leaf k v) (P .parted .c) (Art.leaf k' v'))) (Node4 ∷ x) []) (prefix-some (length (P .parted .w)) some short)
 
     module _ {f1 f2 : List ℕ} {m top : ℕ} (T : Took f f1 (standsView w) Node4 m) (U : Took f1 f2 (taken (standsView w) Node4) Prefix top) (room : RoomFor (standsView w) (Node4 ∷ Prefix ∷ Leaf ∷ []) (extentOf k v)) where
       abbrev place4 : ℕ
@@ -211,7 +218,7 @@ module _ {f : List ℕ} {st : State} {w : Stands edition1 f st} {k : List ℕ} {
               let bs : List Item = b1 ∷ b2 ∷ b4 ∷ [] in
               let fits = took-slot U prefix-kind in
               let e8 = w .heap .lists .eight in
-              let suits = suits-any xs old crown (λ z. z) (leaf-opened w xs n o e k' v' (P .is) .1) in
+              let suits = suits-any xs old crown (λ q z. absurd z) (leaf-opened w xs n o e k' v' (P .is) .1) in
               let deep : drop d (edition1 .walked k) ≡ P .parted .w ++ (P .parted .b ∷ P .parted .s) = ap (drop d) (P .word) ∙ drop-append-seam (pathOf xs) (P .rest) ∙ P .parted .left in
               let Z2 = since-take prefix-kind (T .heap) (since-take node4-kind (w .heap) (since-start (w .heap)) T) U in
               let Z3 = fork-since (pathOf xs ++ P .parted .w) [] place4 old taken-two G refl room-two (P .legal) (begins-here k (pathOf xs) (P .word) (P .parted)) Z2

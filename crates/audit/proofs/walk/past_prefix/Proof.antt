@@ -75,7 +75,7 @@ returns-4 : tie.Need-returns-4
 returns-4 c =
     let p = c .before .before .before .before .before .before .before .before .before .before .before .before .before .before .before .before .before .pre in
     let E = entry-made (p .7) (p .8) in
-    (kept-same, prefix-refused (c .before .before .before .before .before .before .before .before .before .before .before .before .body .ensures) E (p .5) (p .6) (not-false _ (c .before .before .before .before .before .before .before .before .if1 .left)) (c .none4 .ensures) (prefix-child (refuted (c .before .before .inner-slot .ensures) (c .before .if4 .taken)) (c .before .before .before .child .ensures .0)))
+    (kept-same, prefix-refused (c .before .before .before .before .before .before .before .before .before .before .before .before .body .ensures) E (p .5) (p .6) (not-false _ (c .before .before .before .before .before .before .before .before .if1 .left)) (c .none4 .ensures) (prefix-child (p .0 .bytes) (refuted (c .before .before .inner-slot .ensures) (c .before .if4 .taken)) (c .before .before .before .child .ensures .0)))
 
 extend-requires : tie.Need-extend-requires
 extend-requires c κs =

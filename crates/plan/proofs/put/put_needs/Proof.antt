@@ -42,7 +42,7 @@ recording-requires-2 : tie.Need-recording-requires-2
 recording-requires-2 c κs = c .forking .ensures .small
 
 returns-3 : tie.Need-returns-3
-returns-3 c = let z = c .before .before .before .before .before .before .before .before .before .before .before .before .before in λ st W S. asks-other W S (z .args .value .now) (c .before .before .if3 .taken) (sized (c .before .before .before .before .before .before .before .before .before .rounded .ensures) (c .recording2 .ensures (forkTakes (z .args .spot .shared)) (c .before .forking .ensures .asks)))
+returns-3 c = let z = c .before .before .before .before .before .before .before .before .before .before .before .before .before in λ st W S. asks-other W S (z .args .value .now) (z .pre .key) (c .before .before .if3 .taken) (sized (c .before .before .before .before .before .before .before .before .before .rounded .ensures) (c .recording2 .ensures (forkTakes (z .args .spot .shared)) (c .before .forking .ensures .asks)))
 
 count-requires : tie.Need-count-requires
 count-requires c κs = node-room (c .before .before .before .before .before .before .before .before .before .before .before .before .before .pre) (c .if4 .taken) .0
