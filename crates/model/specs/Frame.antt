@@ -10,7 +10,7 @@ use Rattle.layout.specs.Place.{atEdition, atF, atN, atD, atB, atU, atR, atX, at
 use Rattle.layout.specs.Kind.{Leaf, Prefix, Node48, EmptyRoot, fewest, most}
 use Rattle.layout.specs.Entry.{placeOf, highOf}
 use Rattle.model.specs.Strings.{pick}
-use Rattle.model.specs.Edition.{Edition}
+use Rattle.model.specs.Edition.{Edition, Value}
 use Rattle.model.specs.Tree.{Art, Kids, extentOf}
 use Rattle.model.specs.State.{State}
 use Rattle.model.specs.Item.{Item, body, extent, sum, leafy, Sound}
@@ -21,7 +21,7 @@ use Rattle.model.specs.Body.{Zero, LeafAt, PrefixAt, InnerAt}
 mutual
   pub data Lay : Type 0 where
     -- slot, place of the body, place of the extent, key, value
-    leaf : ℕ → ℕ → ℕ → List ℕ → List ℕ → Lay
+    leaf : ℕ → ℕ → ℕ → List ℕ → Value → Lay
     -- slot, place, bytes, the node below
     prefix : ℕ → ℕ → List ℕ → Lay → Lay
     -- slot, place, kind, children
@@ -106,7 +106,7 @@ abbrev pub Begins : List ℕ → List ℕ → Type 0
 Begins w path = take (length path) w ≡ path
 
 -- "A Leaf's key is legal and its walked string begins with the path that leads to it."
-pub record LeafOf (E : Edition) (f path : List ℕ) (o e : ℕ) (k v : List ℕ) : Type 0 where
+pub record LeafOf (E : Edition) (f path : List ℕ) (o e : ℕ) (k : List ℕ) (v : Value) : Type 0 where
   pub at : LeafAt f o e k v
   pub eights : e % 8 ≡ 0
   pub legal : E .keyFault k ≡ 0

@@ -8,7 +8,7 @@ use Rattle.layout.specs.Place.{dataStart, prefixMost}
 use Rattle.layout.specs.Kind.{Leaf, Prefix, Node4, Node16, Node48, Node256, EmptyRoot, bodySize}
 use Rattle.layout.specs.Entry.{entryOf}
 use Rattle.model.specs.Strings.{pick}
-use Rattle.model.specs.Edition.{Edition}
+use Rattle.model.specs.Edition.{Edition, textOf}
 use Rattle.model.specs.Tree.{Art, Kids, count, carried, extentOf, chain}
 use Rattle.model.specs.Tree.Art.{leaf, prefix, node}
 use Rattle.model.specs.Tree.Kids.{nil, kid}
@@ -144,7 +144,7 @@ abbrev mutual
 abbrev mutual
   pub bodies : Art → ℕ → ℕ → List ℕ
   bodies (leaf k v) s o =
-      padded (bodySize Leaf) (digits 4 (o + bodySize Leaf) ++ digits 2 (length k) ++ digits 2 (length v)) ++ padded (extentOf k v) (k ++ v)
+      padded (bodySize Leaf) (digits 4 (o + bodySize Leaf) ++ digits 2 (length k) ++ digits 2 (length (textOf v))) ++ padded (extentOf k v) (k ++ textOf v)
   bodies (prefix p a) s o = chainBodies (chain (length p)) p s ++ bodies a (s + chain (length p)) (o + chain (length p) * bodySize Prefix)
   bodies (node kind ks) s o = nodeBody kind (bytesOf ks) (childSlots (s + 1) ks) ++ bodiesKids ks (s + 1) (o + bodySize kind)
 

@@ -9,12 +9,12 @@ use lib.Dec.{ltb, eqb}
 use Rattle.layout.specs.Place.{prefixMost}
 use Rattle.layout.specs.Kind.{Leaf, Prefix, Node4, Node48, most, shrinkMark, kindUp, kindDown}
 use Rattle.model.specs.Strings.{pick, same, shared}
-use Rattle.model.specs.Edition.{Edition}
+use Rattle.model.specs.Edition.{Edition, Value, textOf}
 
 mutual
   pub data Art : Type 0 where
     -- a key and its value
-    leaf : List ℕ → List ℕ → Art
+    leaf : List ℕ → Value → Art
     -- bytes that all keys below share, and the node below
     prefix : List ℕ → Art → Art
     -- an inner node's kind and its children
@@ -44,8 +44,8 @@ has b (kid c j a ks) = pick (eqb b c) true (has b ks)
 abbrev pub up8 : ℕ → ℕ
 up8 n = (n + 7) / 8 * 8
 
-abbrev pub extentOf : List ℕ → List ℕ → ℕ
-extentOf k v = up8 (length k + length v)
+abbrev pub extentOf : List ℕ → Value → ℕ
+extentOf k v = up8 (length k + length (textOf v))
 
 -- ---- children
 
@@ -119,14 +119,14 @@ idle a = record { now = a; takes = []; frees = []; extent = 0; dead = 0; fresh =
 -- ---- look up
 
 abbrev mutual
-  pub findTree : Edition → Art → ℕ → List ℕ → Option (List ℕ)
+  pub findTree : Edition → Art → ℕ → List ℕ → Option Value
   findTree E (leaf k' v') d k = pick (same k k') (some v') none
   findTree E (prefix p a) d k =
       let deep = findTree E a (d + length p) k in
       pick (eqb (shared p (drop d (E .walked k))) (length p)) deep none
   findTree E (node kind ks) d k = findKids E ks d k
 
-  pub findKids : Edition → Kids → ℕ → List ℕ → Option (List ℕ)
+  pub findKids : Edition → Kids → ℕ → List ℕ → Option Value
   findKids E nil d k = none
   findKids E (kid c j a ks) d k =
       let here = findTree E a (d + 1) k in
@@ -136,16 +136,16 @@ abbrev mutual
 -- ---- put
 
 -- "Put, key absent: the extent, a Leaf, and" these takes; these frees
-abbrev pub newKey : List ℕ → List ℕ → Art → List ℕ → List ℕ → Change Art
+abbrev pub newKey : List ℕ → Value → Art → List ℕ → List ℕ → Change Art
 newKey k v a takes frees = record { now = a; takes = Leaf ∷ takes; frees = frees; extent = extentOf k v; dead = 0; fresh = true }
 
 -- at a Leaf. "Put, key present: with the same value length the extent is overwritten and nothing is needed; otherwise a new
 -- extent, and the old one's size is added to X." "a Leaf with another key, q walked bytes shared from there: a Node4, and a Prefix
 -- if q > 0"
-abbrev pub putLeaf : Edition → ℕ → List ℕ → List ℕ → List ℕ → List ℕ → Change Art
+abbrev pub putLeaf : Edition → ℕ → List ℕ → Value → List ℕ → Value → Change Art
 putLeaf E d k v k' v' =
     pick (same k k')
-    (pick (eqb (length v) (length v'))
+    (pick (eqb (length (textOf v)) (length (textOf v')))
     (record { now = leaf k v; takes = []; frees = []; extent = 0; dead = 0; fresh = false })
     (record { now = leaf k v; takes = []; frees = []; extent = extentOf k v; dead = extentOf k' v'; fresh = false }))
     (let r = drop d (E .walked k) in let r' = drop d (E .walked k') in let q = shared r r' in
@@ -154,7 +154,7 @@ putLeaf E d k v k' v' =
 -- "a Prefix of p bytes matched for q < p: a Node4; the part before has q bytes, the part after p - 1 - q. Both non-empty: one
 -- more Prefix. One: the old body is rewritten. None: it is freed." Of a chain: "need or free as many Prefixes as the frame then has more or
 -- fewer, in place of document 01's list"
-abbrev pub cutPrefix : Edition → ℕ → List ℕ → List ℕ → List ℕ → Art → Change Art
+abbrev pub cutPrefix : Edition → ℕ → List ℕ → Value → List ℕ → Art → Change Art
 cutPrefix E d k v p a =
     let r = drop d (E .walked k) in let q = shared p r in
     let after = drop (suc q) p in
@@ -164,7 +164,7 @@ cutPrefix E d k v p a =
     (prefixes (chain (length p) - (chain q + chain (length after))))
 
 -- "an inner node without that byte: nothing if not full, else the next kind, and the old body is freed"
-abbrev pub addChild : Edition → ℕ → List ℕ → List ℕ → ℕ → Kids → Change Art
+abbrev pub addChild : Edition → ℕ → List ℕ → Value → ℕ → Kids → Change Art
 addChild E d k v kind ks =
     let b = getD (E .walked k) d 0 in
     let grown = carried (kindUp kind) ks in
@@ -174,7 +174,7 @@ addChild E d k v kind ks =
 
 abbrev mutual
   -- d walked bytes lead to the tree
-  pub putTree : Edition → Art → ℕ → List ℕ → List ℕ → Change Art
+  pub putTree : Edition → Art → ℕ → List ℕ → Value → Change Art
   putTree E (leaf k' v') d k v = putLeaf E d k v k' v'
   putTree E (prefix p a) d k v =
       let deep = over (λ x. prefix p x) (putTree E a (d + length p) k v) in
@@ -186,7 +186,7 @@ abbrev mutual
       pick (has (getD (E .walked k) d 0) ks) deep add
 
   -- the child at the key's byte is changed, the others stay
-  pub putKids : Edition → Kids → ℕ → List ℕ → List ℕ → Change Kids
+  pub putKids : Edition → Kids → ℕ → List ℕ → Value → Change Kids
   putKids E nil d k v = idle nil
   putKids E (kid c j a ks) d k v =
       let here = over (λ x. kid c j x ks) (putTree E a (d + 1) k v) in
