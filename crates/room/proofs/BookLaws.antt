@@ -20,7 +20,7 @@ use Rattle.room.proofs.FitLaws.{nine, kinds-at, tally-same, tally-other
 
 -- ---- how many bodies of a kind are free
 
-map-at : (ls : List (List (ℕ × ℕ))) (i : ℕ) → getD (map length ls) i 0 ≡ length (getD ls i [])
+pub map-at : (ls : List (List (ℕ × ℕ))) (i : ℕ) → getD (map length ls) i 0 ≡ length (getD ls i [])
 map-at [] zero = refl
 map-at [] (suc i) = refl
 map-at (l ∷ ls) zero = refl

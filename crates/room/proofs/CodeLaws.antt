@@ -87,16 +87,19 @@ pub fresh-writes : (f : List ℕ) {m l g : List ℕ} {u o n : ℕ} (k : ℕ) →
     → (u + 1 ≡ le 4 f atU + 1) × (g ≡ put 4 (put 4 (put 4 f atU (u + 1)) atB (le 4 f atB + bodySize k)) (entryAt (u + 1)) (entryOf k (le 4 f atB)))
 fresh-writes f k eu eo en em el eg = (ap (λ x. x + 1) eu, rw (eg, el, em, en, ← eo) refl)
 
-module _ {f : List ℕ} {h : View} (k : ℕ) (P : Heap f h) (K : Kind k) where
-  chain-of : Chain f (le 2 f (atHead k)) (listOf h k)
-  chain-of = let k1 = K .0 in let k8 = K .1 in let e : atHead (k - 1 + 1) ≡ atHead k = omega arith in rw (← e) (P .lists .chains (k - 1) (omega arith))
+-- the list of a kind
+pub chain-of : {f : List ℕ} {h : View} (k : ℕ) → Heap f h → 1 ≤ k → k ≤ 8 → Chain f (le 2 f (atHead k)) (listOf h k)
+chain-of k P k1 k8 = let e : atHead (k - 1 + 1) ≡ atHead k = omega arith in rw (← e) (P .lists .chains (k - 1) (omega arith))
 
+module _ {f : List ℕ} {h : View} (k : ℕ) (P : Heap f h) (K : Kind k) where
   list-none : le 2 f (atHead k) ≡ 0 → listOf h k ≡ []
-  list-none e = chain-nil f (listOf h k) (rw e at chain-of) (λ x r z. head-in k x r P (K .0) (K .1) z .0)
+  list-none e =
+      let C : Chain f (le 2 f (atHead k)) (listOf h k) = chain-of k P (K .0) (K .1) in
+      chain-nil f (listOf h k) (rw e at C) (λ x r z. head-in k x r P (K .0) (K .1) z .0)
 
   list-some : {s : ℕ} → s ≡ le 2 f (atHead k) → (s ≡ 0 → ⊥) → (x : ℕ × ℕ) × (r : List (ℕ × ℕ)) × (listOf h k ≡ x ∷ r) × (s ≡ x .0) × (1 ≤ s) × (s ≤ h .nums .U)
   list-some {s} e n =
-      let c = chain-cons f (le 2 f (atHead k)) (listOf h k) chain-of (omega arith) in
+      let c = chain-cons f (le 2 f (atHead k)) (listOf h k) (chain-of k P (K .0) (K .1)) (omega arith) in
       let I = head-in k (c .0) (c .1) P (K .0) (K .1) (c .2) in
       let e' : s ≡ c .0 .0 = e ∙ c .3 in
       (c .0, c .1, c .2, e', omega arith, omega (arith, I .1))

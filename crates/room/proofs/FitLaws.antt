@@ -1,6 +1,6 @@
 -- Needs add up to a change's takes, and they fit the room of a state exactly if the model has room for the change. Assumes nothing.
 use Prim.Native.Nat.{ℕ, zero, suc, _+_, _-_, _*_, _<_, _≤_}
-use mathlib.Core.Path.{_≡_, refl, sym, _∙_}
+use mathlib.Core.Path.{_≡_, refl, sym, ap, _∙_}
 use mathlib.Core.List.{List, [], _∷_, map}
 use mathlib.Core.Bool.{Bool, true, false}
 use native.Mathlib.Omega.{arith}
@@ -14,7 +14,7 @@ use borrow.Author.Tests.{eq-eqb, ne-eqb, leb-true, le-leb}
 use Rattle.layout.specs.Kind.{bodySize}
 use Rattle.model.specs.Strings.{pick}
 use Rattle.model.specs.Tree.{Change}
-use Rattle.model.specs.State.{State, kinds, tally, total, freshSlots, freshBytes, room}
+use Rattle.model.specs.State.{State, kinds, tally, total, fresh, freshSlots, freshBytes, room}
 use Rattle.room.specs.declared.fit.Room.{Room}
 use Rattle.room.specs.declared.fit.Needs.{Needs}
 use Rattle.room.specs.Fit.{lacking, slotsNeeded, bytesNeeded, Fit, Small, Asks, RoomOf}
@@ -132,14 +132,23 @@ same-truth true y p q = sym (p refl)
 same-truth false true p q = q refl
 same-truth false false p q = refl
 
-module _ {A : Type 0} (c : Change A) {s : State} {r : Room} {n : Needs} (N : Asks n (c .takes) (c .extent)) (R : RoomOf r s) where
+-- a sum over the kinds goes by each of them
+kinds-same : (g g' : ℕ → ℕ) → ((k : ℕ) → k < 9 → g k ≡ g' k) → total (map g kinds) ≡ total (map g' kinds)
+kinds-same g g' h =
+    omega (arith, h 0 (omega arith), h 1 (omega arith), h 2 (omega arith), h 3 (omega arith), h 4 (omega arith), h 5 (omega arith), h 6 (omega arith), h 7 (omega arith), h 8 (omega arith))
+
+module _ {A : Type 0} (c : Change A) {s : State} {r : Room} {n : Needs} (N : Asks n (c .takes) (c .extent)) (R : RoomOf r s n) where
+  lack-is : (k : ℕ) → k < 9 → lacking (n .bodies) (r .free) k ≡ fresh s (c .takes) k
+  lack-is k l = R .free k l ∙ rw (N .bodies, kinds-at (tally (c .takes)) k l) refl
+
   fresh-slots : slotsNeeded (n .bodies) (r .free) ≡ freshSlots s (c .takes)
   unfolding slotsNeeded
-  fresh-slots = rw (N .bodies, R .free) refl
+  fresh-slots = kinds-same (lacking (n .bodies) (r .free)) (fresh s (c .takes)) lack-is
 
   fresh-bytes : bytesNeeded (n .bodies) (r .free) ≡ freshBytes s (c .takes)
   unfolding bytesNeeded
-  fresh-bytes = rw (N .bodies, R .free) refl
+  fresh-bytes =
+      kinds-same (λ k. lacking (n .bodies) (r .free) k * bodySize k) (λ k. fresh s (c .takes) k * bodySize k) (λ k l. ap (λ x. x * bodySize k) (lack-is k l))
 
   pub fit-room : Fit r n → room s c ≡ true
   fit-room F =

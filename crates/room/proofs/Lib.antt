@@ -3,3 +3,4 @@ pub mod StepLaws
 pub mod CodeLaws
 pub mod FitLaws
 pub mod BookLaws
+pub mod LeftLaws

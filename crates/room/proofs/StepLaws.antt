@@ -26,7 +26,7 @@ SoundView h = Sound (dataStart (h .nums .N)) (h .nums .U) (h .nums .B) (h .nums 
 
 -- ---- lists of freed slots
 
-chain-head : (f : List ℕ) (h : ℕ) (x : ℕ × ℕ) (xs : List (ℕ × ℕ)) → Chain f h (x ∷ xs) → (h ≡ x .0) × (placeOf f (x .0) ≡ x .1) × Chain f (highOf f (x .0)) xs
+pub chain-head : (f : List ℕ) (h : ℕ) (x : ℕ × ℕ) (xs : List (ℕ × ℕ)) → Chain f h (x ∷ xs) → (h ≡ x .0) × (placeOf f (x .0) ≡ x .1) × Chain f (highOf f (x .0)) xs
 unfolding Chain
 chain-head f h x xs C = C
 

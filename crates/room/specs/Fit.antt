@@ -34,8 +34,8 @@ pub record Asks (n : Needs) (takes : List ℕ) (x : ℕ) : Type 0 where
   pub bodies : n .bodies ≡ map (tally takes) kinds
   pub extent : n .extent ≡ x
 
--- the room of a state
-pub record RoomOf (r : Room) (s : State) : Type 0 where
-  pub free : r .free ≡ s .free
+-- the room of a state for some needs: of the free bodies of a kind, those that are asked for are counted
+pub record RoomOf (r : Room) (s : State) (n : Needs) : Type 0 where
+  pub free : (k : ℕ) → k < 9 → lacking (n .bodies) (r .free) k ≡ lacking (n .bodies) (s .free) k
   pub slots : r .slots ≡ s .N - s .U
   pub bytes : r .bytes ≡ s .F - s .B

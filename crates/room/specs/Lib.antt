@@ -1,4 +1,5 @@
 pub mod View
 pub mod Step
 pub mod Fit
+pub mod Left
 pub mod Book
