@@ -8,7 +8,7 @@ use native.Mathlib.Omega.{arith}
 use lib.ListN.{length, take, drop}
 use Rattle.layout.specs.Kind.{shrinkMark}
 use Rattle.model.specs.Strings.{pick}
-use Rattle.model.specs.Edition.{edition1}
+use Rattle.model.specs.Edition.{Edition, edition1}
 use Rattle.model.specs.Tree.{Art}
 use Rattle.model.specs.State as state
 use Rattle.model.specs.State.{State, Done, done, room, findIn, eraseChange, eraseIn, callErase}
@@ -21,7 +21,6 @@ use Rattle.model.proofs.Edition1.{lawful1}
 use Rattle.model.proofs.GoodState.{TreeOk, GoodState}
 use Rattle.model.proofs.StandsGood.{stands-good}
 use Rattle.model.proofs.PackedLaws.{records-some}
-use Rattle.model.proofs.UniqueLaws.{stands-unique}
 use Rattle.inner.proofs.InnerLaws.{inner-count}
 use Rattle.room.specs.declared.fit.Room.{Room}
 use Rattle.room.specs.declared.fit.Needs.{Needs}
@@ -39,7 +38,7 @@ use Rattle.erase_join.specs.Erase.{Pair}
 use Rattle.plan.specs.Erase.{EraseFrom, Erasing, ErasePlan}
 use Rattle.plan.proofs.PutLaws.{inner-fits}
 use Rattle.erase_core.specs.Core as core
-use Rattle.erase_core.specs.Core.{Roomed, EraseMade}
+use Rattle.erase_core.specs.Core.{Asked, EraseMade}
 
 -- ---- what each edit counts on
 
@@ -106,7 +105,7 @@ only-made O =
       kept = λ z. absurd (differ z);
     }
 
-module _ {f k : List ℕ} {r : Room} (A : Roomed f k r) {p : Spot} (S : (s : State) (w : Stands edition1 f s) → SpotAt k (w .root) p) where
+module _ {f k : List ℕ} (A : Asked f k) {p : Spot} (S : (s : State) (w : Stands edition1 f s) → SpotAt k (w .root) p) where
   pub absent : (p .end ≡ 2 → ⊥) → EraseMade f k 8 f
   absent n = unchanged k 8 refl (λ s w. absent-is s k (s .tree) (value-stands k w ∙ ap (valueIn f) (spot-none (S s w) n)))
 
@@ -132,9 +131,9 @@ module _ {f k : List ℕ} {r : Room} (A : Roomed f k r) {p : Spot} (S : (s : Sta
         some-fewer : {f' : List ℕ} (s : State) (w : Stands edition1 f s) → Stands edition1 f' (fewer s w) → 2 ≤ s .R
         some-fewer {f'} s w w' = omega (arith, some-left (fewer s w) (erasing s w .left) (stands-good edition1 f' (fewer s w) w') refl)
 
-      module _ {n : Needs} (N : ErasePlan f k p n) {b : Bool} (F : (b ≡ true → Fit r n) × (Fit r n → b ≡ true)) where
+      module _ {n : Needs} (N : ErasePlan f k p n) {r : Room} (R : (E : Edition) (s : State) → Stands E f s → RoomOf r s n) {b : Bool} (F : (b ≡ true → Fit r n) × (Fit r n → b ≡ true)) where
         room-any : (s : State) (w : Stands edition1 f s) → b ≡ room s (eraseChange edition1 (art (inside w .lay)) k)
-        room-any s w = fits-room (eraseChange edition1 (art (inside w .lay)) k) (erasing N s w .asks) (subst (RoomOf r) (stands-unique edition1 f (A .st) s (A .stands) w) (A .room)) F
+        room-any s w = fits-room (eraseChange edition1 (art (inside w .lay)) k) (erasing N s w .asks) (R edition1 s w) F
 
         call-is : (s : State) (w : Stands edition1 f s) {x : Bool} → b ≡ x → callErase edition1 s k ≡ pick x (done 0 (fewer N s w)) (done 6 s)
         call-is s w e =

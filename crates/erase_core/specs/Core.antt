@@ -1,4 +1,4 @@
--- Erase on a good frame whose room is known: what it counts on, and what it leaves.
+-- Erase on a good frame: what it counts on, and what it leaves.
 use Prim.Native.Nat.{ℕ, _≤_}
 use mathlib.Core.Path.{_≡_}
 use mathlib.Core.List.{List, []}
@@ -9,15 +9,12 @@ use Rattle.model.specs.Image.{image}
 use Rattle.model.specs.Frame.{Stands}
 use Rattle.model.specs.Touch.{Outside, eraseTouch}
 use Rattle.model.specs.Promise.{changes, eraseKinds}
-use Rattle.room.specs.declared.fit.Room.{Room}
-use Rattle.room.specs.Fit.{RoomOf}
 
--- a good frame with its room, and a legal key
-pub record Roomed (f k : List ℕ) (r : Room) : Type 0 where
+-- a good frame, and a legal key
+pub record Asked (f k : List ℕ) : Type 0 where
   pub st : State
   pub stands : Stands edition1 f st
   pub legal : Legal edition1 k
-  pub room : RoomOf r st
 
 -- f' stands for the state of d, and after an erase that left records every byte is as before but those that it touches
 abbrev pub Left : (f k : List ℕ) (n : ℕ) (f' : List ℕ) (s : State) → Stands edition1 f s → Done → Type 0

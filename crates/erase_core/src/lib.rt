@@ -1,4 +1,4 @@
-// Erase on a good frame whose room is known: the spot is found, the needs are compared with the room, and only then is anything written.
+// Erase on a good frame: the spot is found, the needs are compared with the room, and only then is anything written.
 use answers::Erase;
 use answers::Refusal;
 use descent::spot::Spot;
@@ -11,10 +11,10 @@ use inner::look;
 use layout::kind;
 use layout::kind::Kind;
 use room::fit;
-use room::fit::Room;
+use room::left;
 ghost use Rattle.answers.specs.Number.{eraseNumber};
 ghost use Rattle.erase_remove.specs.Erase.{EraseAt, EraseStep};
-ghost use Rattle.erase_core.specs.Core.{Roomed, EraseMade};
+ghost use Rattle.erase_core.specs.Core.{Asked, EraseMade};
 
 // The edit that the Leaf's node calls for: it keeps its kind, or it falls to the mark of its kind, a Node4 to one child.
 fn apply(f: &mut [u8], key: &[u8], spot: Spot)
@@ -33,8 +33,8 @@ fn apply(f: &mut [u8], key: &[u8], spot: Spot)
     shrink::shrink(f, spot);
 }
 
-pub fn erase(f: &mut [u8], key: &[u8], room: Room) -> Erase
-    requires { ⌜ Roomed (now f) (now key) room ⌝ }
+pub fn erase(f: &mut [u8], key: &[u8]) -> Erase
+    requires { ⌜ Asked (now f) (now key) ⌝ }
     ensures { λ r. ⌜ EraseMade (now (f .entry)) (now (key .entry)) (eraseNumber r) (now (f .exit)) ⌝ }
 {
     let spot = walk::descend(f, key);
@@ -48,7 +48,7 @@ pub fn erase(f: &mut [u8], key: &[u8], room: Room) -> Erase
         return Erase::Done;
     }
     let needs = plan::erase::erase_needs(f, key, spot);
-    if !fit::fits(room, needs) {
+    if !fit::fits(left::room_for(f, needs), needs) {
         return Erase::Refused(Refusal::Room);
     }
     apply(f, key, spot);

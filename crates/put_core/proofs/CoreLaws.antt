@@ -7,13 +7,12 @@ use native.Mathlib.Omega.{arith}
 use lib.ListN.{length}
 use Rattle.layout.specs.Kind.{most}
 use Rattle.model.specs.Strings.{pick}
-use Rattle.model.specs.Edition.{edition1}
+use Rattle.model.specs.Edition.{Edition, edition1}
 use Rattle.model.specs.State.{State, Done, done, putChange, room, callPut}
 use Rattle.model.specs.Body.{InnerAt}
 use Rattle.model.specs.Frame.{Lay, pairs, Tree, Stands}
 use Rattle.model.specs.Promise.{changes}
 use Rattle.model.proofs.StringLaws.{clash}
-use Rattle.model.proofs.UniqueLaws.{stands-unique}
 use Rattle.room.specs.declared.fit.Room.{Room}
 use Rattle.room.specs.declared.fit.Needs.{Needs}
 use Rattle.room.specs.Fit.{Fit, Small, RoomOf}
@@ -30,7 +29,7 @@ use Rattle.put_split.specs.Split.{AtOther}
 use Rattle.put_cut.specs.Cut.{AtPart}
 use Rattle.plan.specs.Plan.{PutFrom, PutPlan}
 use Rattle.plan.proofs.PutLaws.{node-room, last-end}
-use Rattle.put_core.specs.Core.{Roomed, PutSpot, AtNode, Left, PutMade}
+use Rattle.put_core.specs.Core.{Asked, PutSpot, AtNode, Left, PutMade}
 use Rattle.put_core.proofs.ChangeLaws.{light-found, light-absent, light-small-any}
 
 -- ---- what each edit counts on
@@ -94,7 +93,7 @@ done-changes : (new : Bool) → changes (pick new 0 9) ≡ true
 done-changes true = refl
 done-changes false = refl
 
-module _ {f k v : List ℕ} {r : Room} (A : Roomed f k v r) {p : Spot} (S : (s : State) (w : Stands edition1 f s) → SpotAt k (w .root) p) where
+module _ {f k v : List ℕ} (A : Asked f k v) {p : Spot} (S : (s : State) (w : Stands edition1 f s) → SpotAt k (w .root) p) where
   pub plans : PutFrom f k v p
   plans = record { st = A .st; stands = A .stands; spot = S (A .st) (A .stands); key = A .legal; value = A .legalValue }
 
@@ -102,10 +101,9 @@ module _ {f k v : List ℕ} {r : Room} (A : Roomed f k v r) {p : Spot} (S : (s :
     pub small : Small n
     small = light-small-any v (A .stands) (S (A .st) (A .stands)) (N (A .st) (A .stands) (S (A .st) (A .stands))) (A .legal) (A .legalValue)
 
-    module _ {b : Bool} (F : (b ≡ true → Fit r n) × (Fit r n → b ≡ true)) where
+    module _ {r : Room} (R : (E : Edition) (s : State) → Stands E f s → RoomOf r s n) {b : Bool} (F : (b ≡ true → Fit r n) × (Fit r n → b ≡ true)) where
       room-any : (s : State) (w : Stands edition1 f s) → b ≡ room s (putChange edition1 s k v)
-      room-any s w =
-          fits-room (putChange edition1 s k v) (N s w (S s w)) (subst (RoomOf r) (stands-unique edition1 f (A .st) s (A .stands) w) (A .room)) F
+      room-any s w = fits-room (putChange edition1 s k v) (N s w (S s w)) (R edition1 s w) F
 
       pub no-room : b ≡ false → PutMade f k v 6 f
       no-room e =

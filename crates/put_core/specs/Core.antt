@@ -1,4 +1,4 @@
--- Put on a good frame whose room is known: what it counts on, and what it leaves.
+-- Put on a good frame: what it counts on, and what it leaves.
 use Prim.Native.Nat.{ℕ}
 use mathlib.Core.Path.{_≡_}
 use mathlib.Core.List.{List, _++_}
@@ -10,19 +10,16 @@ use Rattle.model.specs.State.{State, Done, putChange, callPut}
 use Rattle.model.specs.Frame.{Stands}
 use Rattle.model.specs.Touch.{Outside, putTouch, findAt, extentAt}
 use Rattle.model.specs.Promise.{changes}
-use Rattle.room.specs.declared.fit.Room.{Room}
-use Rattle.room.specs.Fit.{RoomOf}
 use Rattle.descent.specs.declared.spot.Spot.{Spot}
 use Rattle.descent.specs.Spot.{SpotAt}
 use Rattle.leaf_new.specs.Put.{PutReady}
 
--- a good frame with its room, and a legal key and value
-pub record Roomed (f k v : List ℕ) (r : Room) : Type 0 where
+-- a good frame, and a legal key and value
+pub record Asked (f k v : List ℕ) : Type 0 where
   pub st : State
   pub stands : Stands edition1 f st
   pub legal : Legal edition1 k
   pub legalValue : LegalValue v
-  pub room : RoomOf r st
 
 -- there is room for the put, and the descent of the key ended at p
 pub record PutSpot (f k v : List ℕ) (p : Spot) : Type 0 where

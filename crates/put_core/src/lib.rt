@@ -1,4 +1,4 @@
-// Put on a good frame whose room is known: the spot is found, the needs are compared with the room, and only then is anything written.
+// Put on a good frame: the spot is found, the needs are compared with the room, and only then is anything written.
 use answers::Put;
 use answers::Refusal;
 use descent::spot::Spot;
@@ -6,10 +6,10 @@ use descent::walk;
 use inner::look;
 use layout::kind;
 use room::fit;
-use room::fit::Room;
+use room::left;
 ghost use Rattle.answers.specs.Number.{putNumber};
 ghost use Rattle.leaf_new.specs.Put.{PutStep};
-ghost use Rattle.put_core.specs.Core.{Roomed, PutSpot, AtNode, PutMade};
+ghost use Rattle.put_core.specs.Core.{Asked, PutSpot, AtNode, PutMade};
 
 // "an inner node without that byte: nothing if not full, else the next kind"
 fn add(f: &mut [u8], key: &[u8], value: &[u8], spot: Spot)
@@ -48,13 +48,13 @@ fn apply(f: &mut [u8], key: &[u8], value: &[u8], spot: Spot)
     put_cut::cut_prefix(f, key, value, spot);
 }
 
-pub fn put(f: &mut [u8], key: &[u8], value: &[u8], room: Room) -> Put
-    requires { ⌜ Roomed (now f) (now key) (now value) room ⌝ }
+pub fn put(f: &mut [u8], key: &[u8], value: &[u8]) -> Put
+    requires { ⌜ Asked (now f) (now key) (now value) ⌝ }
     ensures { λ r. ⌜ PutMade (now (f .entry)) (now (key .entry)) (now (value .entry)) (putNumber r) (now (f .exit)) ⌝ }
 {
     let spot = walk::descend(f, key);
     let needs = plan::put::put_needs(f, key, value, spot);
-    if !fit::fits(room, needs) {
+    if !fit::fits(left::room_for(f, needs), needs) {
         return Put::Refused(Refusal::Room);
     }
     apply(f, key, value, spot);

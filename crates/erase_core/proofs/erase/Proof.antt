@@ -38,26 +38,31 @@ erase-needs-requires c κs =
     let spot = found .before .before in
     from (spot .before .before .before .before .pre) (spot .descend .ensures) (found .if1 .left) (test .if2 .left)
 
+room-for-requires : tie.Need-room-for-requires
+room-for-requires c κs = search needs
+
 fits-requires : tie.Need-fits-requires
-fits-requires c κs = c .erase-needs .ensures .small
+fits-requires c κs = search needs
 
 same-length-3 : tie.Need-same-length-3
 same-length-3 c = search needs
 
 returns-3 : tie.Need-returns-3
 returns-3 c =
-    let test = c .before .before .before .before in
-    let found = test .before .before .before in
-    let spot = found .before .before in
-    no-room (spot .before .before .before .before .pre) (spot .descend .ensures) (found .if1 .left) (test .if2 .left) (c .before .before .erase-needs .ensures) (c .before .fits2 .ensures) (not-true _ (c .if3 .taken))
-
-apply-requires : tie.Need-apply-requires
-apply-requires c κs =
-    let room = c .before in
+    let room = c .before .before in
     let test = room .before .before .before .before in
     let found = test .before .before .before in
     let spot = found .before .before in
-    at-spot (spot .before .before .before .before .pre) (spot .descend .ensures) (found .if1 .left) (test .if2 .left) (room .before .before .erase-needs .ensures) (room .before .fits2 .ensures) (not-false _ (room .if3 .left))
+    no-room (spot .before .before .before .before .pre) (spot .descend .ensures) (found .if1 .left) (test .if2 .left) (room .before .before .erase-needs .ensures) (room .room-for .ensures) (c .before .fits2 .ensures) (not-true _ (c .if3 .taken))
+
+apply-requires : tie.Need-apply-requires
+apply-requires c κs =
+    let fits = c .before in
+    let room = fits .before .before in
+    let test = room .before .before .before .before in
+    let found = test .before .before .before in
+    let spot = found .before .before in
+    at-spot (spot .before .before .before .before .pre) (spot .descend .ensures) (found .if1 .left) (test .if2 .left) (room .before .before .erase-needs .ensures) (room .room-for .ensures) (fits .before .fits2 .ensures) (not-false _ (fits .if3 .left))
 
 same-length-4 : tie.Need-same-length-4
 same-length-4 c = search needs
@@ -65,11 +70,12 @@ same-length-4 c = search needs
 returns-4 : tie.Need-returns-4
 returns-4 c =
     let done = c .before .before in
-    let room = done .before .before in
+    let fits = done .before .before in
+    let room = fits .before .before in
     let test = room .before .before .before .before in
     let found = test .before .before .before in
     let spot = found .before .before in
-    erased (spot .before .before .before .before .pre) (spot .descend .ensures) (found .if1 .left) (test .if2 .left) (room .before .before .erase-needs .ensures) (room .before .fits2 .ensures) (not-false _ (room .if3 .left)) (done .apply .ensures)
+    erased (spot .before .before .before .before .pre) (spot .descend .ensures) (found .if1 .left) (test .if2 .left) (room .before .before .erase-needs .ensures) (room .room-for .ensures) (fits .before .fits2 .ensures) (not-false _ (fits .if3 .left)) (done .apply .ensures)
 
 pub erase-spec : {M : Type 1} → statement M
 erase-spec =
@@ -82,6 +88,7 @@ erase-spec =
     same-length-2
     returns-2
     erase-needs-requires
+    room-for-requires
     fits-requires
     same-length-3
     returns-3
