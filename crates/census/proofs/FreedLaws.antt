@@ -1,11 +1,10 @@
 -- The lists of freed slots, a slot and a list at a time. Assumes nothing.
-use Prim.Native.Nat.{ℕ, suc, _+_, _-_, _<_, _≤_}
+use Prim.Native.Nat.{ℕ, suc, _+_, _<_, _≤_}
 use mathlib.Core.Path.{_≡_, refl, sym, ap, _∙_}
-use mathlib.Core.List.{List, [], _∷_, _++_, map, append-assoc, append-nil}
+use mathlib.Core.List.{List, [], _∷_, _++_}
 use mathlib.Core.Bool.{true, false}
 use native.Mathlib.Omega.{arith}
-use lib.ListN.{length, take, set}
-use lib.Seq.{take-suc-set}
+use lib.ListN.{length}
 use Rattle.layout.specs.Number.{le}
 use Rattle.layout.specs.Place.{atHead}
 use Rattle.layout.specs.Kind.{Crossing}
@@ -16,8 +15,8 @@ use Rattle.model.proofs.ItemLaws.{in-under, sum-app, sum-cons}
 use Rattle.model.proofs.UniqueLaws.{chain-unique}
 use Rattle.claims.specs.Units.{Each}
 use Rattle.census.specs.declared.Sums.{Sums}
-use Rattle.census.specs.Told.{isBody, Sited, Tally, BodyTold, Told}
-use Rattle.census.specs.Freed.{ChainItems, ListOf, ListItems, ListsOf, FreedItems, CountedFrom}
+use Rattle.census.specs.Told.{Sited, Tally, BodyTold, Told}
+use Rattle.census.specs.Freed.{ChainItems, ListOf, ListItems, ListsOf, FreedItems}
 use Rattle.census.proofs.ToldLaws.{tidy-slot, tidy-part, grown-none, told-no, told-yes, told-as, told-on, told-first, body-sited}
 
 -- ---- along the links
@@ -90,11 +89,6 @@ list-none e z T =
 
 -- ---- all lists
 
-list-count : (k : ℕ) (l : List (ℕ × ℕ)) → sum isBody (listItems k l) ≡ length l
-unfolding sum isBody listItems
-list-count k [] = refl
-list-count k (x ∷ l) = omega (arith, list-count k l)
-
 -- no slot 0 among bodies that are sited
 sited-zero : (f : List ℕ) (d u b k : ℕ) (l : List (ℕ × ℕ)) → Each (Sited f d u b) (listItems k l) → sum (onSlot 0) (listItems k l) ≡ 0
 unfolding sum onSlot listItems
@@ -112,34 +106,27 @@ lists-split f kind zs h F = go (F .lists) (F .eight) (F .are) (F .items)
     go [] e L q = absurd (omega arith)
     go (l ∷ ls) e L q = (l, L .0, freed (suc kind) ls, record { lists = ls; eight = omega arith; are = L .1; items = refl }, sym q)
 
-lists-join : (f : List ℕ) (kind next n : ℕ) (free after : List ℕ) (xs ys : List Item) → next ≡ suc kind → kind < length free
-    → (L : ListItems f kind xs) → n ≡ length (L .slots) → CountedFrom f next (take next (set free kind n)) after ys → CountedFrom f kind (take kind free) after (xs ++ ys)
+lists-join : (f : List ℕ) (kind next : ℕ) (xs ys : List Item) → next ≡ suc kind → ListItems f kind xs → FreedItems f next ys → FreedItems f kind (xs ++ ys)
 unfolding ListsOf freed
-lists-join f kind next n free after xs ys z h L e C =
-    let ls = C .at .lists in
-    let g = C .at .eight in
-    record {
-      at = record { lists = L .slots ∷ ls; eight = omega arith; are = (L .list, rw z at (C .at .are)); items = rw (L .are) (ap (λ (v : List Item). xs ++ v) (rw z at (C .at .items))) };
-      counts = C .counts ∙ rw (z, take-suc-set free kind n h, e) (append-assoc (take kind free) (length (L .slots) ∷ []) (map length ls));
-    }
+lists-join f kind next xs ys z L F =
+    let g = F .eight in
+    record { lists = L .slots ∷ F .lists; eight = omega arith; are = (L .list, rw z at (F .are)); items = rw (L .are) (ap (λ (v : List Item). xs ++ v) (rw z at (F .items))) }
 
 module _ {f : List ℕ} {d u b kind : ℕ} {m : List ℕ} {t : Sums} {m' : List ℕ} {t' : Sums} (T : Told (ListItems f kind) (ListItems f kind) f d u b m t m' t') where
-  pub lists-bad : {before free : List ℕ} {m'' : List ℕ} {r : Sums} → kind < 9 → t' .good ≡ false → r .good ≡ false → Told (CountedFrom f kind before free) (FreedItems f kind) f d u b m t m'' r
+  pub lists-bad : {m'' : List ℕ} {r : Sums} → kind < 9 → t' .good ≡ false → r .good ≡ false → Told (FreedItems f kind) (FreedItems f kind) f d u b m t m'' r
   lists-bad h n k =
       told-first n k (λ zs is Y F. let w = lists-split f kind zs h F in (listItems kind (w .0), record { slots = w .0; list = w .1; are = refl }, w .2, w .4)) T
 
-  pub lists-more : {next n : ℕ} (free : List ℕ) {after : List ℕ} {m'' : List ℕ} {r : Sums} → t' .good ≡ true → kind < 9 → next ≡ kind + 1 → n ≡ t' .slots - t .slots → kind < length free
-      → Told (CountedFrom f next (take next (set free kind n)) after) (FreedItems f next) f d u b m' t' m'' r
-      → Told (CountedFrom f kind (take kind free) after) (FreedItems f kind) f d u b m t m'' r
-  lists-more {next} {n} free {after} g h e q room R =
+  pub lists-more : {next : ℕ} {m'' : List ℕ} {r : Sums} → t' .good ≡ true → kind < 9 → next ≡ kind + 1
+      → Told (FreedItems f next) (FreedItems f next) f d u b m' t' m'' r → Told (FreedItems f kind) (FreedItems f kind) f d u b m t m'' r
+  lists-more {next} g h e R =
       let K = T .holds g in
       let xs = K .items in
       let L = K .are in
       let l = L .slots in
       let z : next ≡ suc kind = omega arith in
-      let c : n ≡ length l = omega (arith, K .grown .slots, ap (sum isBody) (L .are), list-count kind l) in
       let own = sited-zero f d u b kind l (rw (L .are) (K .sited)) in
-      told-on xs (K .grown) (K .sited) (λ ys C. lists-join f kind next n free after xs ys z room L c C)
+      told-on xs (K .grown) (K .sited) (λ ys F. lists-join f kind next xs ys z L F)
       (λ zs is Y F.
       let w = lists-split f kind zs h F in
       let y = w .2 in
@@ -148,13 +135,7 @@ module _ {f : List ℕ} {d u b kind : ℕ} {m : List ℕ} {t : Sums} {m' : List 
       (y, rw z (w .3), w .4 ∙ ap (λ (v : List Item). v ++ y) (ap (listItems kind) same ∙ L .are)))
       R
 
--- nothing stands before the first list
-pub lists-begin : (free : List ℕ) → length free ≡ 9 → take 1 (set free 0 0) ≡ 0 ∷ []
-lists-begin free n = take-suc-set free 0 0 (omega arith)
-
-pub lists-end : {f : List ℕ} {d u b kind : ℕ} {m : List ℕ} {t : Sums} {before free : List ℕ} → kind ≡ 9 → free ≡ before → Tally u 0 t
-    → Told (CountedFrom f kind before free) (FreedItems f kind) f d u b m t m t
+pub lists-end : {f : List ℕ} {d u b kind : ℕ} {m : List ℕ} {t : Sums} → kind ≡ 9 → Tally u 0 t → Told (FreedItems f kind) (FreedItems f kind) f d u b m t m t
 unfolding ListsOf freed
-lists-end {before = before} e q T =
-    told-yes (T .good)
-    (record { items = []; are = record { at = record { lists = []; eight = omega arith; are = tt; items = refl }; counts = q ∙ sym (append-nil before) }; grown = grown-none; sited = tt; tally = T })
+lists-end e T =
+    told-yes (T .good) (record { items = []; are = record { lists = []; eight = omega arith; are = tt; items = refl }; grown = grown-none; sited = tt; tally = T })

@@ -1,7 +1,7 @@
 -- The items of the lists of freed slots.
 use Prim.Native.Nat.{ℕ, suc, _+_}
 use mathlib.Core.Path.{_≡_}
-use mathlib.Core.List.{List, [], _∷_, _++_, map}
+use mathlib.Core.List.{List, [], _∷_}
 use lib.ListN.{length}
 use Rattle.layout.specs.Number.{le}
 use Rattle.layout.specs.Place.{atHead}
@@ -35,11 +35,3 @@ pub record FreedItems (f : List ℕ) (kind : ℕ) (xs : List Item) : Type 0 wher
   pub eight : length lists + kind ≡ 9
   pub are : ListsOf f kind lists
   pub items : freed kind lists ≡ xs
-
--- and their lengths behind those counted before
-pub record CountedFrom (f : List ℕ) (kind : ℕ) (before free : List ℕ) (xs : List Item) : Type 0 where
-  pub at : FreedItems f kind xs
-  pub counts : free ≡ before ++ map length (at .lists)
-
-abbrev pub CountedItems : List ℕ → List ℕ → List Item → Type 0
-CountedItems f free = CountedFrom f 1 (0 ∷ []) free

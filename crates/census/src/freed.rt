@@ -10,7 +10,7 @@ ghost use mathlib.Core.Path.{_≡_};
 ghost use Prim.Native.Nat.{_+_, _<_, _≤_};
 ghost use lib.ListN.{length};
 ghost use Rattle.census.specs.Told.{Ground, Limits, Tally, Told};
-ghost use Rattle.census.specs.Freed.{ChainItems, ListItems, FreedItems, CountedItems};
+ghost use Rattle.census.specs.Freed.{ChainItems, ListItems, FreedItems};
 
 // The slots from `head` on, bodies of the kind.
 fn chain(
@@ -58,25 +58,15 @@ fn list(f: &[u8], map: &mut [u64], kind: usize, d: usize, u: usize, b: usize, t:
     kept(t)
 }
 
-// All eight, and how many slots each has, by kind. An empty list has none, and nothing of it is counted.
-pub fn lists(
-    f: &[u8],
-    map: &mut [u64],
-    free: &mut [usize; Kind::TABLE],
-    d: usize,
-    u: usize,
-    b: usize,
-    t: Sums,
-) -> Sums
-    requires { ⌜ Ground (now f) d u b × Limits d u b (length (now map)) × (length (now free) ≡ 9) × Tally u 0 t ⌝ }
-    ensures { λ r. ⌜ Told (CountedItems (now (f .entry)) (now (free .exit))) (FreedItems (now (f .entry)) 1) (now (f .entry)) d u b (now (map .entry)) t (now (map .exit)) r ⌝ }
+// All eight. An empty list has no slots, and nothing of it is counted.
+pub fn lists(f: &[u8], map: &mut [u64], d: usize, u: usize, b: usize, t: Sums) -> Sums
+    requires { ⌜ Ground (now f) d u b × Limits d u b (length (now map)) × Tally u 0 t ⌝ }
+    ensures { λ r. ⌜ Told (FreedItems (now (f .entry)) 1) (FreedItems (now (f .entry)) 1) (now (f .entry)) d u b (now (map .entry)) t (now (map .exit)) r ⌝ }
 {
-    free[0] = 0;
     let mut sums = kept(t);
     let mut kind = 1;
     while kind < Kind::TABLE {
         if Header::list_head(f, kind) == 0 {
-            free[kind] = 0;
             kind += 1;
             continue;
         }
@@ -84,7 +74,6 @@ pub fn lists(
         if !r.good {
             return r;
         }
-        free[kind] = r.slots - sums.slots;
         sums = r;
         kind += 1;
     }
