@@ -16,9 +16,10 @@ use Rattle.model.specs.Item.{Item, body, extent, inside, onSlot, cover, bulk, l
 use Rattle.model.specs.Frame.{Lay, LayKids, Root, bare, tree, items, itemsAll, Tree, Trees, RootAt, rootItems, Lists, freed, stateOf, Stands, Good}
 use Rattle.model.specs.Frame.Lay.{leaf, prefix, node}
 use Rattle.model.specs.Frame.LayKids.{nil, kid}
+use Rattle.model.specs.Promise.{CheckPromise}
 use Rattle.model.proofs.StringLaws.{clash}
 use Rattle.model.proofs.ItemLaws.{in-under, sum-app, sum-as}
-use Rattle.model.proofs.UniqueLaws.{lists-same, stands-unique}
+use Rattle.model.proofs.UniqueLaws.{lists-same}
 use Rattle.model.proofs.StandsGood.{bodied, leafy-other, sound-bodies}
 use Rattle.claims.specs.Units.{Each, Eighth, Within, Slotted, Seen}
 use Rattle.claims.proofs.UnitLaws.{fits-seen}
@@ -26,9 +27,9 @@ use Rattle.claims.proofs.SlotLaws.{slots-each, sound-made}
 use Rattle.shape.specs.Shape.{LengthFits, HeaderTold, numbersOf}
 use Rattle.census.specs.declared.Sums.{Sums}
 use Rattle.census.specs.Told.{isBody, isExtent, Limits, Ground, Tidy, Sited, Book, Held, Told}
-use Rattle.census.specs.Freed.{ListOf, ListsOf, FreedItems, CountedItems}
+use Rattle.census.specs.Freed.{ListOf, ListsOf, FreedItems}
 use Rattle.census.proofs.ToldLaws.{tidy-same, tidy-part, each-app, grown-on, book-on}
-use Rattle.audit.specs.Audit.{HeaderFits, RootItems, Closed, Closes, Counted, WholeTold, AuditTold}
+use Rattle.audit.specs.Audit.{HeaderFits, RootItems, Closed, Closes}
 use Rattle.audit.proofs.RootLaws.{root-unique}
 
 -- ---- sums over items
@@ -161,34 +162,26 @@ module _ {f : List ℕ} {d u b : ℕ} (H : HeaderFits f) (ed : d ≡ le 4 f atD)
     unfolding sum
     book = record { seen = fresh; slots = none .0 }
 
-    pub whole-root : {m' : List ℕ} {r : Sums} {free : List ℕ} → Told (RootItems f s) (RootItems f s) f d u b m t m' r → r .good ≡ false → WholeTold f false free
-    whole-root T n =
-        record {
-          holds = λ e. clash (cc);
-          fails = λ e G.
-              let S = G .1 in
-              let xs = rootItems (S .root) in
-              let ys = freed 1 (S .lists) in
-              T .fails n [] book xs (root-of (G .0) S es)
-              (tidy-part ys (xs ++ []) (λ v. omega (arith, sum-app v xs ys, sum-app v ys (xs ++ []), sum-app v xs [], none-sum v)) (stands-tidy (G .0) S));
-        }
+    pub whole-root : {m' : List ℕ} {r : Sums} → Told (RootItems f s) (RootItems f s) f d u b m t m' r → r .good ≡ false → Good edition1 f → ⊥
+    whole-root T n G =
+        let S = G .1 in
+        let xs = rootItems (S .root) in
+        let ys = freed 1 (S .lists) in
+        T .fails n [] book xs (root-of (G .0) S es)
+        (tidy-part ys (xs ++ []) (λ v. omega (arith, sum-app v xs ys, sum-app v ys (xs ++ []), sum-app v xs [], none-sum v)) (stands-tidy (G .0) S))
 
     module _ {m' : List ℕ} {r : Sums} (K : Held (RootItems f s) f d u b m t m' r) where
-      pub whole-lists : {m'' : List ℕ} {q : Sums} {counts free : List ℕ} → Told (CountedItems f counts) (FreedItems f 1) f d u b m' r m'' q → q .good ≡ false → WholeTold f false free
-      whole-lists T n =
-          record {
-            holds = λ e. clash (cc);
-            fails = λ e G.
-                let S = G .1 in
-                let xs = rootItems (S .root) in
-                let ys = freed 1 (S .lists) in
-                let ks = K .items in
-                let same = root-unique f s ks xs (K .are) (root-of (G .0) S es) in
-                T .fails n (ks ++ []) (book-on ks book (K .grown)) ys (all-lists f (S .lists) (S .heap .lists))
-                (tidy-same (λ v. omega (arith, sum-app v xs ys, ap (sum v) same, sum-app v ys (ks ++ []), sum-app v ks [], none-sum v)) (stands-tidy (G .0) S));
-          }
+      pub whole-lists : {m'' : List ℕ} {q : Sums} → Told (FreedItems f 1) (FreedItems f 1) f d u b m' r m'' q → q .good ≡ false → Good edition1 f → ⊥
+      whole-lists T n G =
+          let S = G .1 in
+          let xs = rootItems (S .root) in
+          let ys = freed 1 (S .lists) in
+          let ks = K .items in
+          let same = root-unique f s ks xs (K .are) (root-of (G .0) S es) in
+          T .fails n (ks ++ []) (book-on ks book (K .grown)) ys (all-lists f (S .lists) (S .heap .lists))
+          (tidy-same (λ v. omega (arith, sum-app v xs ys, ap (sum v) same, sum-app v ys (ks ++ []), sum-app v ks [], none-sum v)) (stands-tidy (G .0) S))
 
-      module _ {m'' : List ℕ} {q : Sums} {free : List ℕ} (J : Held (CountedItems f free) f d u b m' r m'' q) where
+      module _ {m'' : List ℕ} {q : Sums} (J : Held (FreedItems f 1) f d u b m' r m'' q) where
         -- the sums of a good frame close
         pub whole-open : (Closed f (q .slots) (q .bytes) (r .leaves) → ⊥) → Good edition1 f → ⊥
         whole-open n G =
@@ -198,7 +191,7 @@ module _ {f : List ℕ} {d u b : ℕ} (H : HeaderFits f) (ed : d ≡ le 4 f atD)
             let h = S .heap .header in
             let o = S .heap .sound in
             let same = root-unique f s (K .items) xs (K .are) (root-of (G .0) S es) in
-            let F = J .are .at in
+            let F = J .are in
             let ls = F .lists in
             let eight = F .eight in
             let zx : sum (onSlot 0) (freed 1 ls) ≡ 0 = ap (sum (onSlot 0)) (F .items) ∙ sited-none f d u b (J .items) (J .sited) in
@@ -211,12 +204,12 @@ module _ {f : List ℕ} {d u b : ℕ} (H : HeaderFits f) (ed : d ≡ le 4 f atD)
               accounted = omega (arith, K .grown .bytes, J .grown .bytes, ap (sum bulk) same, ap (sum bulk) free-same, sum-app bulk xs ys, o .accounted, h .dataAt, h .bumpAt, h .deadAt, none .1);
             })
 
-        pub whole-good : Closed f (q .slots) (q .bytes) (r .leaves) → Counted f free
+        pub whole-good : Closed f (q .slots) (q .bytes) (r .leaves) → Good edition1 f
         whole-good C =
             let xs = K .items in
             let ys = J .items in
             let is = xs ++ ys in
-            let F = J .are .at in
+            let F = J .are in
             let ls = F .lists in
             let eight = F .eight in
             let W = K .are in
@@ -229,26 +222,23 @@ module _ {f : List ℕ} {d u b : ℕ} (H : HeaderFits f) (ed : d ≡ le 4 f atD)
             (omega (arith, G .slots, none .0, C .slotsAre, eu, sum-as isBody bodied body-is is)) in
             let sound = sound-made {x = le 4 f atX} slots fits (omega (arith, G .bytes, none .1, C .accounted, ed, eb)) in
             let h = H .header in
+            (stateOf (numbersOf f) ls (W .root),
             record {
-              state = stateOf (numbersOf f) ls (W .root);
-              stands = record {
-                bytes = H .bytes;
-                nums = numbersOf f;
-                lists = ls;
-                root = W .root;
-                heap = record {
-                  header = h;
-                  lists = lists-all f ls (omega arith) (F .are);
-                  sound = sound-as (ed ∙ h .dataAt) eu eb (join (sym (W .are)) (sym (F .items))) sound;
-                };
-                editionIs = H .edition;
-                rootIs = sym es ∙ sym (W .slot);
-                rootAt = W .at;
-                counted = omega (arith, K .grown .leaves, none .2, C .leavesAre, ap (sum isExtent) (W .are), root-leaves f (W .root) (W .at));
-                state = refl;
+              bytes = H .bytes;
+              nums = numbersOf f;
+              lists = ls;
+              root = W .root;
+              heap = record {
+                header = h;
+                lists = lists-all f ls (omega arith) (F .are);
+                sound = sound-as (ed ∙ h .dataAt) eu eb (join (sym (W .are)) (sym (F .items))) sound;
               };
-              counts = J .are .counts;
-            }
+              editionIs = H .edition;
+              rootIs = sym es ∙ sym (W .slot);
+              rootAt = W .at;
+              counted = omega (arith, K .grown .leaves, none .2, C .leavesAre, ap (sum isExtent) (W .are), root-leaves f (W .root) (W .at));
+              state = refl;
+            })
 
 -- ---- the verdict
 
@@ -258,30 +248,19 @@ good-length s S =
     let e = h .size in
     record { limits = rw e (h .limits); stored = h .stored ∙ sym e }
 
-module _ {f free : List ℕ} {n : ℕ} where
-  pub audit-length : (LengthFits f → ⊥) → n ≡ 1 → AuditTold f n free
+module _ {f : List ℕ} {n : ℕ} where
+  pub audit-length : (LengthFits f → ⊥) → n ≡ 1 → CheckPromise edition1 f n
   audit-length nay e =
       record {
-        promise = record {
-          told = record { length1 = λ q. e; bad2 = λ L q. absurd (nay (record { limits = L .0; stored = L .1 })); good = λ a b. absurd (a e) };
-          good0 = λ G. absurd (nay (good-length (G .0) (G .1)));
-        };
-        counts = λ s w. absurd (nay (good-length s w));
+        told = record { length1 = λ q. e; bad2 = λ L q. absurd (nay (record { limits = L .0; stored = L .1 })); good = λ a b. absurd (a e) };
+        good0 = λ G. absurd (nay (good-length (G .0) (G .1)));
       }
 
-  pub audit-bad : LengthFits f → (Good edition1 f → ⊥) → n ≡ 2 → AuditTold f n free
-  audit-bad L nay e =
-      record {
-        promise = record { told = record { length1 = λ q. absurd (q (L .limits, L .stored)); bad2 = λ K q. e; good = λ a b. absurd (b e) }; good0 = λ G. absurd (nay G) };
-        counts = λ s w. absurd (nay (s, w));
-      }
+  pub audit-bad : LengthFits f → (Good edition1 f → ⊥) → n ≡ 2 → CheckPromise edition1 f n
+  audit-bad L nay e = record { told = record { length1 = λ q. absurd (q (L .limits, L .stored)); bad2 = λ K q. e; good = λ a b. absurd (b e) }; good0 = λ G. absurd (nay G) }
 
-  pub audit-good : LengthFits f → Counted f free → n ≡ 0 → AuditTold f n free
-  audit-good L C e =
-      record {
-        promise = record { told = record { length1 = λ z. absurd (z (L .limits, L .stored)); bad2 = λ K z. absurd (z (C .state, C .stands)); good = λ a b. (C .state, C .stands) }; good0 = λ G. e };
-        counts = λ s w. C .counts ∙ ap (λ (x : State). x .free) (stands-unique edition1 f (C .state) s (C .stands) w);
-      }
+  pub audit-good : LengthFits f → Good edition1 f → n ≡ 0 → CheckPromise edition1 f n
+  audit-good L G e = record { told = record { length1 = λ z. absurd (z (L .limits, L .stored)); bad2 = λ K z. absurd (z G); good = λ a b. G }; good0 = λ H. e }
 
 -- a header that no good frame has
 pub header-none : {f : List ℕ} {g : Bool} → HeaderTold f g → g ≡ false → Good edition1 f → ⊥

@@ -1,4 +1,4 @@
--- What the check promises: the model's promise of its number, and of a good frame the free counts of the state.
+-- The items of a root, and the sums that close a good frame.
 use Prim.Native.Nat.{ℕ, _+_, _≤_}
 use mathlib.Core.Path.{_≡_}
 use mathlib.Core.List.{List, [], _∷_}
@@ -7,12 +7,10 @@ use Rattle.layout.specs.Number.{le, Bytes}
 use Rattle.layout.specs.Place.{atEdition, atD, atB, atU, atR, atX}
 use Rattle.layout.specs.Kind.{EmptyRoot}
 use Rattle.model.specs.Edition.{edition1}
-use Rattle.model.specs.State.{State}
 use Rattle.model.specs.Item.{Item, body}
 use Rattle.model.specs.Body.{Zero}
-use Rattle.model.specs.Frame.{Root, RootAt, rootSlot, rootItems, Stands, Good}
+use Rattle.model.specs.Frame.{Root, RootAt, rootSlot, rootItems}
 use Rattle.model.specs.Frame as frame
-use Rattle.model.specs.Promise.{CheckPromise}
 use Rattle.shape.specs.Shape.{numbersOf}
 use Rattle.census.specs.declared.Sums.{Sums}
 use Rattle.census.specs.Told.{Told}
@@ -47,18 +45,3 @@ pub record Closed (f : List ℕ) (slots bytes leaves : ℕ) : Type 0 where
 pub record Closes (f : List ℕ) (slots bytes leaves : ℕ) (r : Bool) : Type 0 where
   pub holds : r ≡ true → Closed f slots bytes leaves
   pub fails : r ≡ false → Closed f slots bytes leaves → ⊥
-
--- the frame stands for a state whose lists have these lengths; or for none
-pub record Counted (f free : List ℕ) : Type 0 where
-  pub state : State
-  pub stands : Stands edition1 f state
-  pub counts : free ≡ state .free
-
-pub record WholeTold (f : List ℕ) (good : Bool) (free : List ℕ) : Type 0 where
-  pub holds : good ≡ true → Counted f free
-  pub fails : good ≡ false → Good edition1 f → ⊥
-
--- n: the number given
-pub record AuditTold (f : List ℕ) (n : ℕ) (free : List ℕ) : Type 0 where
-  pub promise : CheckPromise edition1 f n
-  pub counts : (s : State) → Stands edition1 f s → free ≡ s .free

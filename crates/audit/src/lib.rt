@@ -2,12 +2,10 @@
 pub mod walk;
 pub mod whole;
 
-use layout::kind::Kind;
 use shape::header::header_good;
 use shape::header::length_good;
-ghost use mathlib.Core.Path.{_≡_};
-ghost use lib.ListN.{length};
-ghost use Rattle.audit.specs.Audit.{AuditTold};
+ghost use Rattle.model.specs.Edition.{edition1};
+ghost use Rattle.model.specs.Promise.{CheckPromise};
 
 // document 01's numbers
 pub const GOOD: usize = 0;
@@ -16,11 +14,9 @@ pub const BAD_LENGTH: usize = 1;
 
 pub const BAD_FRAME: usize = 2;
 
-// 1 exactly if the slice's length is outside F's limits or differs from the stored F, 0 exactly if the frame is good, else 2. Of a
-// good frame `free` tells how many slots each list has, by kind.
-pub fn check(f: &[u8], free: &mut [usize; Kind::TABLE]) -> usize
-    requires { ⌜ length (now free) ≡ 9 ⌝ }
-    ensures { λ r. ⌜ AuditTold (now (f .entry)) r (now (free .exit)) ⌝ }
+// 1 exactly if the slice's length is outside F's limits or differs from the stored F, 0 exactly if the frame is good, else 2.
+pub fn check(f: &[u8]) -> usize
+    ensures { λ r. ⌜ CheckPromise edition1 (now (f .entry)) r ⌝ }
 {
     if !length_good(f) {
         return BAD_LENGTH;
@@ -28,7 +24,7 @@ pub fn check(f: &[u8], free: &mut [usize; Kind::TABLE]) -> usize
     if !header_good(f) {
         return BAD_FRAME;
     }
-    if !whole::all(f, free) {
+    if !whole::all(f) {
         return BAD_FRAME;
     }
     GOOD

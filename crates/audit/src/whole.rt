@@ -1,4 +1,4 @@
-// The root with all below it, the lists of freed slots with their counts by kind, and the sums over both.
+// The root with all below it, the lists of freed slots, and the sums over both.
 use crate::walk::tree;
 use census::Sums;
 use census::freed::lists;
@@ -14,10 +14,13 @@ ghost use mathlib.Core.Path.{_≡_};
 ghost use mathlib.Core.List.{[]};
 ghost use Prim.Native.Nat.{_+_, _-_, _*_, _%_, _<_, _≤_};
 ghost use lib.ListN.{length};
+ghost use Rattle.model.specs.Edition.{edition1};
+ghost use Rattle.model.specs.Frame.{Good};
+ghost use Rattle.pieces.specs.Decides.{Decides};
 ghost use Rattle.claims.specs.Units.{Seen};
 ghost use Rattle.census.specs.Told.{Ground, Limits, Tally, Told};
 ghost use Rattle.audit.specs.Walk.{At};
-ghost use Rattle.audit.specs.Audit.{HeaderFits, RootItems, EmptyTold, Closes, WholeTold};
+ghost use Rattle.audit.specs.Audit.{HeaderFits, RootItems, EmptyTold, Closes};
 
 // An EmptyRoot whose body lies at o.
 fn empty(f: &[u8], map: &mut [u64], o: usize, d: usize, u: usize, b: usize, t: Sums) -> Sums
@@ -86,9 +89,9 @@ fn closes(f: &[u8], slots: usize, bytes: usize, leaves: usize) -> bool
 }
 
 // All, with a map of units that is still zero.
-fn over(f: &[u8], map: &mut [u64], free: &mut [usize; Kind::TABLE]) -> bool
-    requires { ⌜ HeaderFits (now f) × (length (now f) ≤ 512 * length (now map)) × Seen (now map) [] × (length (now free) ≡ 9) ⌝ }
-    ensures { λ r. ⌜ WholeTold (now (f .entry)) r (now (free .exit)) ⌝ }
+fn over(f: &[u8], map: &mut [u64]) -> bool
+    requires { ⌜ HeaderFits (now f) × (length (now f) ≤ 512 * length (now map)) × Seen (now map) [] ⌝ }
+    ensures { λ r. ⌜ Decides (Good edition1 (now (f .entry))) r ⌝ }
 {
     let d = Header::data_start(f);
     let u = Header::slots_given(f);
@@ -103,7 +106,7 @@ fn over(f: &[u8], map: &mut [u64], free: &mut [usize; Kind::TABLE]) -> bool
     if !r.good {
         return false;
     }
-    let l = lists(f, map, free, d, u, b, r);
+    let l = lists(f, map, d, u, b, r);
     if !l.good {
         return false;
     }
@@ -121,40 +124,40 @@ const SMALLEST_FRAME: usize = 4096;
 
 const SMALL_FRAME: usize = 16384;
 
-fn smallest(f: &[u8], free: &mut [usize; Kind::TABLE]) -> bool
-    requires { ⌜ HeaderFits (now f) × (length (now f) ≤ 4096) × (length (now free) ≡ 9) ⌝ }
-    ensures { λ r. ⌜ WholeTold (now (f .entry)) r (now (free .exit)) ⌝ }
+fn smallest(f: &[u8]) -> bool
+    requires { ⌜ HeaderFits (now f) × (length (now f) ≤ 4096) ⌝ }
+    ensures { λ r. ⌜ Decides (Good edition1 (now (f .entry))) r ⌝ }
 {
     let mut map: [u64; SMALLEST_MAP] = [0; SMALLEST_MAP];
-    over(f, &mut map, free)
+    over(f, &mut map)
 }
 
-fn small(f: &[u8], free: &mut [usize; Kind::TABLE]) -> bool
-    requires { ⌜ HeaderFits (now f) × (length (now f) ≤ 16384) × (length (now free) ≡ 9) ⌝ }
-    ensures { λ r. ⌜ WholeTold (now (f .entry)) r (now (free .exit)) ⌝ }
+fn small(f: &[u8]) -> bool
+    requires { ⌜ HeaderFits (now f) × (length (now f) ≤ 16384) ⌝ }
+    ensures { λ r. ⌜ Decides (Good edition1 (now (f .entry))) r ⌝ }
 {
     let mut map: [u64; SMALL_MAP] = [0; SMALL_MAP];
-    over(f, &mut map, free)
+    over(f, &mut map)
 }
 
-fn large(f: &[u8], free: &mut [usize; Kind::TABLE]) -> bool
-    requires { ⌜ HeaderFits (now f) × (length (now free) ≡ 9) ⌝ }
-    ensures { λ r. ⌜ WholeTold (now (f .entry)) r (now (free .exit)) ⌝ }
+fn large(f: &[u8]) -> bool
+    requires { ⌜ HeaderFits (now f) ⌝ }
+    ensures { λ r. ⌜ Decides (Good edition1 (now (f .entry))) r ⌝ }
 {
     let mut map: [u64; LARGE_MAP] = [0; LARGE_MAP];
-    over(f, &mut map, free)
+    over(f, &mut map)
 }
 
 // All, with a map on the stack that is no larger than it need be.
-pub fn all(f: &[u8], free: &mut [usize; Kind::TABLE]) -> bool
-    requires { ⌜ HeaderFits (now f) × (length (now free) ≡ 9) ⌝ }
-    ensures { λ r. ⌜ WholeTold (now (f .entry)) r (now (free .exit)) ⌝ }
+pub fn all(f: &[u8]) -> bool
+    requires { ⌜ HeaderFits (now f) ⌝ }
+    ensures { λ r. ⌜ Decides (Good edition1 (now (f .entry))) r ⌝ }
 {
     if f.len() <= SMALLEST_FRAME {
-        return smallest(f, free);
+        return smallest(f);
     }
     if f.len() <= SMALL_FRAME {
-        return small(f, free);
+        return small(f);
     }
-    large(f, free)
+    large(f)
 }

@@ -26,7 +26,7 @@ all-requires : tie.Need-all-requires
 all-requires c κs =
     let k = c .before .before .before .before .before in
     let T = c .before .before .header-good .ensures .holds (not-false _ (c .before .if2 .left)) in
-    (record { bytes = λ a. omega (arith, k .shared-slice-known .given a); header = T .0; edition = T .1 }, k .before .pre)
+    record { bytes = λ a. omega (arith, k .shared-slice-known .given a); header = T .0; edition = T .1 }
 
 returns-3 : tie.Need-returns-3
 returns-3 c =

@@ -9,7 +9,7 @@ slice-aggregate-over : tie.Need-slice-aggregate-over
 slice-aggregate-over c = search needs
 
 over-requires : tie.Need-over-requires
-over-requires c κs = let p = c .before .before .before .pre in let h = p .0 .header in (p .0, omega (arith, h .size, h .limits), bit-fresh 1024, p .1)
+over-requires c κs = let p = c .before .before .pre in let h = p .header in (p, omega (arith, h .size, h .limits), bit-fresh 1024)
 
 returns : tie.Need-returns
 returns c = search needs

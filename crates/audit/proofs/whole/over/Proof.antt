@@ -2,6 +2,7 @@
 use mathlib.Core.Path.{refl}
 use native.Mathlib.Omega.{arith}
 use borrow.Author.Tests.{not-true, not-false}
+use Rattle.pieces.proofs.DecideLaws.{denied}
 use Rattle.audit.proofs.WholeLaws.{ground-of, limits-of, whole-root, whole-lists, whole-open, whole-good}
 use borrow.Author.Needs.{needs}
 use Rattle.audit.proofs.whole.over.Statement.{statement}
@@ -35,15 +36,15 @@ returns c =
     let b = R .before .before .before in
     let d = b .before .before in
     let p = d .before .before .before .pre in
-    whole-root (p .0) (d .data-start .ensures .0) (b .before .slots-given .ensures .0) (b .next-byte .ensures .0) (R .before .root .ensures .0) (p .2) (refl, refl, refl) (R .root2 .ensures) (not-true _ (c .if1 .taken))
+    denied (whole-root (p .0) (d .data-start .ensures .0) (b .before .slots-given .ensures .0) (b .next-byte .ensures .0) (R .before .root .ensures .0) (p .2) (refl, refl, refl) (R .root2 .ensures) (not-true _ (c .if1 .taken)))
 
 lists-requires : tie.Need-lists-requires
 lists-requires c κs =
-    let R = c .before .before .before .before .before .before in
+    let R = c .before .before .before .before .before in
     let b = R .before .before .before in
     let d = b .before .before in
     let p = d .before .before .before .pre in
-    (ground-of (p .0) (d .data-start .ensures .0) (b .before .slots-given .ensures .0) (b .next-byte .ensures .0), limits-of (p .0) (d .data-start .ensures .0) (b .before .slots-given .ensures .0) (b .next-byte .ensures .0) (omega (arith, p .1)), p .3, R .root2 .ensures .holds (not-false _ (c .before .before .if1 .left)) .tally)
+    (ground-of (p .0) (d .data-start .ensures .0) (b .before .slots-given .ensures .0) (b .next-byte .ensures .0), limits-of (p .0) (d .data-start .ensures .0) (b .before .slots-given .ensures .0) (b .next-byte .ensures .0) (omega (arith, p .1)), R .root2 .ensures .holds (not-false _ (c .before .if1 .left)) .tally)
 
 same-length-2 : tie.Need-same-length-2
 same-length-2 c = search needs
@@ -51,16 +52,16 @@ same-length-2 c = search needs
 returns-2 : tie.Need-returns-2
 returns-2 c =
     let L = c .before .before .before .before in
-    let R = L .before .before .before .before .before .before .before in
+    let R = L .before .before .before .before .before .before in
     let b = R .before .before .before in
     let d = b .before .before in
     let p = d .before .before .before .pre in
-    whole-lists (p .0) (d .data-start .ensures .0) (b .before .slots-given .ensures .0) (b .next-byte .ensures .0) (R .before .root .ensures .0) (p .2) (refl, refl, refl) (R .root2 .ensures .holds (not-false _ (L .before .before .before .if1 .left))) (L .lists .ensures) (not-true _ (c .if2 .taken))
+    denied (whole-lists (p .0) (d .data-start .ensures .0) (b .before .slots-given .ensures .0) (b .next-byte .ensures .0) (R .before .root .ensures .0) (p .2) (refl, refl, refl) (R .root2 .ensures .holds (not-false _ (L .before .before .if1 .left))) (L .lists .ensures) (not-true _ (c .if2 .taken)))
 
 closes-requires : tie.Need-closes-requires
 closes-requires c κs =
     let L = c .before .before .before .before in
-    let u = L .before .before .before .before .before .before .before .before .before .before .before in
+    let u = L .before .before .before .before .before .before .before .before .before .before in
     let h = u .before .before .before .before .pre .0 .header in
     let J = L .lists .ensures .holds (not-false _ (c .if2 .left)) .tally in
     (omega (arith, h .size, h .limits), omega (arith, J .bytes, J .slots, h .givenIn, h .slotCap, u .slots-given .ensures .0))
@@ -71,11 +72,11 @@ same-length-3 c = search needs
 returns-3 : tie.Need-returns-3
 returns-3 c =
     let L = c .before .before .before .before .before in
-    let R = L .before .before .before .before .before .before .before in
+    let R = L .before .before .before .before .before .before in
     let b = R .before .before .before in
     let d = b .before .before in
     let p = d .before .before .before .pre in
-    let K = R .root2 .ensures .holds (not-false _ (L .before .before .before .if1 .left)) in
+    let K = R .root2 .ensures .holds (not-false _ (L .before .before .if1 .left)) in
     let J = L .lists .ensures .holds (not-false _ (c .before .if2 .left)) in
     let C = c .closes .ensures in
     record {
