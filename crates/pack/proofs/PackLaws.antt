@@ -16,7 +16,6 @@ use Rattle.model.specs.Promise.{Told, CheckPromise, PackPromise}
 use Rattle.model.proofs.StringLaws.{clash}
 use Rattle.model.proofs.UniqueLaws.{stands-unique}
 use Rattle.model.proofs.StandsGood.{stands-heads}
-use Rattle.audit.specs.Audit.{AuditTold}
 use Rattle.pack.specs.Image.{Known, Imaged}
 
 -- ---- the check refuses
@@ -24,10 +23,7 @@ use Rattle.pack.specs.Image.{Known, Imaged}
 refused : (f o : List ℕ) (n : ℕ) → CheckPromise edition1 f n → (n ≡ 0 → ⊥) → PackPromise edition1 f o n o
 refused f o n p ne = record { told = p .told; output7 = λ g x. absurd (ne (p .good0 g)); packed0 = λ s w e. absurd (ne (p .good0 (s, w))); kept = λ x. refl }
 
-module _ {f : List ℕ} {free : List ℕ} {n : ℕ} (A : AuditTold f n free) where
-  promised : CheckPromise edition1 f n
-  promised = A .promise
-
+module _ {f : List ℕ} {n : ℕ} (promised : CheckPromise edition1 f n) where
   pub pack-one : (o : List ℕ) → n ≡ 1 → PackPromise edition1 f o 1 o
   pack-one o z = refused f o 1 (rw z at promised) (λ x. omega arith)
 

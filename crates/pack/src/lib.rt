@@ -6,7 +6,6 @@ mod walk;
 use answers::Pack;
 use answers::Refusal;
 use fields::header::Header;
-use layout::kind::Kind;
 ghost use Rattle.answers.specs.Number.{packNumber};
 ghost use Rattle.model.specs.Edition.{edition1};
 ghost use Rattle.model.specs.Promise.{PackPromise};
@@ -15,8 +14,7 @@ ghost use Rattle.model.specs.Promise.{PackPromise};
 pub fn pack(frame: &[u8], out: &mut [u8]) -> Pack
     ensures { λ r. ⌜ PackPromise edition1 (now (frame .entry)) (now (out .entry)) (packNumber r) (now (out .exit)) ⌝ }
 {
-    let mut free: [usize; Kind::TABLE] = [0; Kind::TABLE];
-    let n = audit::check(frame, &mut free);
+    let n = audit::check(frame);
     if n == audit::BAD_LENGTH {
         return Pack::Refused(Refusal::Length);
     }

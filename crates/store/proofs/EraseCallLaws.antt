@@ -10,11 +10,8 @@ use Rattle.model.specs.State.{State, Done, done, unless, callErase, onErase}
 use Rattle.model.specs.Frame.{Good}
 use Rattle.model.specs.Promise.{changes, CheckPromise, ErasePromise}
 use Rattle.model.proofs.TextLaws.{bytes-all}
-use Rattle.audit.specs.Audit.{AuditTold}
-use Rattle.room.specs.declared.fit.Room.{Room}
-use Rattle.erase_core.specs.Core.{Left, Roomed, EraseMade}
+use Rattle.erase_core.specs.Core.{Left, Asked, EraseMade}
 use Rattle.erase_core.proofs.CoreLaws.{never-zero, left-same}
-use Rattle.store.specs.Left.{RoomLeft}
 use Rattle.store.proofs.LookLaws.{told-good, check-two, key-four, standing}
 
 module _ (f k : List ℕ) where
@@ -56,10 +53,7 @@ module _ (f k : List ℕ) where
 
 -- ---- the ends, by the tests that led there: n is the check's number, e the key's fault
 
-module _ (f k : List ℕ) {n : ℕ} {free : List ℕ} (T : AuditTold f n free) where
-  checked : CheckPromise edition1 f n
-  checked = T .promise
-
+module _ (f k : List ℕ) {n : ℕ} (checked : CheckPromise edition1 f n) where
   pub erase-one : n ≡ 1 → ErasePromise edition1 f k 1 f
   erase-one e = refused-frame f k 1 (rw e at checked) (λ z. omega arith)
 
@@ -68,7 +62,7 @@ module _ (f k : List ℕ) {n : ℕ} {free : List ℕ} (T : AuditTold f n free) w
 
   module _ (good : n ≡ 0) where
     stands : Good edition1 f
-    stands = let S = standing f k n (T .promise) good in (S .st, S .stands)
+    stands = let S = standing f k n checked good in (S .st, S .stands)
 
     module _ {e : ℕ} (fault : e ≡ edition1 .keyFault k) where
       pub erase-three : e ≡ 3 → ErasePromise edition1 f k 3 f
@@ -78,14 +72,8 @@ module _ (f k : List ℕ) {n : ℕ} {free : List ℕ} (T : AuditTold f n free) w
       erase-four x y = refused-key f k stands 4 refl (key-is f k 4 (key-four k (λ z. y (fault ∙ z)) (λ z. x (fault ∙ z))))
 
       module _ (legal : e ≡ 0) where
-        pub erase-roomed : {r : Room} → RoomLeft f free r → Bytes k → Roomed f k r
-        erase-roomed R bk =
-            record {
-              st = stands .0;
-              stands = stands .1;
-              legal = record { passes = sym fault ∙ legal; bytes = bytes-all k bk };
-              room = R .of (stands .0) (stands .1) (T .counts (stands .0) (stands .1));
-            }
+        pub erase-asked : Bytes k → Asked f k
+        erase-asked bk = record { st = stands .0; stands = stands .1; legal = record { passes = sym fault ∙ legal; bytes = bytes-all k bk } }
 
         pub erase-made : {x : ℕ} {f' : List ℕ} → EraseMade f k x f' → ErasePromise edition1 f k x f'
         erase-made M = made f k stands (key-is f k 0 (sym fault ∙ legal)) M

@@ -13,11 +13,8 @@ use Rattle.model.specs.State.{State, Done, done, unless, callPut, onPut}
 use Rattle.model.specs.Frame.{Good}
 use Rattle.model.specs.Promise.{changes, CheckPromise, PutPromise}
 use Rattle.model.proofs.TextLaws.{bytes-all}
-use Rattle.audit.specs.Audit.{AuditTold}
-use Rattle.room.specs.declared.fit.Room.{Room}
-use Rattle.put_core.specs.Core.{Left, Roomed, PutMade}
+use Rattle.put_core.specs.Core.{Left, Asked, PutMade}
 use Rattle.put_core.proofs.CoreLaws.{left-same}
-use Rattle.store.specs.Left.{RoomLeft}
 use Rattle.store.proofs.LookLaws.{told-good, check-two, key-four, standing}
 
 module _ (f k v : List ℕ) where
@@ -47,10 +44,7 @@ module _ (f k v : List ℕ) where
 
 -- ---- the ends, by the tests that led there: n is the check's number, e the key's fault
 
-module _ (f k v : List ℕ) {n : ℕ} {free : List ℕ} (T : AuditTold f n free) where
-  checked : CheckPromise edition1 f n
-  checked = T .promise
-
+module _ (f k v : List ℕ) {n : ℕ} (checked : CheckPromise edition1 f n) where
   pub put-one : n ≡ 1 → PutPromise edition1 f k v 1 f
   put-one e = refused-frame f k v 1 (rw e at checked) (λ z. omega arith)
 
@@ -59,7 +53,7 @@ module _ (f k v : List ℕ) {n : ℕ} {free : List ℕ} (T : AuditTold f n free)
 
   module _ (good : n ≡ 0) where
     stands : Good edition1 f
-    stands = let S = standing f k n (T .promise) good in (S .st, S .stands)
+    stands = let S = standing f k n checked good in (S .st, S .stands)
 
     module _ {e : ℕ} (fault : e ≡ edition1 .keyFault k) where
       pub put-three : e ≡ 3 → PutPromise edition1 f k v 3 f
@@ -73,14 +67,13 @@ module _ (f k v : List ℕ) {n : ℕ} {free : List ℕ} (T : AuditTold f n free)
         put-five l = refused f k v stands 5 refl (value-is f k v 5 (sym fault ∙ legal) (ap (λ b. pick b 5 0) (lt-ltb 65535 (length v) l)))
 
         module _ (short : length v ≤ 65535) where
-          pub put-roomed : {r : Room} → RoomLeft f free r → Bytes k → Bytes v → Roomed f k v r
-          put-roomed R bk bv =
+          pub put-asked : Bytes k → Bytes v → Asked f k v
+          put-asked bk bv =
               record {
                 st = stands .0;
                 stands = stands .1;
                 legal = record { passes = sym fault ∙ legal; bytes = bytes-all k bk };
                 legalValue = record { passes = short; bytes = bytes-all v bv };
-                room = R .of (stands .0) (stands .1) (T .counts (stands .0) (stands .1));
               }
 
           pub put-made : {x : ℕ} {f' : List ℕ} → PutMade f k v x f' → PutPromise edition1 f k v x f'

@@ -1,9 +1,7 @@
 // Erase: refused in the order of document 01, absent, or done.
-use crate::left;
 use answers::Erase;
 use answers::Refusal;
 use descent::key;
-use layout::kind::Kind;
 ghost use Rattle.answers.specs.Number.{eraseNumber};
 ghost use Rattle.model.specs.Edition.{edition1};
 ghost use Rattle.model.specs.Promise.{ErasePromise};
@@ -11,8 +9,7 @@ ghost use Rattle.model.specs.Promise.{ErasePromise};
 pub fn erase(frame: &mut [u8], key: &[u8]) -> Erase
     ensures { λ r. ⌜ ErasePromise edition1 (now (frame .entry)) (now (key .entry)) (eraseNumber r) (now (frame .exit)) ⌝ }
 {
-    let mut free: [usize; Kind::TABLE] = [0; Kind::TABLE];
-    let n = audit::check(frame, &mut free);
+    let n = audit::check(frame);
     if n == audit::BAD_LENGTH {
         return Erase::Refused(Refusal::Length);
     }
@@ -26,5 +23,5 @@ pub fn erase(frame: &mut [u8], key: &[u8]) -> Erase
     if fault != 0 {
         return Erase::Refused(Refusal::KeyZero);
     }
-    erase_core::erase(frame, key, left::room_left(frame, free))
+    erase_core::erase(frame, key)
 }

@@ -1,6 +1,5 @@
 // The public calls on one lent frame. None of them asks anything of its caller.
 pub mod erase;
 pub mod format;
-mod left;
 pub mod look;
 pub mod put;

@@ -4,7 +4,6 @@ use answers::LookUp;
 use answers::Refusal;
 use descent::key;
 use descent::lookup;
-use layout::kind::Kind;
 ghost use mathlib.Core.Path.{_≡_};
 ghost use denote.Ref.{ptr};
 ghost use Rattle.answers.specs.Number.{checkNumber, lookUpPlace, lookUpLong};
@@ -15,8 +14,7 @@ ghost use Rattle.store.specs.Found.{foundIn, ValueAt};
 pub fn check(frame: &[u8]) -> Check
     ensures { λ r. ⌜ CheckPromise edition1 (now (frame .entry)) (checkNumber r) ⌝ }
 {
-    let mut free: [usize; Kind::TABLE] = [0; Kind::TABLE];
-    let n = audit::check(frame, &mut free);
+    let n = audit::check(frame);
     if n == audit::BAD_LENGTH {
         return Check::Refused(Refusal::Length);
     }
@@ -29,8 +27,7 @@ pub fn check(frame: &[u8]) -> Check
 pub fn look_up(frame: &[u8], key: &[u8]) -> LookUp
     ensures { λ r. ⌜ LookUpPromise edition1 (now (frame .entry)) (now (key .entry)) (foundIn r) ⌝ }
 {
-    let mut free: [usize; Kind::TABLE] = [0; Kind::TABLE];
-    let n = audit::check(frame, &mut free);
+    let n = audit::check(frame);
     if n == audit::BAD_LENGTH {
         return LookUp::Refused(Refusal::Length);
     }
@@ -56,8 +53,7 @@ pub fn look_up(frame: &[u8], key: &[u8]) -> LookUp
 pub fn value<'a>(frame: &'a [u8], key: &[u8]) -> &'a [u8]
     ensures { λ r. ⌜ ValueAt (now (frame .entry)) (now (key .entry)) (ptr (frame .entry)) (ptr r) (now r) ⌝ }
 {
-    let mut free: [usize; Kind::TABLE] = [0; Kind::TABLE];
-    let n = audit::check(frame, &mut free);
+    let n = audit::check(frame);
     if n != audit::GOOD {
         return &frame[..0];
     }

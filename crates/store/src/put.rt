@@ -1,9 +1,7 @@
 // Put: refused in the order of document 01, or done.
-use crate::left;
 use answers::Put;
 use answers::Refusal;
 use descent::key;
-use layout::kind::Kind;
 ghost use Rattle.answers.specs.Number.{putNumber};
 ghost use Rattle.model.specs.Edition.{edition1};
 ghost use Rattle.model.specs.Promise.{PutPromise};
@@ -14,8 +12,7 @@ const LONGEST_VALUE: usize = 65535;
 pub fn put(frame: &mut [u8], key: &[u8], value: &[u8]) -> Put
     ensures { λ r. ⌜ PutPromise edition1 (now (frame .entry)) (now (key .entry)) (now (value .entry)) (putNumber r) (now (frame .exit)) ⌝ }
 {
-    let mut free: [usize; Kind::TABLE] = [0; Kind::TABLE];
-    let n = audit::check(frame, &mut free);
+    let n = audit::check(frame);
     if n == audit::BAD_LENGTH {
         return Put::Refused(Refusal::Length);
     }
@@ -32,5 +29,5 @@ pub fn put(frame: &mut [u8], key: &[u8], value: &[u8]) -> Put
     if value.len() > LONGEST_VALUE {
         return Put::Refused(Refusal::ValueLength);
     }
-    put_core::put(frame, key, value, left::room_left(frame, free))
+    put_core::put(frame, key, value)
 }

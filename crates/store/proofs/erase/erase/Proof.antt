@@ -1,8 +1,6 @@
 -- Each way out is one of erase's ends. Assumes nothing.
-use mathlib.Core.List.{[]}
 use native.Mathlib.Omega.{arith}
-use Rattle.store.proofs.LookLaws.{standing}
-use Rattle.store.proofs.EraseCallLaws.{erase-one, erase-two, erase-three, erase-four, erase-roomed, erase-made}
+use Rattle.store.proofs.EraseCallLaws.{erase-one, erase-two, erase-three, erase-four, erase-asked, erase-made}
 use borrow.Author.Needs.{needs}
 use Rattle.store.proofs.erase.erase.Statement.{statement}
 use Rattle.store.proofs.erase.erase.Tie as tie
@@ -47,23 +45,18 @@ returns-4 c =
     let n = key .before .before .before in
     erase-four _ _ (n .check .ensures) (omega arith) (key .fault .ensures) (λ z. omega arith) (λ z. omega arith)
 
-room-left-requires : tie.Need-room-left-requires
-room-left-requires c κs =
-    let n = c .before .before .before .before .before .before .before in
-    standing _ [] _ (n .check .ensures .promise) (omega arith)
-
 erase-requires : tie.Need-erase-requires
 erase-requires c κs =
-    let key = c .before .before .before .before .before in
+    let key = c .before .before .before .before in
     let n = key .before .before .before in
-    erase-roomed _ _ (n .check .ensures) (omega arith) (key .fault .ensures) (omega arith) (c .room-left .ensures) (λ a. omega (arith, n .before .before .before .shared-slice-known .given a))
+    erase-asked _ _ (n .check .ensures) (omega arith) (key .fault .ensures) (omega arith) (λ a. omega (arith, n .before .before .before .shared-slice-known .given a))
 
 same-length-5 : tie.Need-same-length-5
 same-length-5 c = search needs
 
 returns-5 : tie.Need-returns-5
 returns-5 c =
-    let key = c .before .before .before .before .before .before .before .before in
+    let key = c .before .before .before .before .before .before .before in
     let n = key .before .before .before in
     erase-made _ _ (n .check .ensures) (omega arith) (key .fault .ensures) (omega arith) (c .before .before .erase .ensures)
 
@@ -81,7 +74,6 @@ erase-spec =
     returns-3
     same-length-4
     returns-4
-    room-left-requires
     erase-requires
     same-length-5
     returns-5)

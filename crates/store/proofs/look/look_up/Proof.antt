@@ -10,28 +10,28 @@ check-requires : tie.Need-check-requires
 check-requires c κs = search needs
 
 returns : tie.Need-returns
-returns c = let m = c .before in end-one _ _ _ (m .check .ensures .promise) (omega arith)
+returns c = let m = c .before in end-one _ _ _ (m .check .ensures) (omega arith)
 
 returns-2 : tie.Need-returns-2
-returns-2 c = let m = c .before .before in end-two _ _ _ (m .check .ensures .promise) (λ z. omega arith) (λ z. omega arith)
+returns-2 c = let m = c .before .before in end-two _ _ _ (m .check .ensures) (λ z. omega arith) (λ z. omega arith)
 
 fault-requires : tie.Need-fault-requires
 fault-requires c κs = search needs
 
 returns-3 : tie.Need-returns-3
-returns-3 c = let m = c .before .before .before .before in end-three _ _ _ (m .check .ensures .promise) (omega arith) _ (c .before .fault .ensures) (omega arith)
+returns-3 c = let m = c .before .before .before .before in end-three _ _ _ (m .check .ensures) (omega arith) _ (c .before .fault .ensures) (omega arith)
 
 returns-4 : tie.Need-returns-4
-returns-4 c = let m = c .before .before .before .before .before in end-four _ _ _ (m .check .ensures .promise) (omega arith) _ (c .before .before .fault .ensures) (λ z. omega arith) (λ z. omega arith)
+returns-4 c = let m = c .before .before .before .before .before in end-four _ _ _ (m .check .ensures) (omega arith) _ (c .before .before .fault .ensures) (λ z. omega arith) (λ z. omega arith)
 
 find-requires : tie.Need-find-requires
-find-requires c κs = let m = c .before .before .before .before .before in standing _ [] _ (m .check .ensures .promise) (omega arith)
+find-requires c κs = let m = c .before .before .before .before .before in standing _ [] _ (m .check .ensures) (omega arith)
 
 returns-5 : tie.Need-returns-5
-returns-5 c = let m = c .before .before .before .before .before .before .before in end-found _ _ _ (m .check .ensures .promise) (omega arith) _ (c .before .before .before .before .fault .ensures) (omega arith) _ (c .before .find .ensures) (c .if5 .taken)
+returns-5 c = let m = c .before .before .before .before .before .before .before in end-found _ _ _ (m .check .ensures) (omega arith) _ (c .before .before .before .before .fault .ensures) (omega arith) _ (c .before .find .ensures) (c .if5 .taken)
 
 returns-6 : tie.Need-returns-6
-returns-6 c = let m = c .before .before .before .before .before .before .before in end-absent _ _ _ (m .check .ensures .promise) (omega arith) _ (c .before .before .before .before .fault .ensures) (omega arith) _ (c .before .find .ensures) (c .if5 .left)
+returns-6 c = let m = c .before .before .before .before .before .before .before in end-absent _ _ _ (m .check .ensures) (omega arith) _ (c .before .before .before .before .fault .ensures) (omega arith) _ (c .before .find .ensures) (c .if5 .left)
 
 pub look-up-spec : {M : Type 1} → statement M
 look-up-spec =
