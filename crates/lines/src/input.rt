@@ -1,5 +1,5 @@
 // A line gathered from the pieces in which it is read. The bytes that have come of it stand in `held`, as many as `have` says;
-// of a line that is too long none is kept, and `have` is MOST + 1.
+// of a line that is too long none is kept, and `have` is TOO_LONG.
 ghost use Prim.Native.Nat.{_≤_};
 ghost use lib.ListN.{length};
 ghost use Rattle.lines.specs.Input.{Gathers, Takes};
@@ -7,6 +7,8 @@ use crate::output::append;
 
 // Bytes of a line, its newline left out.
 pub const MOST: usize = 1024;
+
+const TOO_LONG: usize = MOST + 1;
 
 const NEWLINE: u8 = 10;
 
@@ -23,10 +25,10 @@ fn gather(held: &mut [u8], have: usize, more: &[u8]) -> usize
     ensures { λ r. ⌜ Gathers (now (held .entry)) have (now (more .entry)) (now (held .exit)) r ⌝ }
 {
     if have > MOST {
-        return MOST + 1;
+        return TOO_LONG; // as it was
     }
     if more.len() > MOST - have {
-        return MOST + 1;
+        return TOO_LONG;
     }
     append(held, have, more)
 }

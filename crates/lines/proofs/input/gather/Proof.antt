@@ -5,14 +5,8 @@ use Rattle.lines.proofs.InputLaws.{over, fits}
 use Rattle.lines.proofs.input.gather.Statement.{statement}
 use Rattle.lines.proofs.input.gather.Tie as tie
 
-add-result : tie.Need-add-result
-add-result c = search needs
-
 returns : tie.Need-returns
 returns c = over (omega arith)
-
-add-result-2 : tie.Need-add-result-2
-add-result-2 c = search needs
 
 returns-2 : tie.Need-returns-2
 returns-2 c = over (omega arith)
@@ -29,4 +23,4 @@ returns-3 c = fits (omega arith) (c .before .before .append .ensures)
 pub gather-spec : {M : Type 1} → statement M
 gather-spec =
     tie.close
-    (tie.spec add-result returns add-result-2 returns-2 append-requires same-length returns-3)
+    (tie.spec returns returns-2 append-requires same-length returns-3)
