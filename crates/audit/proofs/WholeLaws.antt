@@ -221,24 +221,25 @@ module _ {f : List ℕ} {d u b : ℕ} (H : HeaderFits f) (ed : d ≡ le 4 f atD)
             slots-each u (placeOf f) is (each-as (Sited f d u b) (Slotted u (placeOf f)) (λ i h. h .slotted) is S) (fits .apart)
             (omega (arith, G .slots, none .0, C .slotsAre, eu, sum-as isBody bodied body-is is)) in
             let sound = sound-made {x = le 4 f atX} slots fits (omega (arith, G .bytes, none .1, C .accounted, ed, eb)) in
-            let h = H .header in
-            (stateOf (numbersOf f) ls (W .root),
-            record {
-              bytes = H .bytes;
-              nums = numbersOf f;
-              lists = ls;
-              root = W .root;
-              heap = record {
-                header = h;
-                lists = lists-all f ls (omega arith) (F .are);
-                sound = sound-as (ed ∙ h .dataAt) eu eb (join (sym (W .are)) (sym (F .items))) sound;
-              };
-              editionIs = H .edition;
-              rootIs = sym es ∙ sym (W .slot);
-              rootAt = W .at;
-              counted = omega (arith, K .grown .leaves, none .2, C .leavesAre, ap (sum isExtent) (W .are), root-leaves f (W .root) (W .at));
-              state = refl;
-            })
+            let h = H .header in (
+              stateOf (numbersOf f) ls (W .root),
+              record {
+                bytes = H .bytes;
+                nums = numbersOf f;
+                lists = ls;
+                root = W .root;
+                heap = record {
+                  header = h;
+                  lists = lists-all f ls (omega arith) (F .are);
+                  sound = sound-as (ed ∙ h .dataAt) eu eb (join (sym (W .are)) (sym (F .items))) sound;
+                };
+                editionIs = H .edition;
+                rootIs = sym es ∙ sym (W .slot);
+                rootAt = W .at;
+                counted = omega (arith, K .grown .leaves, none .2, C .leavesAre, ap (sum isExtent) (W .are), root-leaves f (W .root) (W .at));
+                state = refl;
+              },
+            )
 
 -- ---- the verdict
 

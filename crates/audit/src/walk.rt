@@ -1,5 +1,6 @@
 // The live tree, parent first and children in byte order, in one loop. The path that leads to a body stands in a buffer, and the inner
 // nodes whose children are not all counted yet wait in arrays, the root's node first: the stack does not grow with the tree.
+use census::Bounds;
 use census::Sums;
 use census::refused;
 use census::take;
@@ -88,23 +89,23 @@ fn leaf(
     path: &[u8],
     depth: usize,
     o: usize,
-    d: usize,
-    u: usize,
-    b: usize,
+    bounds: Bounds,
     t: Sums,
 ) -> Sums
-    requires { ⌜ Ground (now f) d u b × Limits d u b (length (now map)) × Tally u 0 t × (depth ≤ length (now path)) × (o % 8 ≡ 0) × (o < 1048576) ⌝ }
-    ensures { λ r. ⌜ At (now (f .entry)) (take depth (now (path .entry))) 1 o d u b (now (map .entry)) t (now (map .exit)) r ⌝ }
+    requires { ⌜ Ground (now f) (bounds .start) (bounds .given) (bounds .next) × Limits (bounds .start) (bounds .given) (bounds .next) (length (now map)) × Tally (bounds .given) 0 t × (depth ≤ length (now path)) × (o % 8 ≡ 0) × (o < 1048576) ⌝ }
+    ensures { λ r. ⌜ At (now (f .entry)) (take depth (now (path .entry))) 1 o (bounds .start) (bounds .given) (bounds .next) (now (map .entry)) t (now (map .exit)) r ⌝ }
 {
-    let r = take::body(map, Kind::LEAF, o, d, u, b, t);
+    let start = bounds.start;
+    let next = bounds.next;
+    let r = take::body(map, Kind::LEAF, o, bounds, t);
     if !r.good {
         return refused();
     }
-    let l = leaf_good(f, o, path, depth, d, b);
+    let l = leaf_good(f, o, path, depth, start, next);
     if !l.good {
         return refused();
     }
-    take::extent(map, l.extent, l.size, d, u, b, r)
+    take::extent(map, l.extent, l.size, bounds, r)
 }
 
 // The inner node whose body lies at o: the body alone.
@@ -114,13 +115,11 @@ fn node(
     depth: usize,
     kind: usize,
     o: usize,
-    d: usize,
-    u: usize,
-    b: usize,
+    bounds: Bounds,
     t: Sums,
 ) -> Sums
-    requires { ⌜ Ground (now f) d u b × Limits d u b (length (now map)) × Tally u 0 t × (kind ≡ 1 → ⊥) × (kind ≡ 2 → ⊥) × (o % 8 ≡ 0) × (o < 1048576) ⌝ }
-    ensures { λ r. ⌜ NodeTold (now (f .entry)) depth kind o d u b (now (map .entry)) t (now (map .exit)) r ⌝ }
+    requires { ⌜ Ground (now f) (bounds .start) (bounds .given) (bounds .next) × Limits (bounds .start) (bounds .given) (bounds .next) (length (now map)) × Tally (bounds .given) 0 t × (kind ≡ 1 → ⊥) × (kind ≡ 2 → ⊥) × (o % 8 ≡ 0) × (o < 1048576) ⌝ }
+    ensures { λ r. ⌜ NodeTold (now (f .entry)) depth kind o (bounds .start) (bounds .given) (bounds .next) (now (map .entry)) t (now (map .exit)) r ⌝ }
 {
     if kind < Kind::NODE4 {
         return refused();
@@ -128,7 +127,7 @@ fn node(
     if kind > Kind::NODE256 {
         return refused();
     }
-    let r = take::body(map, kind, o, d, u, b, t);
+    let r = take::body(map, kind, o, bounds, t);
     if !r.good {
         return refused();
     }
@@ -149,15 +148,14 @@ fn past_prefix(
     depth: usize,
     s: usize,
     o: usize,
-    d: usize,
-    u: usize,
-    b: usize,
+    bounds: Bounds,
     t: Sums,
 ) -> Inner
-    requires { ⌜ Ground (now f) d u b × Limits d u b (length (now map)) × Tally u 0 t × (113 ≤ length (now path)) × (depth ≤ 113) × (1 ≤ s) × (s ≤ u) × (2 ≡ highOf (now f) s) × (o ≡ placeOf (now f) s) × (o < 1048576) ⌝ }
-    ensures { λ r. ⌜ Kept depth (now (path .entry)) (now (path .exit)) × PrefixTold (now (f .entry)) (take depth (now (path .entry))) depth s d u b (now (map .entry)) t (now (path .exit)) (now (map .exit)) r ⌝ }
+    requires { ⌜ Ground (now f) (bounds .start) (bounds .given) (bounds .next) × Limits (bounds .start) (bounds .given) (bounds .next) (length (now map)) × Tally (bounds .given) 0 t × (113 ≤ length (now path)) × (depth ≤ 113) × (1 ≤ s) × (s ≤ bounds .given) × (2 ≡ highOf (now f) s) × (o ≡ placeOf (now f) s) × (o < 1048576) ⌝ }
+    ensures { λ r. ⌜ Kept depth (now (path .entry)) (now (path .exit)) × PrefixTold (now (f .entry)) (take depth (now (path .entry))) depth s (bounds .start) (bounds .given) (bounds .next) (now (map .entry)) t (now (path .exit)) (now (map .exit)) r ⌝ }
 {
-    let r = take::body(map, Kind::PREFIX, o, d, u, b, t);
+    let given = bounds.given;
+    let r = take::body(map, Kind::PREFIX, o, bounds, t);
     if !r.good {
         return Inner::none();
     }
@@ -169,7 +167,7 @@ fn past_prefix(
         return Inner::none();
     }
     let c = Prefix::child(f, o);
-    if !inner_slot(f, c, u) {
+    if !inner_slot(f, c, given) {
         return Inner::none();
     }
     extend(path, depth, f, o, n);
@@ -186,10 +184,11 @@ fn past_prefix(
 // The tree at slot s, to which no path leads, of a kind other than a Leaf's. The walk arrives at a slot: a Prefix leads it to another, and a
 // node is counted. From then on it is at child i of a node: where that is a Leaf it is counted, else the node waits and the walk arrives at
 // it; after the last child the walk goes back to the node that waits.
-pub fn tree(f: &[u8], map: &mut [u64], s: usize, d: usize, u: usize, b: usize, t: Sums) -> Sums
-    requires { ⌜ Ground (now f) d u b × Limits d u b (length (now map)) × Tally u 0 t × (1 ≤ s) × (s ≤ u) × (highOf (now f) s ≡ 1 → ⊥) ⌝ }
-    ensures { λ r. ⌜ Told (TreeItems (now (f .entry)) [] s) (TreeItems (now (f .entry)) [] s) (now (f .entry)) d u b (now (map .entry)) t (now (map .exit)) r ⌝ }
+pub fn tree(f: &[u8], map: &mut [u64], s: usize, bounds: Bounds, t: Sums) -> Sums
+    requires { ⌜ Ground (now f) (bounds .start) (bounds .given) (bounds .next) × Limits (bounds .start) (bounds .given) (bounds .next) (length (now map)) × Tally (bounds .given) 0 t × (1 ≤ s) × (s ≤ bounds .given) × (highOf (now f) s ≡ 1 → ⊥) ⌝ }
+    ensures { λ r. ⌜ Told (TreeItems (now (f .entry)) [] s) (TreeItems (now (f .entry)) [] s) (now (f .entry)) (bounds .start) (bounds .given) (bounds .next) (now (map .entry)) t (now (map .exit)) r ⌝ }
 {
+    let given = bounds.given;
     let mut path: [u8; DEPTHS] = [0; DEPTHS];
     // of the nodes that wait: the slot, the bytes that lead to it, and the child that the walk is below
     let mut slots: [u32; DEPTHS] = [0; DEPTHS];
@@ -209,7 +208,7 @@ pub fn tree(f: &[u8], map: &mut [u64], s: usize, d: usize, u: usize, b: usize, t
     loop {
         if arriving {
             if kind == Kind::PREFIX {
-                let k = past_prefix(f, map, &mut path, depth, slot, place, d, u, b, sums);
+                let k = past_prefix(f, map, &mut path, depth, slot, place, bounds, sums);
                 sums = k.sums;
                 if !sums.good {
                     return refused();
@@ -220,7 +219,7 @@ pub fn tree(f: &[u8], map: &mut [u64], s: usize, d: usize, u: usize, b: usize, t
                 depth = k.depth;
                 continue;
             }
-            sums = node(f, map, depth, kind, place, d, u, b, sums);
+            sums = node(f, map, depth, kind, place, bounds, sums);
             if !sums.good {
                 return refused();
             }
@@ -236,12 +235,12 @@ pub fn tree(f: &[u8], map: &mut [u64], s: usize, d: usize, u: usize, b: usize, t
             if c.slot < 1 {
                 return refused();
             }
-            if u < c.slot {
+            if given < c.slot {
                 return refused();
             }
             let e = Entry::read(f, c.slot);
             if e.high == Kind::LEAF {
-                sums = leaf(f, map, &path, depth + 1, e.place, d, u, b, sums);
+                sums = leaf(f, map, &path, depth + 1, e.place, bounds, sums);
                 if !sums.good {
                     return refused();
                 }

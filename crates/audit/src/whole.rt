@@ -1,5 +1,6 @@
 // The root with all below it, the lists of freed slots, and the sums over both.
 use crate::walk::tree;
+use census::Bounds;
 use census::Sums;
 use census::freed::lists;
 use census::refused;
@@ -23,11 +24,11 @@ ghost use Rattle.audit.specs.Walk.{At};
 ghost use Rattle.audit.specs.Audit.{HeaderFits, RootItems, EmptyTold, Closes};
 
 // An EmptyRoot whose body lies at o.
-fn empty(f: &[u8], map: &mut [u64], o: usize, d: usize, u: usize, b: usize, t: Sums) -> Sums
-    requires { ⌜ Ground (now f) d u b × Limits d u b (length (now map)) × Tally u 0 t × (o % 8 ≡ 0) × (o < 1048576) ⌝ }
-    ensures { λ r. ⌜ EmptyTold (now (f .entry)) o d u b (now (map .entry)) t (now (map .exit)) r ⌝ }
+fn empty(f: &[u8], map: &mut [u64], o: usize, bounds: Bounds, t: Sums) -> Sums
+    requires { ⌜ Ground (now f) (bounds .start) (bounds .given) (bounds .next) × Limits (bounds .start) (bounds .given) (bounds .next) (length (now map)) × Tally (bounds .given) 0 t × (o % 8 ≡ 0) × (o < 1048576) ⌝ }
+    ensures { λ r. ⌜ EmptyTold (now (f .entry)) o (bounds .start) (bounds .given) (bounds .next) (now (map .entry)) t (now (map .exit)) r ⌝ }
 {
-    let r = take::body(map, Kind::EMPTY_ROOT, o, d, u, b, t);
+    let r = take::body(map, Kind::EMPTY_ROOT, o, bounds, t);
     if !r.good {
         return refused();
     }
@@ -38,40 +39,43 @@ fn empty(f: &[u8], map: &mut [u64], o: usize, d: usize, u: usize, b: usize, t: S
 }
 
 // A Leaf whose body lies at o, to which no path leads.
-fn lone(f: &[u8], map: &mut [u64], o: usize, d: usize, u: usize, b: usize, t: Sums) -> Sums
-    requires { ⌜ Ground (now f) d u b × Limits d u b (length (now map)) × Tally u 0 t × (o % 8 ≡ 0) × (o < 1048576) ⌝ }
-    ensures { λ r. ⌜ At (now (f .entry)) [] 1 o d u b (now (map .entry)) t (now (map .exit)) r ⌝ }
+fn lone(f: &[u8], map: &mut [u64], o: usize, bounds: Bounds, t: Sums) -> Sums
+    requires { ⌜ Ground (now f) (bounds .start) (bounds .given) (bounds .next) × Limits (bounds .start) (bounds .given) (bounds .next) (length (now map)) × Tally (bounds .given) 0 t × (o % 8 ≡ 0) × (o < 1048576) ⌝ }
+    ensures { λ r. ⌜ At (now (f .entry)) [] 1 o (bounds .start) (bounds .given) (bounds .next) (now (map .entry)) t (now (map .exit)) r ⌝ }
 {
-    let r = take::body(map, Kind::LEAF, o, d, u, b, t);
+    let start = bounds.start;
+    let next = bounds.next;
+    let r = take::body(map, Kind::LEAF, o, bounds, t);
     if !r.good {
         return refused();
     }
-    let l = lone_good(f, o, d, b);
+    let l = lone_good(f, o, start, next);
     if !l.good {
         return refused();
     }
-    take::extent(map, l.extent, l.size, d, u, b, r)
+    take::extent(map, l.extent, l.size, bounds, r)
 }
 
 // The root slot: "EmptyRoot stands only at the root".
-fn root(f: &[u8], map: &mut [u64], s: usize, d: usize, u: usize, b: usize, t: Sums) -> Sums
-    requires { ⌜ Ground (now f) d u b × Limits d u b (length (now map)) × Tally u 0 t ⌝ }
-    ensures { λ r. ⌜ Told (RootItems (now (f .entry)) s) (RootItems (now (f .entry)) s) (now (f .entry)) d u b (now (map .entry)) t (now (map .exit)) r ⌝ }
+fn root(f: &[u8], map: &mut [u64], s: usize, bounds: Bounds, t: Sums) -> Sums
+    requires { ⌜ Ground (now f) (bounds .start) (bounds .given) (bounds .next) × Limits (bounds .start) (bounds .given) (bounds .next) (length (now map)) × Tally (bounds .given) 0 t ⌝ }
+    ensures { λ r. ⌜ Told (RootItems (now (f .entry)) s) (RootItems (now (f .entry)) s) (now (f .entry)) (bounds .start) (bounds .given) (bounds .next) (now (map .entry)) t (now (map .exit)) r ⌝ }
 {
+    let given = bounds.given;
     if s < 1 {
         return refused();
     }
-    if u < s {
+    if given < s {
         return refused();
     }
     let e = Entry::read(f, s);
     if e.high == Kind::EMPTY_ROOT {
-        return empty(f, map, e.place, d, u, b, t);
+        return empty(f, map, e.place, bounds, t);
     }
     if e.high == Kind::LEAF {
-        return lone(f, map, e.place, d, u, b, t);
+        return lone(f, map, e.place, bounds, t);
     }
-    tree(f, map, s, d, u, b, t)
+    tree(f, map, s, bounds, t)
 }
 
 // "B - D equals the sizes of all of them plus X", U slots in all, and R Leaves.
@@ -93,20 +97,22 @@ fn over(f: &[u8], map: &mut [u64]) -> bool
     requires { ⌜ HeaderFits (now f) × (length (now f) ≤ 512 * length (now map)) × Seen (now map) [] ⌝ }
     ensures { λ r. ⌜ Decides (Good edition1 (now (f .entry))) r ⌝ }
 {
-    let d = Header::data_start(f);
-    let u = Header::slots_given(f);
-    let b = Header::next_byte(f);
+    let bounds = Bounds {
+        start: Header::data_start(f),
+        given: Header::slots_given(f),
+        next: Header::next_byte(f),
+    };
     let start = Sums {
         good: true,
         slots: 0,
         bytes: 0,
         leaves: 0,
     };
-    let r = root(f, map, Header::root(f), d, u, b, start);
+    let r = root(f, map, Header::root(f), bounds, start);
     if !r.good {
         return false;
     }
-    let l = lists(f, map, d, u, b, r);
+    let l = lists(f, map, bounds, r);
     if !l.good {
         return false;
     }

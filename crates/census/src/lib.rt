@@ -17,6 +17,16 @@ pub struct Sums {
     pub leaves: usize,
 }
 
+// What the header says of the frame that is counted.
+pub struct Bounds {
+    // D, where data starts
+    pub start: usize,
+    // U, the slots ever given out
+    pub given: usize,
+    // B, the first byte never yet given out
+    pub next: usize,
+}
+
 pub fn refused() -> Sums
     ensures { λ r. ⌜ r .good ≡ false ⌝ }
 {

@@ -89,8 +89,8 @@ read-requires c κs =
     let I = passed (c .before .before .before .before .before .inner-slot .ensures) (c .before .before .before .before .if4 .left) in
     (I .first, omega (arith, I .last, G .table, G .order, G .inside))
 
-add-t19 : tie.Need-add-t19
-add-t19 c = search needs
+add-t18 : tie.Need-add-t18
+add-t18 c = search needs
 
 same-length-5 : tie.Need-same-length-5
 same-length-5 c = search needs
@@ -132,7 +132,7 @@ past-prefix-spec =
     returns-4
     extend-requires
     read-requires
-    add-t19
+    add-t18
     same-length-5
     same-length-6
     returns-5)

@@ -18,13 +18,13 @@ use Rattle.audit.proofs.walk.tree.Statement.{statement}
 use Rattle.audit.proofs.walk.tree.Tie as tie
 
 abbrev Inv-loop : tie.InvT-loop
-Inv-loop f map₀ s d u b path₀ slots₀ depths₀ turns₀ waiting₀ sums₀ slot₀ place₀ kind₀ depth₀ n₀ i₀ from₀ arriving₀ map path slots depths turns waiting sums slot place kind depth n i from arriving =
+Inv-loop f map₀ s w given path₀ slots₀ depths₀ turns₀ waiting₀ sums₀ slot₀ place₀ kind₀ depth₀ n₀ i₀ from₀ arriving₀ map path slots depths turns waiting sums slot place kind depth n i from arriving =
     (length map ≡ length map₀) × (length path ≡ 113) × (length slots ≡ 113) × (length depths ≡ 113) × (length turns ≡ 113)
-    × (arriving ≡ true → Coming (TreeItems f [] s) f d u b map₀ sums₀ map path slots depths turns waiting sums slot place kind depth)
-    × (arriving ≡ false → Walking (TreeItems f [] s) f d u b map₀ sums₀ map path slots depths turns waiting sums slot place kind depth n i from)
+    × (arriving ≡ true → Coming (TreeItems f [] s) f (w .start) (w .given) (w .next) map₀ sums₀ map path slots depths turns waiting sums slot place kind depth)
+    × (arriving ≡ false → Walking (TreeItems f [] s) f (w .start) (w .given) (w .next) map₀ sums₀ map path slots depths turns waiting sums slot place kind depth n i from)
 
 abbrev μ-loop : tie.MeasureT-loop
-μ-loop f map₀ s d u b path₀ slots₀ depths₀ turns₀ waiting₀ sums₀ slot₀ place₀ kind₀ depth₀ n₀ i₀ from₀ arriving₀ map path slots depths turns waiting sums slot place kind depth n i from arriving = 512 * (u - sums .slots) + 256 * pick arriving 0 1 + depth
+μ-loop f map₀ s w given path₀ slots₀ depths₀ turns₀ waiting₀ sums₀ slot₀ place₀ kind₀ depth₀ n₀ i₀ from₀ arriving₀ map path slots depths turns waiting sums slot place kind depth n i from arriving = 512 * (w .given - sums .slots) + 256 * pick arriving 0 1 + depth
 
 read-requires : tie.Need-read-requires Inv-loop μ-loop
 read-requires c κs = search needs

@@ -23,7 +23,7 @@ lone-good-requires : tie.Need-lone-good-requires
 lone-good-requires c κs =
     let z = c .before .before .before .before .before .before .before .before in
     let p = z .pre in
-    let h : z .args .o + 16 ≤ z .args .b = c .before .before .before .before .body .ensures .high (not-false _ (c .if1 .left)) in
+    let h : z .args .o + 16 ≤ z .args .bounds .next = c .before .before .before .before .body .ensures .high (not-false _ (c .if1 .left)) in
     (omega (arith, h, p .0 .inside), p .0 .inside)
 
 refused-requires-2 : tie.Need-refused-requires-2

@@ -13,12 +13,12 @@ use Rattle.census.proofs.freed.chain.Statement.{statement}
 use Rattle.census.proofs.freed.chain.Tie as tie
 
 abbrev Inv-loop : tie.InvT-loop
-Inv-loop f map₀ kind head d u b s₀ sums₀ map s sums =
-    (length map ≡ length map₀) × Tally u 0 sums
-    × Leads (ChainItems f kind s) (ChainItems f kind s) (ChainItems f kind head) (ChainItems f kind head) f d u b map sums map₀ sums₀
+Inv-loop f map₀ kind head w given s₀ sums₀ map s sums =
+    (length map ≡ length map₀) × Tally (w .given) 0 sums
+    × Leads (ChainItems f kind s) (ChainItems f kind s) (ChainItems f kind head) (ChainItems f kind head) f (w .start) (w .given) (w .next) map sums map₀ sums₀
 
 abbrev μ-loop : tie.MeasureT-loop
-μ-loop f map₀ kind head d u b s₀ sums₀ map s sums = u - sums .slots
+μ-loop f map₀ kind head w given s₀ sums₀ map s sums = w .given - sums .slots
 
 kept-requires : tie.Need-kept-requires Inv-loop μ-loop
 kept-requires c κs = c .before .before .pre .2 .good

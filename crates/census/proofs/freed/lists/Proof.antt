@@ -13,11 +13,12 @@ use Rattle.census.proofs.freed.lists.Statement.{statement}
 use Rattle.census.proofs.freed.lists.Tie as tie
 
 abbrev Inv-loop : tie.InvT-loop
-Inv-loop f map₀ d u b sums₀ kind₀ map sums kind =
-    (1 ≤ kind) × (kind ≤ 9) × (length map ≡ length map₀) × Tally u 0 sums × Leads (FreedItems f kind) (FreedItems f kind) (FreedItems f 1) (FreedItems f 1) f d u b map sums map₀ sums₀
+Inv-loop f map₀ w sums₀ kind₀ map sums kind =
+    (1 ≤ kind) × (kind ≤ 9) × (length map ≡ length map₀) × Tally (w .given) 0 sums
+    × Leads (FreedItems f kind) (FreedItems f kind) (FreedItems f 1) (FreedItems f 1) f (w .start) (w .given) (w .next) map sums map₀ sums₀
 
 abbrev μ-loop : tie.MeasureT-loop
-μ-loop f map₀ d u b sums₀ kind₀ map sums kind = 9 - kind
+μ-loop f map₀ w sums₀ kind₀ map sums kind = 9 - kind
 
 kept-requires : tie.Need-kept-requires Inv-loop μ-loop
 kept-requires c κs = c .before .before .pre .2 .good

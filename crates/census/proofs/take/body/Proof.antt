@@ -54,11 +54,11 @@ returns-4 c =
     let z = k .before .before .before .before in
     body-taken (z .body-size .ensures) (c .refused4 .ensures) (z .before .before .before .before .pre .4) (k .claim .ensures .1 (not-true _ (c .before .if4 .taken)))
 
-add-t10 : tie.Need-add-t10
-add-t10 c = search needs
+add-t11 : tie.Need-add-t11
+add-t11 c = search needs
 
-add-t13 : tie.Need-add-t13
-add-t13 c = search needs
+add-t14 : tie.Need-add-t14
+add-t14 c = search needs
 
 same-length-2 : tie.Need-same-length-2
 same-length-2 c = search needs
@@ -91,7 +91,7 @@ body-spec =
     refused-requires-4
     same-length
     returns-4
-    add-t10
-    add-t13
+    add-t11
+    add-t14
     same-length-2
     returns-5)

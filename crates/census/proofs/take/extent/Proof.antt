@@ -22,11 +22,11 @@ returns c =
     let p = k .before .before .before .pre in
     extent-taken (p .2) (p .3) (c .refused .ensures) (k .claim .ensures .1 (not-true _ (c .before .if1 .taken)))
 
-add-t11 : tie.Need-add-t11
-add-t11 c = search needs
+add-t9 : tie.Need-add-t9
+add-t9 c = search needs
 
-add-t12 : tie.Need-add-t12
-add-t12 c = search needs
+add-t10 : tie.Need-add-t10
+add-t10 c = search needs
 
 same-length-2 : tie.Need-same-length-2
 same-length-2 c = search needs
@@ -47,7 +47,7 @@ extent-spec =
     refused-requires
     same-length
     returns
-    add-t11
-    add-t12
+    add-t9
+    add-t10
     same-length-2
     returns-2)
