@@ -320,16 +320,16 @@ pub fn all(list: &mut List) {
 /// Trees as deep as a key is long: other keys leave the longest one after each byte, so that there is a node at each of its bytes.
 pub fn deepest(list: &mut List) {
     const DOWN: u8 = b'z';
-    // Children of each node, and how many bytes from one to the next; for the widest there is not room down to the last byte.
-    for (children, distance, nodes) in
+    // Children of each node, how many bytes from one to the next, and how many nodes are so wide; all after them have two.
+    for (children, distance, wide) in
         [(2, 1, 112), (2, 2, 56), (5, 1, 112), (17, 1, 112), (49, 1, 30)]
     {
         list.scene("deepest", [0; 4], LONGEST_FRAME);
         list.command("write answers");
         list.format(MOST_SLOTS);
         list.put(&[DOWN; LONGEST_KEY], NONE);
-        for node in 0..nodes {
-            for byte in 1..children {
+        for node in 0..LONGEST_KEY / distance {
+            for byte in 1..if node < wide { children } else { 2 } {
                 let mut key = vec![DOWN; (node + 1) * distance - 1];
                 key.push(byte);
                 list.put(&key, NONE);
