@@ -27,6 +27,7 @@ use Rattle.model.proofs.StringLaws.{clash, bool-cases, eqb-cases, same-
 use Rattle.model.proofs.ItemLaws.{sum-app, slot-once}
 use Rattle.model.proofs.MarkLaws.{find, weight-in, only, leaf-marks, prefix-marks, node-marks, kid-marks, tree-marks, bare-marks}
 use Rattle.model.proofs.AlikeLaws.{slots-root}
+use Rattle.model.proofs.ChainLaws.{find-atop, find-apart}
 
 -- ---- what holds of every slot that a step touches
 
@@ -280,7 +281,8 @@ module _ (E : Edition) (k : List ℕ) where
   mutual
     lay-none : (l : Lay) (d : ℕ) → findLay E l d k ≡ none → findTree E (art l) d k ≡ none
     lay-none (leaf s o e k' v') d h = bool-cases (same k k') (λ t. let z : some (record { at = e + length k'; long = length v' }) ≡ none = rw t at h in clash (cc)) (λ t. rw t refl)
-    lay-none (prefix s o q l) d h = bool-cases (eqb (shared q (drop d (E .walked k))) (length q)) (λ t. rw t (lay-none l (d + length q) (rw t at h))) (λ t. rw t refl)
+    lay-none (prefix s o q l) d h =
+        eqb-cases (shared q (drop d (E .walked k))) (length q) (λ t e. find-atop E q (art l) d k e ∙ lay-none l (d + length q) (rw t at h)) (λ t n. find-apart E q (art l) d k n)
     lay-none (node s o kind ks) d h = lays-none ks d h
 
     lays-none : (ks : LayKids) (d : ℕ) → findLayKids E ks d k ≡ none → findKids E (artKids ks) d k ≡ none
