@@ -41,7 +41,7 @@ use Rattle.between.proofs.BookedLaws.{tally-turn, booked-root, booked-free}
 use Rattle.between.proofs.OutsideLaws.{among-here, slots-later, slots-app, next-above, holder-sum, holder-slots, among-there}
 use Rattle.between.proofs.StayLaws.{stay-plug}
 use Rattle.descent.specs.declared.spot.Body.{Body}
-use Rattle.leaf_new.specs.Make.{Relinked}
+use Rattle.room.specs.Link.{Relinked}
 use Rattle.erase_remove.proofs.RemoveLaws.{booked-none}
 use Rattle.erase_join.specs.declared.lone.Lone.{Lone}
 use Rattle.prefix_body.specs.Prefix.{Spare, Joins}

@@ -46,7 +46,7 @@ use Rattle.between.proofs.SinceLaws.{since-start, since-also, since-take, since
 use Rattle.between.proofs.BookedLaws.{tally-turn, booked-row, booked-root, room-of}
 use Rattle.between.proofs.OutsideLaws.{among-here, slots-later, slots-app, holder-sum, holder-slots}
 use Rattle.between.proofs.StayLaws.{stay-plug}
-use Rattle.leaf_new.specs.Make.{Relinked}
+use Rattle.room.specs.Link.{Relinked}
 use Rattle.erase_remove.proofs.RemoveLaws.{booked-none}
 use Rattle.erase_join.specs.declared.lone.Lone.{Lone}
 use Rattle.prefix_body.specs.Prefix.{Spare}

@@ -28,7 +28,7 @@ fn leaf_up(f: &mut [u8], key: &[u8], l: Lone, link: usize)
     requires { ⌜ Bare IsLeaf (now f) (now key) l link ⌝ }
     ensures { λ _. ⌜ EraseStep (now (f .entry)) (now (key .entry)) (now (f .exit)) ⌝ }
 {
-    leaf_new::relink(f, link, l.child);
+    room::link::relink(f, link, l.child);
     finish::drop_both(f, l.leaf, l.node, l.at);
 }
 
@@ -38,7 +38,7 @@ fn prefix_up(f: &mut [u8], key: &[u8], l: Lone, link: usize)
     ensures { λ _. ⌜ EraseStep (now (f .entry)) (now (key .entry)) (now (f .exit)) ⌝ }
 {
     prefix_body::front(f, l.place, l.byte);
-    leaf_new::relink(f, link, l.child);
+    room::link::relink(f, link, l.child);
     finish::drop_both(f, l.leaf, l.node, l.at);
 }
 
@@ -50,7 +50,7 @@ fn node_up(f: &mut [u8], key: &[u8], l: Lone, link: usize)
     let s = heap::take(f, Kind::PREFIX);
     let e = Entry::read(f, s);
     prefix_body::fresh(f, e.place, l.byte, l.child);
-    leaf_new::relink(f, link, s);
+    room::link::relink(f, link, s);
     finish::drop_both(f, l.leaf, l.node, l.at);
 }
 
@@ -77,7 +77,7 @@ fn leaf_over(f: &mut [u8], key: &[u8], l: Lone, above: Body)
     requires { ⌜ Capped IsLeaf (now f) (now key) l above ⌝ }
     ensures { λ _. ⌜ EraseStep (now (f .entry)) (now (key .entry)) (now (f .exit)) ⌝ }
 {
-    leaf_new::relink(f, above.link, l.child);
+    room::link::relink(f, above.link, l.child);
     heap::release(f, above.slot, Kind::PREFIX);
     finish::drop_both(f, l.leaf, l.node, l.at);
 }

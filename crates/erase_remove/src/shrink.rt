@@ -23,7 +23,7 @@ pub fn shrink(f: &mut [u8], spot: Spot)
     change::remove(f, node.place, node.kind, spot.byte);
     change::empty(f, new.place, smaller);
     carry::carry(f, node.place, node.kind, new.place, smaller);
-    leaf_new::relink(f, node.link, slot);
+    room::link::relink(f, node.link, slot);
     heap::release(f, node.slot, node.kind);
     leaf::drop_leaf(f, here.slot, here.place);
 }

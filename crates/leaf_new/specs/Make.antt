@@ -1,10 +1,8 @@
--- What a new Leaf, a new record and a new link count on, and what the link leaves.
+-- What a new Leaf and a new record count on, and what they leave.
 use Prim.Native.Nat.{ℕ, _+_, _<_}
 use mathlib.Core.Path.{_≡_}
 use mathlib.Core.List.{List, [], _∷_}
 use lib.ListN.{length}
-use Rattle.layout.specs.Number.{put}
-use Rattle.layout.specs.Place.{atRoot}
 use Rattle.layout.specs.Kind.{Leaf}
 use Rattle.model.specs.Edition.{edition1}
 use Rattle.model.specs.Tree.{extentOf}
@@ -44,7 +42,3 @@ pub record Counts (f : List ℕ) : Type 0 where
 -- R is one more
 abbrev pub Counted : List ℕ → List ℕ → Type 0
 Counted f g = (h : View) → Heap f h → Renumbered f g h (recorded h (h .nums .R + 1))
-
--- the field at `at` names slot n: two bytes at the root slot field, four elsewhere
-abbrev pub Relinked : List ℕ → List ℕ → ℕ → ℕ → Type 0
-Relinked f g at n = (at ≡ atRoot → g ≡ put 2 f atRoot n) × ((at ≡ atRoot → ⊥) → g ≡ put 4 f at n)

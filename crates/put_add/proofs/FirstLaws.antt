@@ -33,7 +33,8 @@ use Rattle.between.proofs.BookedLaws.{booked-extend, booked-root, booked-free, 
 use Rattle.between.proofs.SinceLaws.{since-start, since-leaf, since-link, since-free, since-count}
 use Rattle.between.proofs.StayLaws.{stay-at}
 use Rattle.between.proofs.OutsideLaws.{among-here}
-use Rattle.leaf_new.specs.Make.{NewLeaf, Makes, Counts, Counted, Relinked}
+use Rattle.room.specs.Link.{Relinked}
+use Rattle.leaf_new.specs.Make.{NewLeaf, Makes, Counts, Counted}
 use Rattle.leaf_new.specs.Put.{Stepped, PutStep}
 use Rattle.leaf_new.proofs.LeafLaws.{counts-of}
 use Rattle.leaf_new.proofs.DoneLaws.{same-root, same-room, new-key}

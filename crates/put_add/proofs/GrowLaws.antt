@@ -48,7 +48,8 @@ use Rattle.between.proofs.SinceLaws.{since-start, since-take, since-leaf, since
 use Rattle.between.proofs.OutsideLaws.{among-here, among-there}
 use Rattle.between.proofs.StayLaws.{join-marks, carried-marks, stay-plug}
 use Rattle.descent.specs.declared.spot.Spot.{Spot}
-use Rattle.leaf_new.specs.Make.{NewLeaf, Makes, Counts, Counted, Relinked}
+use Rattle.room.specs.Link.{Relinked}
+use Rattle.leaf_new.specs.Make.{NewLeaf, Makes, Counts, Counted}
 use Rattle.leaf_new.specs.Put.{Stepped, PutStep}
 use Rattle.leaf_new.proofs.LeafLaws.{leaf-kind, counts-of}
 use Rattle.leaf_new.proofs.DoneLaws.{same-room, new-key}

@@ -47,7 +47,7 @@ pub fn grow(f: &mut [u8], key: &[u8], value: &[u8], spot: Spot)
     let n = heap::take(f, up);
     let leaf = leaf_new::new_leaf(f, key, value);
     refill(f, here.place, here.kind, n, up, b, leaf);
-    leaf_new::relink(f, here.link, n);
+    room::link::relink(f, here.link, n);
     heap::release(f, here.slot, here.kind);
     leaf_new::count_record(f);
 }
@@ -59,7 +59,7 @@ pub fn first_record(f: &mut [u8], key: &[u8], value: &[u8])
 {
     let old = Header::root(f);
     let leaf = leaf_new::new_leaf(f, key, value);
-    leaf_new::relink(f, Header::AT_ROOT, leaf);
+    room::link::relink(f, Header::AT_ROOT, leaf);
     heap::release(f, old, Kind::EMPTY_ROOT);
     leaf_new::count_record(f);
 }

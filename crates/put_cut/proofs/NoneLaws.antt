@@ -32,7 +32,8 @@ use Rattle.between.proofs.SinceLaws.{since-start, since-link, since-free, since
 use Rattle.between.proofs.BookedLaws.{booked-root, booked-free, booked-count}
 use Rattle.between.proofs.OutsideLaws.{among-here, slots-later}
 use Rattle.descent.specs.declared.spot.Spot.{Spot}
-use Rattle.leaf_new.specs.Make.{Counts, Counted, Relinked}
+use Rattle.room.specs.Link.{Relinked}
+use Rattle.leaf_new.specs.Make.{Counts, Counted}
 use Rattle.leaf_new.specs.Put.{PutStep}
 use Rattle.leaf_new.proofs.LeafLaws.{counts-of}
 use Rattle.put_split.proofs.ForkLaws.{fork-marks}

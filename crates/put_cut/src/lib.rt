@@ -20,7 +20,7 @@ fn cut_none(f: &mut [u8], key: &[u8], value: &[u8], spot: Spot)
     let child = Prefix::child(f, here.place);
     let node = heap::take(f, Kind::NODE4);
     parts::fork(f, node, key, value, to, c, child);
-    leaf_new::relink(f, here.link, node);
+    room::link::relink(f, here.link, node);
     heap::release(f, here.slot, Kind::PREFIX);
     leaf_new::count_record(f);
 }
@@ -35,7 +35,7 @@ fn cut_after(f: &mut [u8], key: &[u8], value: &[u8], spot: Spot)
     let c = prefix_body::cut_at(f, here.place, spot.shared);
     let node = heap::take(f, Kind::NODE4);
     parts::fork(f, node, key, value, to, c, here.slot);
-    leaf_new::relink(f, here.link, node);
+    room::link::relink(f, here.link, node);
     leaf_new::count_record(f);
 }
 
@@ -69,7 +69,7 @@ fn cut_both(f: &mut [u8], key: &[u8], value: &[u8], spot: Spot)
     parts::fork(f, node, key, value, to, c, here.slot);
     let body = Entry::read(f, top);
     prefix_body::write(f, body.place, node, &key[from..to]);
-    leaf_new::relink(f, here.link, top);
+    room::link::relink(f, here.link, top);
     leaf_new::count_record(f);
 }
 

@@ -30,7 +30,8 @@ use Rattle.between.proofs.LinkLaws.{relinked}
 use Rattle.between.proofs.SinceLaws.{since-link, since-count}
 use Rattle.between.proofs.OutsideLaws.{holder-sum, holder-slots}
 use Rattle.between.proofs.BookedLaws.{booked-root, booked-count}
-use Rattle.leaf_new.specs.Make.{Counted, Relinked}
+use Rattle.room.specs.Link.{Relinked}
+use Rattle.leaf_new.specs.Make.{Counted}
 
 -- ---- kinds
 

@@ -34,7 +34,8 @@ use Rattle.between.proofs.LinkLaws.{link-room, relinked}
 use Rattle.between.proofs.WorkLaws.{standsView, first-owns}
 use Rattle.between.proofs.BookedLaws.{room-same}
 use Rattle.descent.specs.declared.spot.Spot.{Spot}
-use Rattle.leaf_new.specs.Make.{Counts, Counted, Relinked}
+use Rattle.room.specs.Link.{Relinked}
+use Rattle.leaf_new.specs.Make.{Counts, Counted}
 use Rattle.leaf_new.specs.Put.{PutStep}
 use Rattle.leaf_new.proofs.LeafLaws.{counts-of}
 use Rattle.leaf_new.proofs.OpenLaws.{leaf-loose, leaf-lies, leaf-room}

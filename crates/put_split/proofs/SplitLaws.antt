@@ -39,7 +39,8 @@ use Rattle.between.proofs.LeadLaws.{leaf-look}
 use Rattle.between.proofs.WorkLaws.{standsView, work-take, work-turn, work-write, entries-first, make-prefix, leafy-leaf}
 use Rattle.between.proofs.SinceLaws.{since-start, since-take, since-write}
 use Rattle.between.proofs.BookedLaws.{booked-row, booked-as, booked-extend}
-use Rattle.leaf_new.specs.Make.{Counted, Relinked}
+use Rattle.room.specs.Link.{Relinked}
+use Rattle.leaf_new.specs.Make.{Counted}
 use Rattle.leaf_new.proofs.OpenLaws.{leaf-opened}
 use Rattle.leaf_new.proofs.DoneLaws.{Edited}
 use Rattle.prefix_body.specs.Prefix.{PrefixWritten}

@@ -21,7 +21,7 @@ pub fn split_leaf(f: &mut [u8], key: &[u8], value: &[u8], spot: Spot)
     let node = heap::take(f, Kind::NODE4);
     if spot.shared == 0 {
         parts::fork(f, node, key, value, to, c, here.slot);
-        leaf_new::relink(f, here.link, node);
+        room::link::relink(f, here.link, node);
         leaf_new::count_record(f);
         return;
     }
@@ -29,6 +29,6 @@ pub fn split_leaf(f: &mut [u8], key: &[u8], value: &[u8], spot: Spot)
     parts::fork(f, node, key, value, to, c, here.slot);
     let body = Entry::read(f, top);
     prefix_body::write(f, body.place, node, &key[from..to]);
-    leaf_new::relink(f, here.link, top);
+    room::link::relink(f, here.link, top);
     leaf_new::count_record(f);
 }

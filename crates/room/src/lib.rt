@@ -4,3 +4,4 @@ pub mod fill;
 pub mod fit;
 pub mod heap;
 pub mod left;
+pub mod link;
