@@ -1,15 +1,15 @@
 //! Links the archive of the proved store, or says what is missing.
 //!
-//! The archive's names and folder stand here and nowhere else: a package that depends on this one is told the path, in the
+//! The archive's name and folder stand here and nowhere else: a package that depends on this one is told the path, in the
 //! variable `DEP_FRAME_STORE_ARCHIVE` of its own build script.
 
 use std::env;
 use std::path::Path;
 use std::process::exit;
 
-/// What the archive is called where it is installed, and where `rt staticlib` has made it, for the crate that exports the calls.
-const LIBRARIES: [&str; 2] = ["frame_store", "exports"];
-const FOLDER_VARIABLE: &str = "FRAME_EXPORTS_DIR";
+/// The crate that exports the calls; `rt staticlib` names the archive for it.
+const LIBRARY: &str = "frame_store";
+const FOLDER_VARIABLE: &str = "FRAME_STORE_DIR";
 const DEFAULT_FOLDER: &str = "../../target/staticlib";
 
 fn main() {
@@ -22,20 +22,19 @@ fn main() {
     if named.is_none() && !(target.starts_with("x86_64-") && target.contains("linux")) {
         missing(&format!("`rt` makes it for x86-64 Linux, and this is a build for {target}"));
     }
-    let archive = |library: &str| folder.join(format!("lib{library}.a"));
-    let Some(library) = LIBRARIES.into_iter().find(|library| archive(library).is_file()) else {
-        missing(&format!("{} has none", folder.display()));
-    };
-    let archive = archive(library);
+    let archive = folder.join(format!("lib{LIBRARY}.a"));
+    if !archive.is_file() {
+        missing(&format!("{} is not there", archive.display()));
+    }
     println!("cargo::rerun-if-changed={}", archive.display());
     println!("cargo::metadata=archive={}", archive.display());
     println!("cargo::rustc-link-search=native={}", folder.display());
-    println!("cargo::rustc-link-lib=static={library}");
+    println!("cargo::rustc-link-lib=static={LIBRARY}");
 }
 
 fn missing(what: &str) -> ! {
-    eprintln!("frame_store needs the archive with the proved calls, and {what}.");
-    eprintln!("Make it with `rt staticlib exports` in the repository's root, or let");
+    eprintln!("frame_store needs the archive lib{LIBRARY}.a with the proved calls, and {what}.");
+    eprintln!("Make it with `rt staticlib {LIBRARY}` in the repository's root, or let");
     eprintln!("{FOLDER_VARIABLE} name the folder that holds it.");
     exit(1)
 }

@@ -1,7 +1,7 @@
 -- The number is that of the check's answer. Assumes nothing.
 use borrow.Author.Needs.{needs}
-use Rattle.exports.proofs.frame_check.Statement.{statement}
-use Rattle.exports.proofs.frame_check.Tie as tie
+use Rattle.frame_store.proofs.frame_check.Statement.{statement}
+use Rattle.frame_store.proofs.frame_check.Tie as tie
 
 check-requires : tie.Need-check-requires
 check-requires c κs = search needs

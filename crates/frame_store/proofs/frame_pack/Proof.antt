@@ -1,7 +1,7 @@
 -- The number is that of packing's answer. Assumes nothing.
 use borrow.Author.Needs.{needs}
-use Rattle.exports.proofs.frame_pack.Statement.{statement}
-use Rattle.exports.proofs.frame_pack.Tie as tie
+use Rattle.frame_store.proofs.frame_pack.Statement.{statement}
+use Rattle.frame_store.proofs.frame_pack.Tie as tie
 
 pack-requires : tie.Need-pack-requires
 pack-requires c κs = search needs

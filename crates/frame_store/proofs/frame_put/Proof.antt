@@ -1,7 +1,7 @@
 -- The number is that of put's answer. Assumes nothing.
 use borrow.Author.Needs.{needs}
-use Rattle.exports.proofs.frame_put.Statement.{statement}
-use Rattle.exports.proofs.frame_put.Tie as tie
+use Rattle.frame_store.proofs.frame_put.Statement.{statement}
+use Rattle.frame_store.proofs.frame_put.Tie as tie
 
 put-requires : tie.Need-put-requires
 put-requires c κs = search needs

@@ -1,8 +1,8 @@
 -- Below 1 none is, and from there those up to 7. Assumes nothing.
 use native.Mathlib.Omega.{arith}
 use Rattle.pieces.proofs.DecideLaws.{denied, by-le}
-use Rattle.exports.proofs.is_refusal.Statement.{statement}
-use Rattle.exports.proofs.is_refusal.Tie as tie
+use Rattle.frame_store.proofs.is_refusal.Statement.{statement}
+use Rattle.frame_store.proofs.is_refusal.Tie as tie
 
 returns : tie.Need-returns
 returns c = denied (λ h. omega arith)

@@ -9,7 +9,7 @@ ghost use Rattle.model.specs.Edition.{edition1};
 ghost use Rattle.model.specs.Promise.{FormatPromise, CheckPromise, PutPromise, ErasePromise, PackPromise};
 ghost use Rattle.demands.specs.Words.{Refusal};
 ghost use Rattle.pieces.specs.Decides.{Decides};
-ghost use Rattle.exports.specs.LookUp.{LookedUp};
+ghost use Rattle.frame_store.specs.LookUp.{LookedUp};
 
 const FIRST_REFUSAL: u32 = 1;
 

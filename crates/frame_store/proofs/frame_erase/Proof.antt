@@ -1,7 +1,7 @@
 -- The number is that of erase's answer. Assumes nothing.
 use borrow.Author.Needs.{needs}
-use Rattle.exports.proofs.frame_erase.Statement.{statement}
-use Rattle.exports.proofs.frame_erase.Tie as tie
+use Rattle.frame_store.proofs.frame_erase.Statement.{statement}
+use Rattle.frame_store.proofs.frame_erase.Tie as tie
 
 erase-requires : tie.Need-erase-requires
 erase-requires c κs = search needs

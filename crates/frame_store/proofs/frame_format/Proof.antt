@@ -1,7 +1,7 @@
 -- The number is that of format's answer. Assumes nothing.
 use borrow.Author.Needs.{needs}
-use Rattle.exports.proofs.frame_format.Statement.{statement}
-use Rattle.exports.proofs.frame_format.Tie as tie
+use Rattle.frame_store.proofs.frame_format.Statement.{statement}
+use Rattle.frame_store.proofs.frame_format.Tie as tie
 
 format-requires : tie.Need-format-requires
 format-requires c κs = search needs

@@ -1,10 +1,10 @@
 -- The number, place and length are those of look-up's answer; a refusal writes nothing. Assumes nothing.
 use native.Mathlib.Omega.{arith}
 use lib.ListN.{length-set}
-use Rattle.exports.proofs.LookUpLaws.{both, neither}
+use Rattle.frame_store.proofs.LookUpLaws.{both, neither}
 use borrow.Author.Needs.{needs}
-use Rattle.exports.proofs.frame_look_up.Statement.{statement}
-use Rattle.exports.proofs.frame_look_up.Tie as tie
+use Rattle.frame_store.proofs.frame_look_up.Statement.{statement}
+use Rattle.frame_store.proofs.frame_look_up.Tie as tie
 
 look-up-requires : tie.Need-look-up-requires
 look-up-requires c κs = search needs

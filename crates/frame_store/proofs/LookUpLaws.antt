@@ -10,7 +10,7 @@ use Rattle.model.specs.Edition.{edition1}
 use Rattle.model.specs.Promise.{LookUpPromise}
 use Rattle.demands.specs.Words.{NotRefused}
 use Rattle.store.specs.Found.{foundIn}
-use Rattle.exports.specs.LookUp.{LookedUp}
+use Rattle.frame_store.specs.LookUp.{LookedUp}
 
 -- a list of two, set at both places
 set-two : (o : List ℕ) (a b : ℕ) → length o ≡ 2 → set (set o 0 a) 1 b ≡ a ∷ b ∷ []
