@@ -24,19 +24,19 @@ returns-2 c =
 
 all-requires : tie.Need-all-requires
 all-requires c κs =
-    let k = c .before .before .before .before .before in
-    let T = c .before .before .header-good .ensures .holds (not-false _ (c .before .if2 .left)) in
+    let k = c .before .before .before .before in
+    let T = c .before .header-good .ensures .holds (not-false _ (c .if2 .left)) in
     record { bytes = λ a. omega (arith, k .shared-slice-known .given a); header = T .0; edition = T .1 }
 
 returns-3 : tie.Need-returns-3
 returns-3 c =
-    let m = c .before .before .before .before .before .before in
-    audit-bad (passed (m .length-good .ensures) (c .before .before .before .before .before .if1 .left)) (c .before .all .ensures .fails (not-true _ (c .if3 .taken))) refl
+    let m = c .before .before .before .before .before in
+    audit-bad (passed (m .length-good .ensures) (c .before .before .before .before .if1 .left)) (c .before .all .ensures .fails (not-true _ (c .if3 .taken))) refl
 
 returns-4 : tie.Need-returns-4
 returns-4 c =
-    let m = c .before .before .before .before .before .before in
-    audit-good (passed (m .length-good .ensures) (c .before .before .before .before .before .if1 .left)) (c .before .all .ensures .holds (not-false _ (c .if3 .left))) refl
+    let m = c .before .before .before .before .before in
+    audit-good (passed (m .length-good .ensures) (c .before .before .before .before .if1 .left)) (c .before .all .ensures .holds (not-false _ (c .if3 .left))) refl
 
 pub check-spec : {M : Type 1} → statement M
 check-spec =
