@@ -14,7 +14,7 @@ use Rattle.layout.proofs.EntryLaws.{entry-lt}
 use Rattle.fields.specs.Header.{headerOf, putHeader, HeaderFits}
 use Rattle.fields.specs.declared.header.Header.{Header}
 use Rattle.fields.proofs.HeaderLaws.{header-put, edition-put, length-putHeader, byte-putHeader}
-use Rattle.node.specs.Moved.{Cleared}
+use Rattle.moves.specs.Moved.{Cleared}
 use Rattle.model.specs.Edition.{edition1}
 use Rattle.model.specs.Image.{image}
 use Rattle.model.proofs.Edition1.{lawful1}

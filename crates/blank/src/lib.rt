@@ -3,7 +3,6 @@ use fields::body::EmptyRoot;
 use fields::header::Header;
 use layout::entry::Entry;
 use layout::kind::Kind;
-use node::moves;
 ghost use mathlib.Core.List.{[]};
 ghost use mathlib.Core.Path.{_≡_};
 ghost use lib.ListN.{length};

@@ -21,7 +21,7 @@ use Rattle.model.proofs.ItemLaws.{sum-app, sum-cons}
 use Rattle.model.proofs.StandsGood.{leafy-other}
 use Rattle.model.proofs.OneBody.{OneBody, node-inner, node-below, leaf-one, join-one, back-one}
 use Rattle.model.proofs.MarkLaws.{leaf-marks, prefix-marks, is-gone, is-from, counts-like, stay-more}
-use Rattle.node.specs.Moved.{Only}
+use Rattle.moves.specs.Moved.{Only}
 use Rattle.room.specs.View.{rooted, released}
 use Rattle.room.specs.Step.{Frees}
 use Rattle.room.proofs.HeapLaws.{two-apart, cover-body}

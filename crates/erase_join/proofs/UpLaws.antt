@@ -24,7 +24,7 @@ use Rattle.model.proofs.ItemLaws.{sum-app, sum-cons}
 use Rattle.model.proofs.StandsGood.{leafy-other}
 use Rattle.model.proofs.OneBody.{OneBody, node-inner, node-below, one-body, lone-one}
 use Rattle.model.proofs.MarkLaws.{leaf-marks, prefix-marks, is-to, counts-like, stay-more}
-use Rattle.node.specs.Moved.{Only}
+use Rattle.moves.specs.Moved.{Only}
 use Rattle.room.specs.View.{listOf, placeFrom, taken, Roomy, rooted}
 use Rattle.room.specs.Step.{Takes, Took}
 use Rattle.room.specs.Book.{takenAll, Kinds}

@@ -27,7 +27,7 @@ use Rattle.model.specs.Freedom.{is}
 use Rattle.model.proofs.ItemLaws.{in-yes, sum-app, sum-cons}
 use Rattle.model.proofs.StandsGood.{leafy-other}
 use Rattle.model.proofs.MarkLaws.{node-marks, is-gone, stay-more}
-use Rattle.node.specs.Moved.{Only}
+use Rattle.moves.specs.Moved.{Only}
 use Rattle.inner.specs.Inner.{NodeHas, Emptied, Removed, Carry, Carried}
 use Rattle.inner.proofs.InnerLaws.{inner-keeps}
 use Rattle.room.specs.View.{listOf, placeFrom, taken, Roomy, released, rooted}

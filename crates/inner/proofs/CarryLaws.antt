@@ -15,8 +15,8 @@ use Rattle.layout.proofs.KindLaws.{size-least}
 use Rattle.layout.proofs.NumberLaws.{zero-le-bytes, le-put}
 use Rattle.model.specs.Body.{byteIn, childIn, Asc, lookKid, InnerAt}
 use Rattle.node.specs.Kids.{insertKid, Reached}
-use Rattle.node.specs.Moved.{Only}
-use Rattle.node.proofs.MoveLaws.{only-set, only-put, only-then, only-widen, keeps-outside}
+use Rattle.moves.specs.Moved.{Only}
+use Rattle.moves.proofs.MoveLaws.{only-set, only-put, only-then, only-widen, keeps-outside}
 use Rattle.node.proofs.KidsLaws.{asc-byte, asc-slot, asc-lt, take-insert, take-look, reached-start, reached-next}
 use Rattle.node.proofs.SortedLaws.{sorted-append}
 use Rattle.node_big.specs.Indexed.{Numbered}

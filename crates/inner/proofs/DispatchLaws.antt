@@ -13,9 +13,9 @@ use Rattle.layout.specs.Kind.{Node48, bodySize, most}
 use Rattle.model.specs.Strings.{pick}
 use Rattle.model.specs.Body.{byteIn, childIn, lookKid, SortedAt, Node48At, Node256At, InnerAt}
 use Rattle.node.specs.Kids.{insertKid, removeKid, nextKid, Reached}
-use Rattle.node.specs.Moved.{Only}
+use Rattle.moves.specs.Moved.{Only}
 use Rattle.node.specs.Sorted.{Sorted, SortedOpen, SortedHas}
-use Rattle.node.proofs.MoveLaws.{only-widen}
+use Rattle.moves.proofs.MoveLaws.{only-widen}
 use Rattle.node.proofs.KidsLaws.{asc-byte, next-reached}
 use Rattle.node_big.specs.Indexed.{Lowest, Open48, Has48, Open256, Has256}
 use Rattle.inner.specs.Inner.{sortedBytes, placeAt, appended, NodeSome, NodeOpen, NodeHas, Visit, Added, Removed}

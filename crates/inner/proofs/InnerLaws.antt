@@ -15,8 +15,8 @@ use Rattle.model.specs.Strings.{pick}
 use Rattle.model.specs.Body.{Asc, lookKid, SortedAt, Node48At, Node256At, InnerAt}
 use Rattle.model.specs.Frame.{LayKids, nil, kid, pairs, Places}
 use Rattle.node.specs.Kids.{setKid, placeOf}
-use Rattle.node.specs.Moved.{Keeps, Cleared}
-use Rattle.node.proofs.MoveLaws.{only-put}
+use Rattle.moves.specs.Moved.{Keeps, Cleared}
+use Rattle.moves.proofs.MoveLaws.{only-put}
 use Rattle.node.proofs.KidsLaws.{place-lt}
 use Rattle.node.proofs.SortedLaws.{sorted-set, sorted-empty, sorted-keeps, sorted-one}
 use Rattle.node_big.proofs.Laws48.{set48, empty48, keeps48, one48}

@@ -12,7 +12,7 @@ use Rattle.layout.specs.Kind.{Node48, bodySize, most}
 use Rattle.model.specs.Strings.{pick}
 use Rattle.model.specs.Body.{InnerAt, Zero, lookKid, childIn}
 use Rattle.node.specs.Kids.{insertKid, removeKid, Reached}
-use Rattle.node.specs.Moved.{Only}
+use Rattle.moves.specs.Moved.{Only}
 use Rattle.node_big.specs.Indexed.{Lowest, Numbered}
 
 -- ---- places

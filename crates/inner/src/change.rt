@@ -2,7 +2,6 @@
 use crate::look;
 use layout::kind;
 use layout::kind::Kind;
-use node::moves;
 use node::sorted;
 use node_big::node48;
 use node_big::node256;

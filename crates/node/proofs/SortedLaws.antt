@@ -13,9 +13,9 @@ use Rattle.layout.specs.Place.{nodeCount}
 use Rattle.layout.proofs.NumberLaws.{le-moved, le-put, le-zero}
 use Rattle.model.specs.Body.{byteIn, childIn, Asc, lookKid, SortedAt}
 use Rattle.node.specs.Kids.{orZero, insertKid, removeKid, setKid, placeOf, rankOf, nextKid}
-use Rattle.node.specs.Moved.{Only, Keeps, Opened, Closed}
+use Rattle.moves.specs.Moved.{Only, Keeps, Opened, Closed}
 use Rattle.node.specs.Sorted.{Row, SortedHas}
-use Rattle.node.proofs.MoveLaws.{only-none, only-set, only-put, only-sym, only-then, only-widen, le-only, le-keeps, other-child}
+use Rattle.moves.proofs.MoveLaws.{only-none, only-set, only-put, only-sym, only-then, only-widen, le-only, le-keeps, other-child}
 use Rattle.node.proofs.KidsLaws.{insertAt, removeAt, length-insertAt, insertAt-low, insertAt-here, insertAt-high, length-removeAt, removeAt-low, removeAt-high, insert-at, remove-at, asc-insert, asc-remove, asc-set, set-place, place-lt, place-is, rank-is, next-is, next-none, look-in, look-out}
 
 -- ---- what the searches look at

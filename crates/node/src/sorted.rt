@@ -2,7 +2,6 @@
 // children - bytes places; the first of them are in use, as many as the count, with bytes ascending.
 use crate::Child;
 use crate::Seat;
-use crate::moves;
 use fields::body::Node;
 use fields::body::Rows;
 ghost use mathlib.Core.Path.{_≡_};
@@ -13,7 +12,7 @@ ghost use lib.ListN.{length, set};
 ghost use Rattle.layout.specs.Number.{put};
 ghost use Rattle.model.specs.Body.{SortedAt, lookKid, byteIn, childIn};
 ghost use Rattle.node.specs.Kids.{orZero, insertKid, removeKid, placeOf, rankOf, nextKid};
-ghost use Rattle.node.specs.Moved.{Only};
+ghost use Rattle.moves.specs.Moved.{Only};
 ghost use Rattle.node.specs.Sorted.{Row, Sorted, SortedOpen, SortedHas};
 
 // The place of byte b among the n ascending bytes from `at`, or n.

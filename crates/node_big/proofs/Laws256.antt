@@ -13,8 +13,8 @@ use Rattle.layout.specs.Place.{nodeCount, node256Children}
 use Rattle.layout.proofs.NumberLaws.{le-put, le-zero}
 use Rattle.model.specs.Body.{Asc, lookKid, slotOrNone, Node256At}
 use Rattle.node.specs.Kids.{orZero, insertKid, removeKid, setKid, nextKid}
-use Rattle.node.specs.Moved.{Only, Keeps}
-use Rattle.node.proofs.MoveLaws.{only-put, only-sym, only-then, only-widen, le-only, le-keeps, other-child}
+use Rattle.moves.specs.Moved.{Only, Keeps}
+use Rattle.moves.proofs.MoveLaws.{only-put, only-sym, only-then, only-widen, le-only, le-keeps, other-child}
 use Rattle.node.proofs.KidsLaws.{asc-insert, asc-remove, asc-set, look-insert, look-remove, look-set, length-insert, length-remove, length-setKid, next-look, next-look-none, look-ext}
 use Rattle.node_big.specs.Indexed.{Wrote256}
 

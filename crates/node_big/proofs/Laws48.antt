@@ -14,8 +14,8 @@ use Rattle.layout.specs.Place.{nodeCount, node48Index, node48Children}
 use Rattle.layout.proofs.NumberLaws.{le-put, le-zero}
 use Rattle.model.specs.Body.{byteIn, Asc, lookKid, Named, namedChild, Node48At}
 use Rattle.node.specs.Kids.{orZero, insertKid, removeKid, setKid, placeOf, nextKid}
-use Rattle.node.specs.Moved.{Only, Keeps}
-use Rattle.node.proofs.MoveLaws.{only-set, only-put, only-sym, only-then, only-widen, le-only, le-keeps, other-child}
+use Rattle.moves.specs.Moved.{Only, Keeps}
+use Rattle.moves.proofs.MoveLaws.{only-set, only-put, only-sym, only-then, only-widen, le-only, le-keeps, other-child}
 use Rattle.node.proofs.KidsLaws.{place-byte, place-lt, asc-insert, asc-remove, asc-set, look-insert, look-remove, look-set, length-insert, length-remove, length-setKid, next-look, next-look-none, asc-byte, asc-lt, look-ext}
 use Rattle.node_big.specs.Indexed.{Lowest, Numbered, Wrote48}
 use Rattle.node_big.proofs.Pigeons.{pigeon}

@@ -7,7 +7,7 @@ use lib.ListN.{length}
 use Rattle.layout.specs.Number.{byteAt, le}
 use Rattle.layout.specs.Place.{nodeCount, nodeZero, node48Index, node48Children, node256Children}
 use Rattle.model.specs.Body.{byteIn, Named, Node48At, Node256At, lookKid}
-use Rattle.node.specs.Moved.{Only}
+use Rattle.moves.specs.Moved.{Only}
 
 -- "a new child takes the lowest empty place": r is the lowest from 1 to 48 that no entry of the index names; 49 if there is none
 pub record Lowest (f : List ℕ) (index r : ℕ) : Type 0 where

@@ -12,7 +12,7 @@ ghost use Rattle.layout.specs.Number.{put};
 ghost use Rattle.layout.specs.Place.{node256Children};
 ghost use Rattle.model.specs.Body.{Node256At, lookKid};
 ghost use Rattle.node.specs.Kids.{orZero, insertKid, removeKid, nextKid};
-ghost use Rattle.node.specs.Moved.{Only};
+ghost use Rattle.moves.specs.Moved.{Only};
 ghost use Rattle.node_big.specs.Indexed.{In256, Open256, Has256, Wrote256};
 
 // The child of byte b, 0 where there is none, and where it stands.

@@ -12,7 +12,7 @@ ghost use Rattle.layout.specs.Number.{byteAt, put};
 ghost use Rattle.layout.specs.Place.{node48Index, node48Children};
 ghost use Rattle.model.specs.Body.{Node48At, lookKid};
 ghost use Rattle.node.specs.Kids.{orZero, insertKid, removeKid, nextKid};
-ghost use Rattle.node.specs.Moved.{Only};
+ghost use Rattle.moves.specs.Moved.{Only};
 ghost use Rattle.node_big.specs.Indexed.{Lowest, In48, Open48, Has48, Wrote48};
 
 // The number after the last place, which is 48.

@@ -17,8 +17,8 @@ use Rattle.model.specs.Image.{digits, padded, size, bodies}
 use Rattle.model.specs.Body.{Zero, Has}
 use Rattle.model.proofs.TextLaws.{has-at, length-padded}
 use Rattle.model.proofs.PackedBytes.{extent-fits}
-use Rattle.node.specs.Moved.{Only}
-use Rattle.node.proofs.MoveLaws.{only-put}
+use Rattle.moves.specs.Moved.{Only}
+use Rattle.moves.proofs.MoveLaws.{only-put}
 use Rattle.pack_body.specs.Part.{partBody, LeafCopies, LeafCopied, PrefixCopies, PrefixCopied, NodeStarted, ChildWritten}
 use Rattle.pack_body.proofs.HasLaws.{has-put}
 use Rattle.pack_body.proofs.PartLaws.{part-long, part-byte, part-zero, part-has, part-only}

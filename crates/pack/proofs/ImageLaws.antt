@@ -30,7 +30,7 @@ use Rattle.model.proofs.PackStands.{empty-none}
 use Rattle.model.proofs.PackedLaws.{packed-well}
 use Rattle.model.proofs.PackedBytes.{length-entries}
 use Rattle.model.proofs.UniqueLaws.{tree-unique}
-use Rattle.node.specs.Moved.{Cleared}
+use Rattle.moves.specs.Moved.{Cleared}
 use Rattle.blank.specs.Limits.{Limits}
 use Rattle.pack_body.specs.Part.{HeaderWritten}
 use Rattle.pack_body.proofs.HasLaws.{has-only}

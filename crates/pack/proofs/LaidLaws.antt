@@ -10,7 +10,7 @@ use Rattle.layout.specs.Place.{entryAt}
 use Rattle.model.specs.Image.{digits, numbers}
 use Rattle.model.specs.Body.{Has}
 use Rattle.model.proofs.TextLaws.{has-at, has-right, length-numbers}
-use Rattle.node.specs.Moved.{Only}
+use Rattle.moves.specs.Moved.{Only}
 use Rattle.pack_body.proofs.HasLaws.{has-join, has-same, has-only, entries-join}
 use Rattle.pack.specs.declared.bodies.Next.{Next}
 use Rattle.pack.specs.Laid.{Room, Laid}

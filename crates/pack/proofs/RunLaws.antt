@@ -27,7 +27,7 @@ use Rattle.model.proofs.PackedLaws.{Fits, smallest-fits}
 use Rattle.model.proofs.PackedBytes.{length-entries}
 use Rattle.model.proofs.UniqueLaws.{tree-unique}
 use Rattle.node.specs.Kids.{Reached}
-use Rattle.node.specs.Moved.{Only}
+use Rattle.moves.specs.Moved.{Only}
 use Rattle.node.proofs.KidsLaws.{reached-start, reached-next}
 use Rattle.inner.specs.Inner.{Visit}
 use Rattle.inner.proofs.InnerLaws.{inner-room}

@@ -11,7 +11,7 @@ use Rattle.layout.specs.Entry.{entryOf}
 use Rattle.model.specs.Tree.Art.{leaf}
 use Rattle.model.specs.Image.{digits, numbers, padded, size, entries, bodies}
 use Rattle.model.specs.Body.{Has, LeafAt, PrefixAt}
-use Rattle.node.specs.Moved.{Only}
+use Rattle.moves.specs.Moved.{Only}
 use Rattle.pack_body.specs.Part.{Ascending, partBody}
 use Rattle.pack.specs.declared.bodies.Next.{Next}
 

@@ -2,7 +2,6 @@
 use crate::bodies::Next;
 use crate::walk;
 use fields::header::Header;
-use node::moves;
 use pack_body::header;
 ghost use mathlib.Core.Path.{_≡_};
 ghost use Prim.Native.Nat.{_≤_};

@@ -14,8 +14,8 @@ use Rattle.model.specs.Image.{digits, numbers, padded}
 use Rattle.model.specs.Body.{Zero, Has}
 use Rattle.model.proofs.TextLaws.{has-at, has-left, has-right, padded-left, padded-past, length-numbers, length-padded}
 use Rattle.model.proofs.ImageLaws.{numbers-append, Entries}
-use Rattle.node.specs.Moved.{Only}
-use Rattle.node.proofs.MoveLaws.{outside, only-put}
+use Rattle.moves.specs.Moved.{Only}
+use Rattle.moves.proofs.MoveLaws.{outside, only-put}
 
 -- ---- joined
 

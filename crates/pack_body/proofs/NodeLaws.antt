@@ -23,7 +23,7 @@ use Rattle.model.proofs.StringLaws.{eqb-cases}
 use Rattle.model.proofs.TextLaws.{has-left, has-right, has-three, length-numbers, length-padded}
 use Rattle.model.proofs.NodeImage.{length-spread}
 use Rattle.model.proofs.ImageLaws.{numbers-append}
-use Rattle.node.proofs.MoveLaws.{only-put, only-set, only-widen}
+use Rattle.moves.proofs.MoveLaws.{only-put, only-set, only-widen}
 use Rattle.inner.specs.Inner.{appended}
 use Rattle.inner.proofs.DispatchLaws.{is-sorted, is-48, is-256}
 use Rattle.inner.proofs.CarryLaws.{appended-only}

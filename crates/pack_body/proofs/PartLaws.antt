@@ -9,8 +9,8 @@ use lib.Seq.{length-take-le, getD-append-add, getD-take, getD-drop}
 use borrow.Rule.Slice.PartMut.{putMid, midOf, postOf}
 use Rattle.layout.specs.Number.{byteAt}
 use Rattle.model.specs.Body.{Zero, Has}
-use Rattle.node.specs.Moved.{Only}
-use Rattle.room.specs.Step.{Pasted}
+use Rattle.moves.specs.Moved.{Only}
+use Rattle.moves.specs.Pasted.{Pasted}
 
 module _ (a k : ℕ) (xs : List ℕ) (h : a + k ≤ length xs) where
   -- ---- the part

@@ -20,9 +20,9 @@ use Rattle.model.specs.Tree.Art.{leaf}
 use Rattle.model.specs.Image.{digits, padded, size, bodies}
 use Rattle.model.specs.Body.{Zero, Text, Has, LeafAt, PrefixAt}
 use Rattle.model.proofs.PackedBytes.{extent-fits}
-use Rattle.node.specs.Moved.{Only}
-use Rattle.node.proofs.MoveLaws.{only-put, only-then}
-use Rattle.room.specs.Step.{Pasted}
+use Rattle.moves.specs.Moved.{Only}
+use Rattle.moves.proofs.MoveLaws.{only-put, only-then}
+use Rattle.moves.specs.Pasted.{Pasted}
 use Rattle.pack_body.specs.Part.{HeaderWritten, LeafCopies, LeafCopied, PrefixCopies, PrefixCopied}
 use Rattle.pack_body.proofs.PartLaws.{part-pasted}
 use Rattle.pack_body.proofs.HasLaws.{zero-at, has-one, has-join, has-padded, has-only, has-put, has-more}

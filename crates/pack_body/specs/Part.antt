@@ -12,7 +12,7 @@ use Rattle.model.specs.Edition.{edition1}
 use Rattle.model.specs.Tree.Art.{leaf}
 use Rattle.model.specs.Image.{digits, numbers, padded, spread, upFrom, size, bodies, header}
 use Rattle.model.specs.Body.{Zero, Has, LeafAt, PrefixAt}
-use Rattle.node.specs.Moved.{Only}
+use Rattle.moves.specs.Moved.{Only}
 
 -- ---- the header
 

@@ -1,6 +1,6 @@
 // A Leaf: "a Leaf's extent right after its body".
 use fields::body::Leaf;
-use room::fill;
+use moves::fill;
 ghost use Rattle.pack_body.specs.Part.{LeafCopies, LeafCopied};
 
 // The Leaf at o of the frame f is copied to the part, which starts at `at` of the output, and its extent to the part behind the body: how

@@ -1,6 +1,6 @@
 // A Prefix.
 use fields::body::Prefix;
-use room::fill;
+use moves::fill;
 ghost use Rattle.pack_body.specs.Part.{PrefixCopies, PrefixCopied};
 
 // The Prefix at o of the frame f is copied to the part, with another child.

@@ -9,8 +9,8 @@ use lib.Seq.{getD-drop}
 use Rattle.layout.specs.Number.{byteAt, le, put}
 use Rattle.layout.specs.Place.{prefixChild, prefixLength, prefixZero, prefixBytes}
 use Rattle.layout.proofs.NumberLaws.{le-put}
-use Rattle.node.specs.Moved.{Only, Moved, Cleared}
-use Rattle.node.proofs.MoveLaws.{only-put, only-then}
+use Rattle.moves.specs.Moved.{Only, Moved, Cleared}
+use Rattle.moves.proofs.MoveLaws.{only-put, only-then}
 use Rattle.room.proofs.HeapLaws.{le-below}
 use Rattle.prefix_body.specs.Prefix.{Shortened}
 

@@ -12,9 +12,9 @@ use Rattle.layout.specs.Place.{prefixChild, prefixLength, prefixZero, prefixByt
 use Rattle.layout.proofs.NumberLaws.{le-put}
 use Rattle.model.specs.Body.{Text, PrefixAt}
 use Rattle.model.proofs.UniqueLaws.{prefix-unique}
-use Rattle.node.specs.Moved.{Only, Moved, Cleared, Opened}
-use Rattle.node.proofs.MoveLaws.{only-set, only-put, only-then, keeps-outside}
-use Rattle.room.specs.Step.{Pasted}
+use Rattle.moves.specs.Moved.{Only, Moved, Cleared, Opened}
+use Rattle.moves.proofs.MoveLaws.{only-set, only-put, only-then, keeps-outside}
+use Rattle.moves.specs.Pasted.{Pasted}
 use Rattle.room.proofs.HeapLaws.{le-below, le-above}
 use Rattle.between.proofs.BodyLaws.{prefix-keeps}
 use Rattle.prefix_body.specs.Prefix.{PrefixWritten, Spare, Joins}

@@ -4,7 +4,7 @@ use mathlib.Core.List.{List}
 use mathlib.Core.Logic.{_⊎_}
 use lib.ListN.{length, drop}
 use Rattle.model.specs.Body.{PrefixAt}
-use Rattle.node.specs.Moved.{Only}
+use Rattle.moves.specs.Moved.{Only}
 
 -- a Prefix of bytes p and this child at o
 pub record PrefixWritten (f g : List ℕ) (o : ℕ) (p : List ℕ) (child : ℕ) : Type 0 where

@@ -1,7 +1,6 @@
 // The body of a Prefix: written whole, with a byte more in front or at the end, with the bytes of another one, and with its first bytes cut off.
 use fields::body::Prefix;
-use node::moves;
-use room::fill;
+use moves::fill;
 ghost use mathlib.Core.Path.{_≡_};
 ghost use mathlib.Core.List.{List, [], _∷_, _++_};
 ghost use Prim.Native.Nat.{ℕ, _+_, _≤_, _<_};
@@ -9,7 +8,7 @@ ghost use lib.ListN.{length};
 ghost use Rattle.layout.specs.Number.{byteAt};
 ghost use Rattle.layout.specs.Place.{prefixBytes};
 ghost use Rattle.model.specs.Body.{PrefixAt};
-ghost use Rattle.node.specs.Moved.{Only, Moved};
+ghost use Rattle.moves.specs.Moved.{Only, Moved};
 ghost use Rattle.prefix_body.specs.Prefix.{PrefixWritten, Spare, Joins, Longer, Shortened};
 
 // ---- written whole

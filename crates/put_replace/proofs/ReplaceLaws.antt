@@ -23,10 +23,11 @@ use Rattle.model.specs.Freedom.{is}
 use Rattle.model.proofs.StringLaws.{same-refl}
 use Rattle.model.proofs.ItemLaws.{sum-app, sum-cons}
 use Rattle.model.proofs.MarkLaws.{leaf-marks, stay-more}
-use Rattle.node.specs.Moved.{Keeps}
-use Rattle.node.proofs.MoveLaws.{le-keeps}
+use Rattle.moves.specs.Moved.{Keeps}
+use Rattle.moves.proofs.MoveLaws.{le-keeps}
 use Rattle.room.specs.View.{extended, retired}
-use Rattle.room.specs.Step.{Pasted, Extends, Extended, Retires, Renumbered}
+use Rattle.moves.specs.Pasted.{Pasted}
+use Rattle.room.specs.Step.{Extends, Extended, Retires, Renumbered}
 use Rattle.room.specs.Book.{takenAll, Kinds}
 use Rattle.room.proofs.HeapLaws.{touch-extent, cover-body, cover-extent}
 use Rattle.room.proofs.BookLaws.{room-last}

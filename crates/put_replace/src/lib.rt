@@ -2,7 +2,7 @@
 // the old one's size is added to X."
 use descent::spot::Spot;
 use fields::body::Leaf;
-use room::fill;
+use moves::fill;
 use room::heap;
 ghost use Rattle.leaf_new.specs.Put.{PutStep};
 ghost use Rattle.put_replace.specs.Put.{Present};

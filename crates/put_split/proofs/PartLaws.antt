@@ -19,7 +19,7 @@ use Rattle.node.specs.Kids.{insertKid}
 use Rattle.node.proofs.KidsLaws.{look-insert}
 use Rattle.inner.specs.Inner.{NodeOpen, Emptied, Added}
 use Rattle.room.specs.View.{listOf, placeFrom, taken}
-use Rattle.node.proofs.MoveLaws.{only-then}
+use Rattle.moves.proofs.MoveLaws.{only-then}
 use Rattle.room.proofs.HeapLaws.{lies, Lies}
 use Rattle.descent.proofs.KeyLaws.{walked-in, walked-out}
 use Rattle.between.specs.Edit.{leafView, MadeLeaf}

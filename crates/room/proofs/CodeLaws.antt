@@ -16,64 +16,13 @@ use Rattle.model.specs.Tree.{up8}
 use Rattle.model.specs.Item.{Item, body, extent, bulk, Same}
 use Rattle.model.specs.Frame.{View, Chain, Heap, freed}
 use Rattle.model.proofs.ItemLaws.{sum-app, sum-cons}
-use Rattle.node.specs.Moved.{Only}
+use Rattle.moves.specs.Moved.{Only}
 use Rattle.room.specs.View.{listOf, popped, given, takenFrom, slotFrom, placeFrom, taken, Roomy, retired, recorded, rooted}
-use Rattle.room.specs.Step.{But, Takes, Took, Frees, Freed, Piece, Pasted, Extended, Retires, Renumbered}
-use Rattle.node.proofs.MoveLaws.{only-none, only-set, only-put, only-then}
+use Rattle.moves.specs.Pasted.{Piece, Pasted}
+use Rattle.room.specs.Step.{But, Takes, Took, Frees, Freed, Extended, Retires, Renumbered}
+use Rattle.moves.proofs.MoveLaws.{only-none, only-set, only-put, only-then}
 use Rattle.room.proofs.HeapLaws.{lies}
 use Rattle.room.proofs.StepLaws.{chain-nil, chain-cons, head-in, pop-heap, fresh-heap, free-heap, extend-heap, record-heap, retire-heap, root-heap}
-
--- ---- paste
-
--- k bytes of p from i on are held
-pub record Held (p held : List ℕ) (i k : ℕ) : Type 0 where
-  pub size : length held ≡ 16
-  pub text : (a : ℕ) → a < k → getD held a 0 ≡ getD p (i + a) 0
-
-pub held-none : (p held : List ℕ) (i : ℕ) → length held ≡ 16 → Held p held i 0
-held-none p held i e = record { size = e; text = λ a l. absurd (omega arith) }
-
-pub held-more : {p held : List ℕ} {i k : ℕ} → Held p held i k → k < 16 → Held p (set held k (getD p (i + k) 0)) i (k + 1)
-held-more {p} {held} {i} {k} H l =
-    let s = H .size in
-    let v = getD p (i + k) 0 in
-    record {
-      size = length-set held k v ∙ s;
-      text = λ a u. elim (decLt a k) [
-        | yes q ↦ getD-set-other held k a v 0 (λ z. omega arith) ∙ H .text a q
-        | no q ↦ let e : a ≡ k = omega arith in rw e (getD-set-same held k v 0 (omega arith))
-      ];
-    }
-
--- a piece, byte by byte
-pub piece-none : (f : List ℕ) (o i : ℕ) (p : List ℕ) → Piece f f o i 0 p
-piece-none f o i p = record { only = only-none f (o + i) (o + i + 0); text = λ a j l u e. absurd (omega arith) }
-
-pub piece-more : {f g p held : List ℕ} {o i n k : ℕ} → Piece f g o i n p → Held p held i k → n < k → o + i + n < length f → Piece f (set g (o + i + n) (getD held n 0)) o i (n + 1) p
-piece-more {f} {g} {p} {held} {o} {i} {n} C H m h =
-    let s = C .only .size in
-    let v = getD held n 0 in
-    record {
-      only = only-then (o + i) (o + i + (n + 1)) (C .only) (only-set g (o + i + n) v) (omega arith) (omega arith) (omega arith) (omega arith);
-      text = λ a j l u e. elim (decLt j (i + n)) [
-        | yes q ↦ getD-set-other g (o + i + n) a v 0 (λ z. omega arith) ∙ C .text a j l q e
-        | no q ↦ let ea : a ≡ o + i + n = omega arith in let ej : j ≡ i + n = omega arith in rw (ea, ej) (getD-set-same g (o + i + n) v 0 (omega arith) ∙ H .text n m)
-      ];
-    }
-
--- the whole, piece by piece: the next one starts no later than where the last ended
-pub pasted-none : (f : List ℕ) (o : ℕ) (p : List ℕ) → Pasted f f o 0 p
-pasted-none f o p = record { only = only-none f o (o + 0); text = λ a i l e. absurd (omega arith) }
-
-pub pasted-piece : {f g h p : List ℕ} {o m i n k : ℕ} → Pasted f g o m p → Piece g h o i n p → i ≤ m → m ≤ k → i + n ≡ k → Pasted f h o k p
-pasted-piece {f} {g} {h} {p} {o} {m} {i} {n} {k} A B l u e =
-    record {
-      only = only-then o (o + k) (A .only) (B .only) (omega arith) (omega arith) (omega arith) (omega arith);
-      text = λ a j y ea. elim (decLt j i) [
-        | yes q ↦ B .only .below a (omega arith) ∙ A .text a j (omega arith) ea
-        | no q ↦ B .text a j (omega arith) (omega arith) ea
-      ];
-    }
 
 -- ---- take and release
 

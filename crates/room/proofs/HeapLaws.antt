@@ -17,7 +17,7 @@ use Rattle.layout.proofs.EntryLaws.{high-of-entry, place-of-entry}
 use Rattle.model.specs.Item.{Item, body, extent, onSlot, cover, onEntry, touch, sum, Same, Sound}
 use Rattle.model.specs.Frame.{Numbers, View, Entry, Chain, listItems, freed, Header, Lists, Heap}
 use Rattle.model.proofs.ItemLaws.{in-yes, sum-app, sum-cons, sound-same, entry-none, touch-few, touch-head}
-use Rattle.node.specs.Moved.{Only}
+use Rattle.moves.specs.Moved.{Only}
 use Rattle.room.specs.View.{renumbered, holding, listOf, slotFrom, placeFrom, takenFrom, taken}
 use Rattle.room.specs.Step.{But, Kept, Took}
 

@@ -16,7 +16,7 @@ use Rattle.layout.proofs.EntryLaws.{high-of-entry, place-of-entry, place-lt, pl
 use Rattle.model.specs.Item.{Item, body, extent, onEntry, touch, sum, Same, Sound}
 use Rattle.model.specs.Frame.{View, Entry, Chain, listItems, freed, Lists, all, Heap}
 use Rattle.model.proofs.ItemLaws.{sum-app, sum-cons, sound-same, sound-fresh, sound-extent, sound-retire, touch-is, touch-head}
-use Rattle.node.specs.Moved.{Only}
+use Rattle.moves.specs.Moved.{Only}
 use Rattle.room.specs.View.{listOf, popped, given, released, extended, retired, recorded, rooted}
 use Rattle.room.specs.Step.{But, Kept, Freed, Renumbered}
 use Rattle.room.proofs.HeapLaws.{le-below, le-above, list-cons, freed-set, freed-part, chain-frame, lists-frame, header-to, header-keep, touch-entry, touch-extent, others-kept, kept-part, body-in, lies, but-on, only-but, field-but, mid-entry}

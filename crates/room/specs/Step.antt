@@ -10,7 +10,7 @@ use Rattle.layout.specs.Kind.{Kind}
 use Rattle.model.specs.Tree.{up8}
 use Rattle.model.specs.Item.{Item, body, extent, touch, sum, Same}
 use Rattle.model.specs.Frame.{View, Heap, Entry}
-use Rattle.node.specs.Moved.{Only}
+use Rattle.moves.specs.Moved.{Only}
 use Rattle.room.specs.View.{listOf, slotFrom, placeFrom, taken, Roomy, released, extended}
 
 -- ---- which bytes changed
@@ -59,17 +59,7 @@ pub record Freed (f g : List ℕ) (h : View) (s k o : ℕ) (rest : List Item) : 
   pub but : But f g (entryAt s) (entryAt s + 4)
   pub kept : Kept f g rest
 
--- ---- paste, extend
-
--- g is f with the n bytes of p from i on, at o + i
-pub record Piece (f g : List ℕ) (o i n : ℕ) (p : List ℕ) : Type 0 where
-  pub only : Only f g (o + i) (o + i + n)
-  pub text : (a j : ℕ) → i ≤ j → j < i + n → a ≡ o + j → byteAt g a ≡ getD p j 0
-
--- g is f with the first n bytes of p at o
-pub record Pasted (f g : List ℕ) (o n : ℕ) (p : List ℕ) : Type 0 where
-  pub only : Only f g o (o + n)
-  pub text : (a i : ℕ) → i < n → a ≡ o + i → byteAt g a ≡ getD p i 0
+-- ---- extend
 
 -- an extent of n bytes, before it is rounded
 pub record Extends (f : List ℕ) (n : ℕ) : Type 0 where

@@ -1,10 +1,10 @@
 // The heap of a frame: bodies are taken and freed, extents given out and retired, R and the root slot set. Taking, freeing, giving
 // out and retiring are one function each, and nothing else changes a list, U, B or X.
-use crate::fill;
 use fields::body::Leaf;
 use fields::header::Header;
 use layout::entry::Entry;
 use layout::kind;
+use moves::fill;
 ghost use mathlib.Core.Path.{_≡_};
 ghost use Prim.Native.Nat.{ℕ, _+_, _≤_, _<_};
 ghost use mathlib.Core.List.{List, _∷_};

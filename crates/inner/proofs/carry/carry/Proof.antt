@@ -2,8 +2,8 @@
 use mathlib.Core.List.{List}
 use Rattle.layout.specs.Kind.{bodySize}
 use Rattle.model.specs.Body.{InnerAt}
-use Rattle.node.specs.Moved.{Only}
-use Rattle.node.proofs.MoveLaws.{only-none}
+use Rattle.moves.specs.Moved.{Only}
+use Rattle.moves.proofs.MoveLaws.{only-none}
 use Rattle.inner.proofs.InnerLaws.{inner-count, inner-room}
 use Rattle.inner.proofs.CarryLaws.{Part, part-none, part-all, turn-visit, turn-append, turn, size-8}
 use Prim.Native.Nat.{ℕ, _+_, _-_, _≤_}

@@ -1,6 +1,6 @@
 -- Child and count written. Assumes nothing.
 use native.Mathlib.Omega.{arith}
-use Rattle.node.proofs.MoveLaws.{only-none}
+use Rattle.moves.proofs.MoveLaws.{only-none}
 use Rattle.node_big.proofs.Laws256.{wrote256}
 use borrow.Author.Needs.{needs}
 use Rattle.node_big.proofs.node256.write.Statement.{statement}

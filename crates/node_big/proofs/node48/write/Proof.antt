@@ -1,6 +1,6 @@
 -- Entry, child and count written. Assumes nothing.
 use native.Mathlib.Omega.{arith}
-use Rattle.node.proofs.MoveLaws.{only-none}
+use Rattle.moves.proofs.MoveLaws.{only-none}
 use Rattle.node_big.proofs.Laws48.{wrote48}
 use borrow.Author.Needs.{needs}
 use Rattle.node_big.proofs.node48.write.Statement.{statement}

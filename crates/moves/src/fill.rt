@@ -1,7 +1,7 @@
 // Bytes of a frame set to those of another slice.
 ghost use Prim.Native.Nat.{_+_, _≤_, _<_};
 ghost use lib.ListN.{length};
-ghost use Rattle.room.specs.Step.{Piece, Pasted};
+ghost use Rattle.moves.specs.Pasted.{Piece, Pasted};
 
 // The bytes that are written at a time, of a long slice and of shorter ones.
 const PIECE: usize = 16;

@@ -4,10 +4,10 @@ use Prim.Native.Nat.{_-_, _≤_}
 use mathlib.Core.Path.{_≡_, refl}
 use native.Mathlib.Omega.{arith}
 use borrow.Author.Needs.{needs}
-use Rattle.room.specs.Step.{Piece}
-use Rattle.room.proofs.CodeLaws.{Held, held-none, held-more, piece-none, piece-more}
-use Rattle.room.proofs.fill.piece.Statement.{statement}
-use Rattle.room.proofs.fill.piece.Tie as tie
+use Rattle.moves.specs.Pasted.{Piece}
+use Rattle.moves.proofs.PasteLaws.{Held, held-none, held-more, piece-none, piece-more}
+use Rattle.moves.proofs.fill.piece.Statement.{statement}
+use Rattle.moves.proofs.fill.piece.Tie as tie
 
 abbrev Inv-loop : tie.InvT-loop
 Inv-loop f o p i n held₀ k₀ held k = (k ≤ n) × Held p held i k
