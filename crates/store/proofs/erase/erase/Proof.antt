@@ -47,7 +47,7 @@ returns-4 c =
 
 erase-requires : tie.Need-erase-requires
 erase-requires c κs =
-    let key = c .before .before .before .before in
+    let key = c .before .before .before in
     let n = key .before .before .before in
     erase-asked _ _ (n .check .ensures) (omega arith) (key .fault .ensures) (omega arith) (λ a. omega (arith, n .before .before .before .shared-slice-known .given a))
 
@@ -56,7 +56,7 @@ same-length-5 c = search needs
 
 returns-5 : tie.Need-returns-5
 returns-5 c =
-    let key = c .before .before .before .before .before .before .before in
+    let key = c .before .before .before .before .before .before in
     let n = key .before .before .before in
     erase-made _ _ (n .check .ensures) (omega arith) (key .fault .ensures) (omega arith) (c .before .before .erase .ensures)
 

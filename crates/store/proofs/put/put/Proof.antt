@@ -56,7 +56,7 @@ returns-5 c =
 
 put-requires : tie.Need-put-requires
 put-requires c κs =
-    let key = c .before .before .before .before .before in
+    let key = c .before .before .before .before in
     let n = key .before .before .before in
     put-asked _ _ _ (n .check .ensures) (omega arith) (key .fault .ensures) (omega arith) (omega arith) (λ a. omega (arith, n .before .before .before .before .shared-slice-known .given a)) (λ a. omega (arith, n .before .before .before .shared-slice-known2 .given a))
 
@@ -65,7 +65,7 @@ same-length-6 c = search needs
 
 returns-6 : tie.Need-returns-6
 returns-6 c =
-    let key = c .before .before .before .before .before .before .before .before in
+    let key = c .before .before .before .before .before .before .before in
     let n = key .before .before .before in
     put-made _ _ _ (n .check .ensures) (omega arith) (key .fault .ensures) (omega arith) (omega arith) (c .before .before .put .ensures)
 
