@@ -49,7 +49,7 @@ erase-requires : tie.Need-erase-requires
 erase-requires c κs =
     let key = c .before .before .before in
     let n = key .before .before .before in
-    erase-asked _ _ (n .check .ensures) (omega arith) (key .fault .ensures) (omega arith) (λ a. omega (arith, n .before .before .before .shared-slice-known .given a))
+    erase-asked _ _ (n .check .ensures) (omega arith) (key .fault .ensures) (omega arith) (λ a. omega (arith, n .before .before .shared-slice-known .given a))
 
 same-length-5 : tie.Need-same-length-5
 same-length-5 c = search needs

@@ -58,7 +58,7 @@ put-requires : tie.Need-put-requires
 put-requires c κs =
     let key = c .before .before .before .before in
     let n = key .before .before .before in
-    put-asked _ _ _ (n .check .ensures) (omega arith) (key .fault .ensures) (omega arith) (omega arith) (λ a. omega (arith, n .before .before .before .before .shared-slice-known .given a)) (λ a. omega (arith, n .before .before .before .shared-slice-known2 .given a))
+    put-asked _ _ _ (n .check .ensures) (omega arith) (key .fault .ensures) (omega arith) (omega arith) (λ a. omega (arith, n .before .before .before .shared-slice-known .given a)) (λ a. omega (arith, n .before .before .shared-slice-known2 .given a))
 
 same-length-6 : tie.Need-same-length-6
 same-length-6 c = search needs
