@@ -3,6 +3,7 @@
 use crate::Child;
 use crate::Seat;
 use fields::body::Node;
+use fields::body::Node4;
 use fields::body::Rows;
 ghost use mathlib.Core.Path.{_≡_};
 ghost use mathlib.Core.List.{List};
@@ -13,10 +14,38 @@ ghost use Rattle.layout.specs.Number.{put};
 ghost use Rattle.model.specs.Body.{SortedAt, lookKid, byteIn, childIn};
 ghost use Rattle.node.specs.Kids.{orZero, insertKid, removeKid, placeOf, rankOf, nextKid};
 ghost use Rattle.moves.specs.Moved.{Only};
-ghost use Rattle.node.specs.Sorted.{Row, Sorted, SortedOpen, SortedHas};
+ghost use Rattle.node.specs.Sorted.{Row, Between, Sorted, SortedOpen, SortedHas};
 
-// The place of byte b among the n ascending bytes from `at`, or n.
-pub fn place(f: &[u8], at: usize, n: usize, b: u8) -> usize
+// As many bytes as are quicker looked through than halved.
+const FEW: usize = Node4::PLACES;
+
+// `half` if the byte x is b or less, and else 0, reckoned and not chosen: a jump here is mispredicted every other time.
+fn upto(x: usize, b: u8, half: usize) -> usize
+    requires { ⌜ x < 256 ⌝ }
+    ensures { λ r. ⌜ (x ≤ b → r ≡ half) × (b < x → r ≡ 0) ⌝ }
+{
+    let above = Node::BYTE_VALUES + (b as usize) - x;
+    (above / Node::BYTE_VALUES) * half
+}
+
+// Of the n ascending bytes from `at`, of which there is one at least: the place of the last that is b or less, or 0. The part where it
+// stands is halved until one byte is left.
+fn halve(f: &[u8], at: usize, n: usize, b: u8) -> usize
+    requires { ⌜ (1 ≤ n) × (at + n ≤ length (now f)) ⌝ }
+    ensures { λ r. ⌜ (r < n) × Between (now (f .entry)) at n b r (r + 1) ⌝ }
+{
+    let mut lo = 0;
+    let mut left = n;
+    while 1 < left {
+        let half = left / 2;
+        lo += upto(Rows::byte(f, at, lo + half), b, half);
+        left -= half;
+    }
+    lo
+}
+
+// The place of byte b among the n ascending bytes from `at`, or n: one after the other, for a few bytes.
+fn scan(f: &[u8], at: usize, n: usize, b: u8) -> usize
     requires { ⌜ at + n ≤ length (now f) ⌝ }
     ensures { λ r. ⌜ (r ≤ n) × ((ks : List (ℕ × ℕ)) → Row (now (f .entry)) at ks → n ≡ length ks → r ≡ placeOf b ks) ⌝ }
 {
@@ -28,6 +57,29 @@ pub fn place(f: &[u8], at: usize, n: usize, b: u8) -> usize
         i += 1;
     }
     i
+}
+
+// The same by halving.
+fn halved(f: &[u8], at: usize, n: usize, b: u8) -> usize
+    requires { ⌜ (1 ≤ n) × (at + n ≤ length (now f)) ⌝ }
+    ensures { λ r. ⌜ (r ≤ n) × ((ks : List (ℕ × ℕ)) → Row (now (f .entry)) at ks → n ≡ length ks → r ≡ placeOf b ks) ⌝ }
+{
+    let i = halve(f, at, n, b);
+    if Rows::byte(f, at, i) == b as usize {
+        return i;
+    }
+    n
+}
+
+// The place of byte b among the n ascending bytes from `at`, or n.
+pub fn place(f: &[u8], at: usize, n: usize, b: u8) -> usize
+    requires { ⌜ at + n ≤ length (now f) ⌝ }
+    ensures { λ r. ⌜ (r ≤ n) × ((ks : List (ℕ × ℕ)) → Row (now (f .entry)) at ks → n ≡ length ks → r ≡ placeOf b ks) ⌝ }
+{
+    if n <= FEW {
+        return scan(f, at, n, b);
+    }
+    halved(f, at, n, b)
 }
 
 // The place where byte b belongs among the n ascending bytes from `at`.

@@ -6,8 +6,8 @@ use Rattle.node.proofs.SortedLaws.{place-row}
 use Prim.Native.Nat.{ℕ, _+_, _-_, _<_, _≤_}
 use native.Mathlib.Omega.{arith}
 use borrow.Author.Needs.{needs}
-use Rattle.node.proofs.sorted.place.Statement.{statement}
-use Rattle.node.proofs.sorted.place.Tie as tie
+use Rattle.node.proofs.sorted.scan.Statement.{statement}
+use Rattle.node.proofs.sorted.scan.Tie as tie
 
 abbrev Inv-loop : tie.InvT-loop
 Inv-loop f at n b i₀ i = (i ≤ n) × ((k : ℕ) → k < i → byteAt f (at + k) ≡ b → ⊥)
@@ -36,8 +36,8 @@ loop-again c = (search needs, below-more _ _ (c .before .before .before .loop .i
 returns-2 : tie.Need-returns-2 Inv-loop μ-loop
 returns-2 c = (search needs, λ ks R e. place-row ks R e (search needs) (c .before .loop .inv .1) (λ l. absurd (omega arith)))
 
-pub place-spec : {M : Type 1} → statement M
-place-spec =
+pub scan-spec : {M : Type 1} → statement M
+scan-spec =
     tie.close
     (tie.spec
     Inv-loop
