@@ -1,5 +1,6 @@
--- "Numbers a call can give": the number, and the place and length, of each answer.
+-- "Numbers a call can give": the number of each answer, and what look-up and info tell besides.
 use Prim.Native.Nat.{ℕ}
+use mathlib.Core.List.{List, [], _∷_}
 use Rattle.answers.specs.declared.Refusal.{Refusal}
 use Rattle.answers.specs.declared.Refusal.the-variants as refusal
 use Rattle.answers.specs.declared.Format.{Format}
@@ -14,6 +15,9 @@ use Rattle.answers.specs.declared.Erase.{Erase}
 use Rattle.answers.specs.declared.Erase.the-variants as erase
 use Rattle.answers.specs.declared.Pack.{Pack}
 use Rattle.answers.specs.declared.Pack.the-variants as pack
+use Rattle.answers.specs.declared.Counts.{Counts}
+use Rattle.answers.specs.declared.Info.{Info}
+use Rattle.answers.specs.declared.Info.the-variants as info
 
 abbrev pub refusalNumber : Refusal → ℕ
 refusalNumber refusal.Length = 1
@@ -61,3 +65,18 @@ eraseNumber (erase.Refused r) = refusalNumber r
 abbrev pub packNumber : Pack → ℕ
 packNumber pack.Done = 0
 packNumber (pack.Refused r) = refusalNumber r
+
+abbrev pub infoNumber : Info → ℕ
+infoNumber (info.Told c) = 0
+infoNumber (info.Refused r) = refusalNumber r
+
+-- F, N, U, B, R, X, and how many bodies the lists 1 to 8 have
+abbrev pub counted : Counts → List ℕ
+counted c =
+    c .«frame_length» ∷ c .«slot_capacity» ∷ c .«slots_given» ∷ c .«next_byte» ∷ c .records ∷ c .«dead_bytes»
+    ∷ c .leaf ∷ c .prefix ∷ c .crossing ∷ c .node4 ∷ c .node16 ∷ c .node48 ∷ c .node256 ∷ c .«empty_root» ∷ []
+
+-- a refusal tells none
+abbrev pub infoTold : Info → List ℕ
+infoTold (info.Told c) = counted c
+infoTold (info.Refused r) = []

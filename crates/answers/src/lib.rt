@@ -1,6 +1,6 @@
 // The answers of the public calls as enums by value, and document 01's number for each.
 ghost use mathlib.Core.Path.{_≡_};
-ghost use Rattle.answers.specs.Number.{refusalNumber, formatNumber, checkNumber, lookUpNumber, putNumber, eraseNumber, packNumber};
+ghost use Rattle.answers.specs.Number.{refusalNumber, formatNumber, checkNumber, lookUpNumber, putNumber, eraseNumber, packNumber, infoNumber};
 
 // "1 to 7 are refusals"
 pub enum Refusal {
@@ -51,6 +51,36 @@ pub enum Erase {
 
 pub enum Pack {
     Done,
+    Refused(Refusal),
+}
+
+// How full a frame is: the numbers of its header, and how many freed bodies of each kind its lists hold.
+pub struct Counts {
+    // F
+    pub frame_length: usize,
+    // N
+    pub slot_capacity: usize,
+    // U, the slots ever given out
+    pub slots_given: usize,
+    // B, the first byte never yet given out
+    pub next_byte: usize,
+    // R
+    pub records: usize,
+    // X, the bytes of dead extents
+    pub dead_bytes: usize,
+    // the lists 1 to 8
+    pub leaf: usize,
+    pub prefix: usize,
+    pub crossing: usize,
+    pub node4: usize,
+    pub node16: usize,
+    pub node48: usize,
+    pub node256: usize,
+    pub empty_root: usize,
+}
+
+pub enum Info {
+    Told(Counts),
     Refused(Refusal),
 }
 
@@ -122,5 +152,14 @@ pub fn pack_number(a: Pack) -> u32
     match a {
         Pack::Done => 0,
         Pack::Refused(r) => refusal_number(r),
+    }
+}
+
+pub fn info_number(a: Info) -> u32
+    ensures { λ n. ⌜ n ≡ infoNumber a ⌝ }
+{
+    match a {
+        Info::Told(_) => 0,
+        Info::Refused(r) => refusal_number(r),
     }
 }
