@@ -1,8 +1,10 @@
 // The calls for C and Rust: numbers and slices only. A slice passes as a pointer and a length.
 use answers;
+use answers::Info;
 use pack;
 use store::erase;
 use store::format;
+use store::info;
 use store::look;
 use store::put;
 ghost use Rattle.model.specs.Edition.{edition1};
@@ -10,10 +12,14 @@ ghost use Rattle.model.specs.Promise.{FormatPromise, CheckPromise, PutPromise, 
 ghost use Rattle.demands.specs.Words.{Refusal};
 ghost use Rattle.pieces.specs.Decides.{Decides};
 ghost use Rattle.frame_store.specs.LookUp.{LookedUp};
+ghost use Rattle.frame_store.specs.Info.{Informed};
 
 const FIRST_REFUSAL: u32 = 1;
 
 const LAST_REFUSAL: u32 = 7;
+
+// as many numbers as info tells
+const COUNTS: usize = 14;
 
 #[no_mangle]
 pub extern "C" fn frame_format(frame: &mut [u8], length: usize, capacity: usize) -> u32
@@ -77,4 +83,34 @@ pub extern "C" fn frame_pack(frame: &[u8], out: &mut [u8]) -> u32
     ensures { λ n. ⌜ PackPromise edition1 (now (frame .entry)) (now (out .entry)) n (now (out .exit)) ⌝ }
 {
     answers::pack_number(pack::pack(frame, out))
+}
+
+// F, N, U, B, R, X and the lengths of the lists 1 to 8 go into the fourteen numbers if there are fourteen and the call is not refused,
+// and nothing otherwise.
+#[no_mangle]
+pub extern "C" fn frame_info(frame: &[u8], counts: &mut [u64]) -> u32
+    ensures { λ n. ⌜ Informed (now (frame .entry)) (now (counts .entry)) n (now (counts .exit)) ⌝ }
+{
+    let told = info::info(frame);
+    let n = answers::info_number(told);
+    let Info::Told(c) = told else {
+        return n;
+    };
+    if counts.len() == COUNTS {
+        counts[0] = c.frame_length as u64;
+        counts[1] = c.slot_capacity as u64;
+        counts[2] = c.slots_given as u64;
+        counts[3] = c.next_byte as u64;
+        counts[4] = c.records as u64;
+        counts[5] = c.dead_bytes as u64;
+        counts[6] = c.leaf as u64;
+        counts[7] = c.prefix as u64;
+        counts[8] = c.crossing as u64;
+        counts[9] = c.node4 as u64;
+        counts[10] = c.node16 as u64;
+        counts[11] = c.node48 as u64;
+        counts[12] = c.node256 as u64;
+        counts[13] = c.empty_root as u64;
+    }
+    n
 }
