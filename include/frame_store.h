@@ -34,9 +34,9 @@
  * nothing leads to them. They are gone from the packed image; until it is used, and the frame overwritten, a secret is still there.
  *
  * What the caller answers for, because no call can test it:
- *   - each pointer leads to as many bytes (for place_and_len: numbers) as the length after it says, and is not NULL even if that
- *     length is 0;
- *   - what is lent for writing (frame in format, put and erase; place_and_len; out) overlaps nothing else that is lent to the
+ *   - each pointer leads to as many bytes (for place_and_len and counts: numbers) as the length after it says, and is not NULL even
+ *     if that length is 0;
+ *   - what is lent for writing (frame in format, put and erase; place_and_len; out; counts) overlaps nothing else that is lent to the
  *     same call: key and value do not lie in the frame that is written, and out is not the frame;
  *   - nobody else writes to lent bytes during the call, nor reads those that the call writes.
  */
@@ -115,6 +115,45 @@ uint32_t frame_erase(uint8_t *frame, frame_length frame_len, const uint8_t *key,
  * Gives 0, 1, 2 or 7, and never 6. The frame is only read.
  */
 uint32_t frame_pack(const uint8_t *frame, frame_length frame_len, uint8_t *out, frame_length out_len);
+
+/*
+ * Tells how full a frame is. Gives 0, 1 or 2. Reads only.
+ * counts has room for fourteen numbers, and fourteen is 14: then they are F, N, U, B, R, X and how many freed bodies the lists of the
+ * kinds 1 to 8 have; struct frame_counts says what each is. If the call is refused, or fourteen is not 14, nothing is written there.
+ */
+uint32_t frame_info(const uint8_t *frame, frame_length frame_len, uint64_t *counts, frame_length fourteen);
+
+/*
+ * The same, with no count to get wrong: a refused call leaves the counts as they are. What is left is slots - slots_given and
+ * bytes - bytes_given, and a freed body of the kind needed costs neither. Packing gives back the slots of all freed bodies, and at
+ * least their bytes and dead_bytes. A freed body has 16, 128, 128, 24, 88, 456, 1,032 or 8 bytes, by its kind.
+ */
+struct frame_counts {
+    uint64_t bytes;       /* F, the bytes of the frame */
+    uint64_t slots;       /* N, the slots of the frame */
+    uint64_t slots_given; /* U, the slots ever given out */
+    uint64_t bytes_given; /* B, the bytes ever given out, with the header and the table of slots */
+    uint64_t records;     /* R, the records */
+    uint64_t dead_bytes;  /* X, the bytes of keys and values that are no longer used */
+    uint64_t freed[8];    /* freed bodies: Leaf, Prefix, none, Node4, Node16, Node48, Node256, EmptyRoot */
+};
+
+static inline uint32_t frame_fullness(const uint8_t *frame, frame_length frame_len, struct frame_counts *counts) {
+    uint64_t told[14] = {0};
+    uint32_t given = frame_info(frame, frame_len, told, 14);
+    if (given == 0) {
+        counts->bytes = told[0];
+        counts->slots = told[1];
+        counts->slots_given = told[2];
+        counts->bytes_given = told[3];
+        counts->records = told[4];
+        counts->dead_bytes = told[5];
+        for (int kind = 0; kind < 8; kind++) {
+            counts->freed[kind] = told[6 + kind];
+        }
+    }
+    return given;
+}
 
 #ifdef __cplusplus
 }

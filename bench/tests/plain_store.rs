@@ -2,8 +2,9 @@
 //! all frames after a call and all packed bytes, against the second store.
 
 use second_store::compare::{Calls, Comparer};
-use second_store::history;
+use second_store::layout::INFO_NUMBERS;
 use second_store::run::{all_stages, Effort};
+use second_store::{history, store};
 use store_bench::plain;
 
 struct Plain;
@@ -26,6 +27,10 @@ impl Calls for Plain {
     }
     fn pack(&self, frame: &[u8], out: &mut [u8]) -> u32 {
         plain::pack(frame, out)
+    }
+    /// It has none of its own.
+    fn info(&self, frame: &[u8]) -> (u32, [u64; INFO_NUMBERS]) {
+        store::info(frame)
     }
 }
 

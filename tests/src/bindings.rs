@@ -1,10 +1,11 @@
-//! The Rust bindings, behind the same six calls.
+//! The Rust bindings, behind the same seven calls.
 //!
 //! Believed here: how an answer of the bindings is read as a number.
 
 use crate::compare::Calls;
 use crate::layout::number::{ABSENT, DONE, LENGTHS, REPLACED};
-use frame_store::{check, Erase, Frame, Put, Refusal, View};
+use crate::layout::INFO_NUMBERS;
+use frame_store::{check, Erase, Frame, Info, Put, Refusal, View};
 
 pub struct Bindings;
 
@@ -55,5 +56,16 @@ impl Calls for Bindings {
 
     fn pack(&self, frame: &[u8], out: &mut [u8]) -> u32 {
         number(View::over(frame).pack(out).map(|_| DONE))
+    }
+
+    fn info(&self, frame: &[u8]) -> (u32, [u64; INFO_NUMBERS]) {
+        match View::over(frame).info() {
+            Ok(Info { bytes, slots, slots_given, bytes_given, records, dead_bytes, freed }) => {
+                let fields = [bytes, slots, slots_given, bytes_given, records, dead_bytes];
+                let mut all = fields.into_iter().chain(freed).map(|number| number as u64);
+                (DONE, std::array::from_fn(|_| all.next().expect("as many as info tells")))
+            }
+            Err(refused) => (refused.number(), [0; INFO_NUMBERS]),
+        }
     }
 }

@@ -1,4 +1,4 @@
-//! The comparer: any six calls, held to what document 01 settles.
+//! The comparer: any seven calls, held to what document 01 settles.
 //!
 //! Believed here: for each call, the number, the place or part given, and the
 //! whole effect. The frame after must be good, its model must equal the one
@@ -9,7 +9,7 @@
 use crate::check::{self, Reading};
 use crate::decode;
 use crate::image::image;
-use crate::layout::{key_refusal, number::*};
+use crate::layout::{key_refusal, number::*, Kind, INFO_NUMBERS};
 use crate::slotless::{bodies, State};
 use crate::store::{self, Records};
 use crate::tally::{Call, Entry, Tally};
@@ -17,7 +17,7 @@ use crate::touched;
 use std::fmt;
 use std::hint::black_box;
 
-/// The six calls of document 01, as they are exported.
+/// The six calls of document 01 and info, as they are exported.
 pub trait Calls {
     fn format(&self, frame: &mut [u8], f: usize, n: usize) -> u32;
     fn check(&self, frame: &[u8]) -> u32;
@@ -26,6 +26,8 @@ pub trait Calls {
     fn put(&self, frame: &mut [u8], key: &[u8], value: &[u8]) -> u32;
     fn erase(&self, frame: &mut [u8], key: &[u8]) -> u32;
     fn pack(&self, frame: &[u8], out: &mut [u8]) -> u32;
+    /// The number, and what is told; all 0 of a refusal.
+    fn info(&self, frame: &[u8]) -> (u32, [u64; INFO_NUMBERS]);
 }
 
 /// The second store itself.
@@ -49,6 +51,9 @@ impl Calls for Second {
     }
     fn pack(&self, frame: &[u8], out: &mut [u8]) -> u32 {
         store::pack(frame, out)
+    }
+    fn info(&self, frame: &[u8]) -> (u32, [u64; INFO_NUMBERS]) {
+        store::info(frame)
     }
 }
 
@@ -385,6 +390,36 @@ impl<'a> Comparer<'a> {
         }
         Ok(Some(packed))
     }
+
+    pub fn info(&mut self, held: &Held) -> Compared<()> {
+        self.step += 1;
+        let call = format!("info of {} bytes", held.bytes.len());
+        let mut frame = self.lend(&held.bytes);
+        let (given, told) = self.calls.info(frame.part());
+        self.margins(&call, &mut [&mut frame])?;
+        self.unchanged(&call, "frame", &mut frame, &held.bytes)?;
+        let (number, expected) = match &held.known {
+            Err(refused) => (*refused, [0; INFO_NUMBERS]),
+            Ok(state) => (DONE, fullness(state)),
+        };
+        self.tally.add(Entry::Number(Call::Info, number));
+        if let Ok(state) = &held.known {
+            let listed = Kind::ALL.into_iter().filter(|kind| state.list_lengths[kind.number()] > 0);
+            listed.for_each(|kind| self.tally.add(Entry::Listed(kind)));
+        }
+        if store::info(&held.bytes) != (number, expected) {
+            return self.differs(format!("{call}: the two readings of info differ"));
+        }
+        self.same_number(&call, given, number)?;
+        self.demand(told == expected, || format!("{call} tells {told:?}, not {expected:?}"))
+    }
+}
+
+/// What info tells of a frame with this model.
+fn fullness(state: &State) -> [u64; INFO_NUMBERS] {
+    let State { f, n, u, b, r, x, list_lengths: [_, lists @ ..], .. } = *state;
+    let mut all = [f, n, u, b, r, x].into_iter().chain(lists).map(|number| number as u64);
+    std::array::from_fn(|_| all.next().expect("as many as info tells"))
 }
 
 /// Says where a call stood that did not even return.

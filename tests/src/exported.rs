@@ -1,10 +1,11 @@
-//! The exported C functions, behind the same six calls.
+//! The exported C functions, behind the same seven calls.
 //!
 //! Believed here: the C declarations. The bindings link the archive that has
 //! them.
 
 use crate::compare::Calls;
 use crate::layout::number::{ABSENT, DONE};
+use crate::layout::INFO_NUMBERS;
 use frame_store as _;
 
 mod c {
@@ -30,6 +31,12 @@ mod c {
         pub fn frame_erase(frame: *mut u8, frame_len: usize, key: *const u8, key_len: usize)
             -> u32;
         pub fn frame_pack(frame: *const u8, frame_len: usize, out: *mut u8, out_len: usize) -> u32;
+        pub fn frame_info(
+            frame: *const u8,
+            frame_len: usize,
+            counts: *mut u64,
+            fourteen: usize,
+        ) -> u32;
     }
 }
 
@@ -69,6 +76,40 @@ impl Calls for Exported {
     fn pack(&self, frame: &[u8], out: &mut [u8]) -> u32 {
         unsafe { c::frame_pack(frame.as_ptr(), frame.len(), out.as_mut_ptr(), out.len()) }
     }
+
+    fn info(&self, frame: &[u8]) -> (u32, [u64; INFO_NUMBERS]) {
+        info_by_all_lengths(frame)
+    }
+}
+
+/// What lent numbers hold before a call.
+const KNOWN: u64 = 0xA5A5_A5A5_5A5A_5A5A;
+
+/// The fourteen numbers are written if fourteen are lent and the call is not
+/// refused, and nothing else. Told as the call's own result has them: all 0 of
+/// a refusal.
+fn info_by_all_lengths(frame: &[u8]) -> (u32, [u64; INFO_NUMBERS]) {
+    use std::hint::black_box;
+    let call = |fourteen: usize| {
+        let mut numbers = [KNOWN; INFO_NUMBERS + 2];
+        let given = unsafe {
+            let lent = numbers.as_mut_ptr().add(1);
+            c::frame_info(frame.as_ptr(), frame.len(), lent, fourteen)
+        };
+        (given, *black_box(&mut numbers))
+    };
+    let (given, [before, told @ .., after]) = call(INFO_NUMBERS);
+    assert_eq!([before, after], [KNOWN; 2], "info wrote beside its numbers");
+    for other in [0, 1, INFO_NUMBERS - 1, INFO_NUMBERS + 1] {
+        let (again, numbers) = call(other);
+        assert_eq!(again, given, "info with {other} numbers gives another answer");
+        assert_eq!(numbers, [KNOWN; INFO_NUMBERS + 2], "info wrote though {other} were lent");
+    }
+    if given != DONE {
+        assert_eq!(told, [KNOWN; INFO_NUMBERS], "an info refused with {given} wrote");
+        return (given, [0; INFO_NUMBERS]);
+    }
+    (given, told)
 }
 
 /// Place and length go into two numbers if two are lent and the call is not
@@ -76,7 +117,6 @@ impl Calls for Exported {
 /// of a refusal.
 fn look_up_by_all_lengths(frame: &[u8], key: &[u8]) -> (u32, u64, u64) {
     use std::hint::black_box;
-    const KNOWN: u64 = 0xA5A5_A5A5_5A5A_5A5A;
     let call = |two: usize| {
         let mut numbers = [KNOWN; 4];
         let given = unsafe {

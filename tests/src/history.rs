@@ -107,6 +107,7 @@ fn history(
                 let out = random.bytes(held.bytes().len());
                 comparer.pack(held, &out)?;
             }
+            5 => comparer.info(held)?,
             _ => {}
         }
     }
@@ -241,6 +242,7 @@ pub fn large_frames(comparer: &mut Comparer, seed: u64, rounds: u64) -> Compared
 
 fn all_calls(comparer: &mut Comparer, random: &mut Random, held: &Held) -> Compared<()> {
     comparer.check(held)?;
+    comparer.info(held)?;
     comparer.look_up(held, b"a")?;
     comparer.put(&mut held.clone(), b"a", b"value")?;
     comparer.erase(&mut held.clone(), b"a")?;

@@ -34,6 +34,8 @@ pub const AT_ROOT: usize = 32;
 pub const AT_LIST_HEADS: usize = 34;
 pub const LISTS: usize = 8;
 pub const LIST_HEAD_BYTES: usize = 2;
+/// What info tells: F, N, U, B, R, X and the lengths of the lists.
+pub const INFO_NUMBERS: usize = 6 + LISTS;
 pub const HEADER_ZERO: Range<usize> = 50..64;
 pub const AT_ENTRIES: usize = 64;
 pub const ENTRY_BYTES: usize = 4;

@@ -3,7 +3,7 @@
 //!
 //! `layout`, `check` and `store` are the second store. `slotless` and `image`
 //! are two further readings of document 01, and the store is held to both.
-//! `compare` holds any six calls to all of them; `run` is what the gate runs.
+//! `compare` holds any seven calls to all of them; `run` is what the gate runs.
 
 pub mod bindings;
 pub mod check;

@@ -1,4 +1,4 @@
-//! The line program of document 01, over any six calls, and scripts for it.
+//! The line program of document 01, over any store's calls, and scripts for it.
 //!
 //! Believed here: the paragraph that begins "The program takes lines from
 //! standard input". It is read here over a whole input and not in pieces.

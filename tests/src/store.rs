@@ -1,7 +1,7 @@
 //! The second store, over the bytes of a lent frame.
 //!
-//! Believed here: format, look-up, put, erase and pack of document 01. Clear
-//! before fast: every call checks the whole frame, works out all it needs,
+//! Believed here: format, look-up, put, erase and pack of document 01, and info.
+//! Clear before fast: every call checks the whole frame, works out all it needs,
 //! compares that with the room left, and only then writes.
 
 use crate::check::check;
@@ -305,6 +305,31 @@ pub fn pack(frame: &[u8], out: &mut [u8]) -> u32 {
         set32(out, AT_R, records);
     }
     DONE
+}
+
+/// The number, and F, N, U, B, R, X and the lengths of the lists 1 to 8; all 0
+/// of a refusal.
+pub fn info(frame: &[u8]) -> (u32, [u64; INFO_NUMBERS]) {
+    let mut told = [0; INFO_NUMBERS];
+    let checked = check(frame);
+    if checked == DONE {
+        let fields = [AT_F, AT_N, AT_U, AT_B, AT_R, AT_X].map(|at| get32(frame, at));
+        let lists = (1..=LISTS).map(|kind| list_length(frame, kind));
+        for (number, is) in told.iter_mut().zip(fields.into_iter().chain(lists)) {
+            *number = is as u64;
+        }
+    }
+    (checked, told)
+}
+
+fn list_length(frame: &[u8], kind_number: usize) -> usize {
+    let mut slot = get16(frame, list_head_at(kind_number));
+    let mut length = 0;
+    while slot != 0 {
+        slot = get_entry(frame, slot).1;
+        length += 1;
+    }
+    length
 }
 
 /// Packs a live slot and all below it, parent first; gives the new slot.

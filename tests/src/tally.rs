@@ -16,6 +16,7 @@ pub enum Call {
     Put,
     Erase,
     Pack,
+    Info,
 }
 
 /// How a case ended.
@@ -41,6 +42,8 @@ pub enum Entry {
     FromList(Call, Kind),
     Fresh(Call, Kind),
     Absent(Call, End),
+    /// An info tells that this kind's list is not empty.
+    Listed(Kind),
 }
 
 #[derive(Clone, Default, Debug)]
@@ -164,7 +167,7 @@ pub fn expected() -> Vec<Entry> {
         let ends = [End::EmptyFrame, End::AnotherLeaf, End::NoSuchByte, End::PrefixDiffers];
         all.extend(ends.map(|end| Entry::Absent(call, end)));
     }
-    let numbers: [(Call, &[u32]); 6] = [
+    let numbers: [(Call, &[u32]); 7] = [
         (Call::Format, &[DONE, LENGTHS]),
         (Call::Check, &[DONE, LENGTHS, NOT_GOOD]),
         (Call::LookUp, &[DONE, ABSENT, LENGTHS, NOT_GOOD, KEY_LENGTH, KEY_HOLDS_ZERO]),
@@ -174,9 +177,11 @@ pub fn expected() -> Vec<Entry> {
         ),
         (Call::Erase, &[DONE, ABSENT, LENGTHS, NOT_GOOD, KEY_LENGTH, KEY_HOLDS_ZERO, NO_ROOM]),
         (Call::Pack, &[DONE, LENGTHS, NOT_GOOD, OUTPUT_LENGTH]),
+        (Call::Info, &[DONE, LENGTHS, NOT_GOOD]),
     ];
     for (call, given) in numbers {
         all.extend(given.iter().map(|number| Entry::Number(call, *number)));
     }
+    all.extend(Kind::ALL.map(Entry::Listed));
     all
 }

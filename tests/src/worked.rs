@@ -237,6 +237,7 @@ pub fn order_of_refusals(comparer: &mut Comparer) -> Compared<()> {
             comparer.pack(&held, &vec![0xEE; out])?;
         }
         comparer.check(&held)?;
+        comparer.info(&held)?;
     }
     Ok(())
 }

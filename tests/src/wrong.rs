@@ -16,6 +16,7 @@ type LookUp = dyn Fn(&[u8], &[u8]) -> (u32, u64, u64);
 type Put = dyn Fn(&mut [u8], &[u8], &[u8]) -> u32;
 type Erase = dyn Fn(&mut [u8], &[u8]) -> u32;
 type Pack = dyn Fn(&[u8], &mut [u8]) -> u32;
+type Info = dyn Fn(&[u8]) -> (u32, [u64; INFO_NUMBERS]);
 
 /// The second store with some calls exchanged.
 pub struct Altered {
@@ -26,6 +27,7 @@ pub struct Altered {
     put: Box<Put>,
     erase: Box<Erase>,
     pack: Box<Pack>,
+    info: Box<Info>,
 }
 
 impl Altered {
@@ -38,6 +40,7 @@ impl Altered {
             put: Box::new(|frame, key, value| Second.put(frame, key, value)),
             erase: Box::new(|frame, key| Second.erase(frame, key)),
             pack: Box::new(|frame, out| Second.pack(frame, out)),
+            info: Box::new(|frame| Second.info(frame)),
         }
     }
 }
@@ -60,6 +63,9 @@ impl Calls for Altered {
     }
     fn pack(&self, frame: &[u8], out: &mut [u8]) -> u32 {
         (self.pack)(frame, out)
+    }
+    fn info(&self, frame: &[u8]) -> (u32, [u64; INFO_NUMBERS]) {
+        (self.info)(frame)
     }
 }
 
@@ -88,6 +94,10 @@ fn with_erase(name: &str, erase: impl Fn(&mut [u8], &[u8]) -> u32 + 'static) -> 
 
 fn with_pack(name: &str, pack: impl Fn(&[u8], &mut [u8]) -> u32 + 'static) -> Altered {
     Altered { pack: Box::new(pack), ..Altered::named(name) }
+}
+
+fn with_info(name: &str, info: impl Fn(&[u8]) -> (u32, [u64; INFO_NUMBERS]) + 'static) -> Altered {
+    Altered { info: Box::new(info), ..Altered::named(name) }
 }
 
 pub fn checks() -> Vec<Altered> {
@@ -599,6 +609,45 @@ fn joins_in_the_lower(frame: &mut [u8], key: &[u8]) -> u32 {
         release(frame, upper, Kind::Prefix);
     }
     given
+}
+
+pub fn infos() -> Vec<Altered> {
+    const FIELDS: usize = INFO_NUMBERS - LISTS;
+    let mut all = vec![
+        with_info("an info that counts the first body of each list alone", |frame| {
+            let (given, mut told) = Second.info(frame);
+            told[FIELDS..].iter_mut().for_each(|length| *length = (*length).min(1));
+            (given, told)
+        }),
+        with_info("an info that tells what is left of the slots", |frame| {
+            let (given, mut told) = Second.info(frame);
+            told[2] = told[1] - told[2];
+            (given, told)
+        }),
+        with_info("an info that trusts the stored F", |frame| match Second.info(frame) {
+            (NOT_GOOD, mut told) => {
+                told[0] = get32(frame, AT_F) as u64;
+                (NOT_GOOD, told)
+            }
+            given => given,
+        }),
+        with_info("an info that calls every refused frame not good", |frame| {
+            match Second.info(frame) {
+                (DONE, told) => (DONE, told),
+                (_, told) => (NOT_GOOD, told),
+            }
+        }),
+    ];
+    // each number in another's place
+    all.extend((1..FIELDS).map(|place| {
+        let name = format!("an info with numbers {} and {place} exchanged", place - 1);
+        with_info(&name, move |frame| {
+            let (given, mut told) = Second.info(frame);
+            told.swap(place - 1, place);
+            (given, told)
+        })
+    }));
+    all
 }
 
 pub fn packs() -> Vec<Altered> {

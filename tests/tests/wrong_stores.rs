@@ -52,6 +52,11 @@ fn wrong_packs_are_caught() {
 }
 
 #[test]
+fn wrong_infos_are_caught() {
+    all_caught(wrong::infos(), 9);
+}
+
+#[test]
 fn a_store_that_uses_every_freedom_passes() {
     let effort = Effort::from_environment();
     if let Err(difference) = all_stages(&wrong::right_but_different(), effort) {

@@ -27,6 +27,12 @@ mod c {
         pub fn frame_erase(frame: *mut u8, frame_len: usize, key: *const u8, key_len: usize)
             -> u32;
         pub fn frame_pack(frame: *const u8, frame_len: usize, out: *mut u8, out_len: usize) -> u32;
+        pub fn frame_info(
+            frame: *const u8,
+            frame_len: usize,
+            counts: *mut u64,
+            fourteen: usize,
+        ) -> u32;
     }
 }
 
@@ -60,4 +66,11 @@ pub fn erase(frame: &mut [u8], key: &[u8]) -> u32 {
 
 pub fn pack(frame: &[u8], out: &mut [u8]) -> u32 {
     unsafe { c::frame_pack(frame.as_ptr(), frame.len(), out.as_mut_ptr(), out.len()) }
+}
+
+pub fn info(frame: &[u8]) -> (u32, [u64; 14]) {
+    let mut counts = [0; 14];
+    let fourteen = counts.len();
+    let lent = counts.as_mut_ptr();
+    (unsafe { c::frame_info(frame.as_ptr(), frame.len(), lent, fourteen) }, counts)
 }

@@ -93,7 +93,7 @@ impl fmt::Display for Refusal {
             Refusal::KeyZero => "the key holds a byte 0",
             Refusal::ValueLength => "the value has more than 65,535 bytes",
             Refusal::Output => "the output is not as long as the frame",
-            Refusal::Room => "too few slots or bytes are left for this call; packing gives back what is no longer used",
+            Refusal::Room => "too few slots or bytes are left for this call; info tells how many, and packing gives back what is no longer used",
         })
     }
 }
@@ -116,6 +116,51 @@ pub enum Erase {
     Done,
     /// 8: there was no such key.
     Absent,
+}
+
+/// How full a frame is.
+#[derive(Clone, Copy, PartialEq, Eq, Hash, Debug)]
+pub struct Info {
+    /// F: the bytes of the frame.
+    pub bytes: usize,
+    /// N: the slots of the frame.
+    pub slots: usize,
+    /// U: the slots ever given out.
+    pub slots_given: usize,
+    /// B: the bytes ever given out, with the header and the table of slots.
+    pub bytes_given: usize,
+    /// R: the records.
+    pub records: usize,
+    /// X: the bytes of keys and values that are no longer used.
+    pub dead_bytes: usize,
+    /// How many freed bodies wait to be used again, by kind: Leaf, Prefix, none, Node4, Node16, Node48, Node256, EmptyRoot.
+    pub freed: [usize; 8],
+}
+
+impl Info {
+    /// The bytes of a body, by kind as in `freed`.
+    pub const BODY_BYTES: [usize; 8] = [16, 128, 128, 24, 88, 456, 1_032, 8];
+
+    /// The slots never yet given out, N - U. A call that needs more is refused for room, unless a freed body of the kind serves.
+    pub fn free_slots(&self) -> usize {
+        self.slots - self.slots_given
+    }
+
+    /// The bytes never yet given out, F - B. A call that needs more is refused for room, unless a freed body of the kind serves.
+    pub fn free_bytes(&self) -> usize {
+        self.bytes - self.bytes_given
+    }
+
+    /// The slots that packing gives back: those of the freed bodies.
+    pub fn slots_to_pack(&self) -> usize {
+        self.freed.iter().sum()
+    }
+
+    /// The bytes that packing gives back: dead ones and those of the freed bodies; more, where a node can be of a smaller kind.
+    pub fn bytes_to_pack(&self) -> usize {
+        let bodies = self.freed.iter().zip(Info::BODY_BYTES).map(|(freed, bytes)| freed * bytes);
+        self.dead_bytes + bodies.sum::<usize>()
+    }
 }
 
 const DONE: u32 = 0;
@@ -164,6 +209,20 @@ impl<'a> View<'a> {
         match calls::pack(self.bytes, out.as_mut()) {
             DONE => Ok(Frame { bytes: out }),
             refused => Err(Refusal::of_number(refused)),
+        }
+    }
+
+    /// How full the frame is.
+    pub fn info(self) -> Result<Info, Refusal> {
+        match calls::info(self.bytes) {
+            (DONE, counts) => {
+                let counts =
+                    counts.map(|count| usize::try_from(count).expect("a count of a frame"));
+                let [bytes, slots, slots_given, bytes_given, records, dead_bytes, freed @ ..] =
+                    counts;
+                Ok(Info { bytes, slots, slots_given, bytes_given, records, dead_bytes, freed })
+            }
+            (refused, _) => Err(Refusal::of_number(refused)),
         }
     }
 
@@ -246,6 +305,11 @@ impl<B: AsRef<[u8]> + AsMut<[u8]>> Frame<B> {
     /// Writes the packed image of the records to `out`; see [`View::pack`]. This frame stays as it is.
     pub fn pack<O: AsMut<[u8]>>(&self, out: O) -> Result<Frame<O>, Refusal> {
         self.view().pack(out)
+    }
+
+    /// How full the frame is.
+    pub fn info(&self) -> Result<Info, Refusal> {
+        self.view().info()
     }
 
     /// The frame's bytes, to be stored.

@@ -1,7 +1,7 @@
 //! Every answer of every call, through the safe calls.
 #![forbid(unsafe_code)]
 
-use frame_store::{check, Erase, Frame, Put, Refusal, View};
+use frame_store::{check, Erase, Frame, Info, Put, Refusal, View};
 
 const F: usize = 1_024;
 const N: usize = 8;
@@ -85,6 +85,7 @@ fn bytes_that_were_not_looked_at_are_refused_by_each_call() {
         assert_eq!(frame.look_up(b"a"), Err(refusal));
         assert_eq!(View::over(&bytes).place(b"a"), Err(refusal));
         assert_eq!(frame.pack([0; F]).err(), Some(refusal));
+        assert_eq!(frame.info(), Err(refusal));
         assert_eq!(frame.into_bytes(), bytes);
     }
 }
@@ -131,6 +132,40 @@ fn two_orders_pack_to_one_image() -> Result<(), Refusal> {
     let packed = one.pack(&mut left)?;
     assert_eq!(packed.bytes(), other.pack(&mut right)?.bytes());
     assert_eq!(packed.look_up(b"b")?, Some(&b"2"[..]));
+    Ok(())
+}
+
+#[test]
+fn info_tells_what_is_left_and_what_packing_gives_back() -> Result<(), Refusal> {
+    let mut frame = Frame::format([0; F], N)?;
+    let empty = Info {
+        bytes: F,
+        slots: N,
+        slots_given: 1,
+        bytes_given: 104,
+        records: 0,
+        dead_bytes: 0,
+        freed: [0; 8],
+    };
+    assert_eq!(frame.info()?, empty);
+    for (key, value) in [(b"a", &b"1"[..]), (b"b", b"2"), (b"a", b"longer than eight")] {
+        frame.put(key, value)?;
+    }
+    frame.erase(b"b")?;
+    let info = frame.info()?;
+    assert_eq!((info.records, info.dead_bytes), (1, 16));
+    // The EmptyRoot, the Leaf of b and the Node4 that had both.
+    assert_eq!(info.freed, [1, 0, 0, 1, 0, 0, 0, 1]);
+    assert_eq!((info.slots_to_pack(), info.bytes_to_pack()), (3, 16 + 16 + 24 + 8));
+    let packed = frame.pack([0; F])?.info()?;
+    assert_eq!(packed.free_slots(), info.free_slots() + info.slots_to_pack());
+    assert_eq!(packed.free_bytes(), info.free_bytes() + info.bytes_to_pack());
+    assert_eq!((packed.slots_to_pack(), packed.bytes_to_pack()), (0, 0));
+    // What a 6 lacked: the Leaf would need 16 bytes and the extent all that are left.
+    let value = vec![7; packed.free_bytes() - 8];
+    let mut packed = frame.pack([0; F])?;
+    assert_eq!(packed.put(b"b", &value), Err(Refusal::Room));
+    assert!(packed.info()?.free_bytes() < 16 + 24 + 1 + value.len());
     Ok(())
 }
 

@@ -15,6 +15,8 @@ pub const LONGEST_VALUE: usize = 65_535;
 pub const LONGEST_KEY: usize = 112;
 /// A look-up writes its numbers only if it is lent so many.
 pub const LOOK_UP_NUMBERS: usize = 2;
+/// So does an info.
+pub const INFO_NUMBERS: usize = 14;
 
 // Room for the longest thing that stands there, for an odd place, and for what the runner looks at beyond its ends.
 const BESIDE: usize = 64;
@@ -137,7 +139,7 @@ impl List {
 
     pub fn look_up_of(&mut self, frame: Bytes, key: &[u8], numbers: usize) {
         let key = self.key(key);
-        self.line(format_args!("fill {} {} {DIRT}", NUMBERS_AT - 8, (numbers + 2) * 8));
+        self.dirty(numbers);
         let (frame, key) = (List::lent(frame), List::lent(key));
         self.line(format_args!("call frame_look_up {frame} {key} {NUMBERS_AT}*{numbers}"));
     }
@@ -157,6 +159,16 @@ impl List {
 
     pub fn pack_of(&mut self, frame: Bytes, out: Bytes) {
         self.line(format_args!("call frame_pack {} {}", List::lent(frame), List::lent(out)));
+    }
+
+    pub fn info_of(&mut self, frame: Bytes, numbers: usize) {
+        self.dirty(numbers);
+        self.line(format_args!("call frame_info {} {NUMBERS_AT}*{numbers}", List::lent(frame)));
+    }
+
+    /// Known bytes where so many numbers are lent, and one beside them.
+    fn dirty(&mut self, numbers: usize) {
+        self.line(format_args!("fill {} {} {DIRT}", NUMBERS_AT - 8, (numbers + 2) * 8));
     }
 
     // The same over the scene's own frame.
@@ -185,9 +197,14 @@ impl List {
         self.pack_of(self.frame, self.out(self.frame.length));
     }
 
+    pub fn info(&mut self) {
+        self.info_of(self.frame, INFO_NUMBERS);
+    }
+
     /// Every call that may meet a frame that is not good, and the frame again as it was kept.
     pub fn every_call(&mut self, key: &[u8], value: Value) {
         self.check();
+        self.info();
         self.look_up(key);
         self.pack();
         self.put(key, value);

@@ -3,7 +3,9 @@
 //! A history does not know what its calls give: keys come from few enough that they meet again, and frames are tight enough that room
 //! runs out. Which answers a run must have met stands in `ports/answers.txt`.
 
-use crate::list::{Bytes, List, Value, LONGEST_FRAME, LONGEST_KEY, LONGEST_VALUE, LOOK_UP_NUMBERS};
+use crate::list::{
+    Bytes, List, Value, INFO_NUMBERS, LONGEST_FRAME, LONGEST_KEY, LONGEST_VALUE, LOOK_UP_NUMBERS,
+};
 use crate::random::Random;
 
 const SHORTEST_FRAME: usize = 1_024;
@@ -72,6 +74,7 @@ fn history(list: &mut List, random: &mut Random, keys: &Keys, steps: usize) {
         }
         match random.below(16) {
             0 => list.check(),
+            4 => list.info(),
             1 | 2 => list.look_up(&key),
             3 => {
                 list.pack();
@@ -121,6 +124,7 @@ fn refusals(list: &mut List) {
         list.format(8);
         list.keep();
         list.check_of(long(length));
+        list.info_of(long(length), INFO_NUMBERS);
         list.look_up_of(long(length), b"", LOOK_UP_NUMBERS);
         list.put_of(long(length), b"", Value { length: LONGEST_VALUE + 1, seed: 5 });
         list.erase_of(long(length), b"a\0");
@@ -140,6 +144,9 @@ fn refusals(list: &mut List) {
     for numbers in [0, 1, 2, 3, 4] {
         list.look_up_of(frame, b"a", numbers);
         list.look_up_of(frame, b"b", numbers);
+    }
+    for numbers in [0, 1, INFO_NUMBERS - 1, INFO_NUMBERS, INFO_NUMBERS + 1] {
+        list.info_of(frame, numbers);
     }
     for length in [0, 8, 1_023, 1_025, 1_032] {
         let out = list.out(length);
@@ -207,6 +214,7 @@ fn kinds(list: &mut List) {
         list.erase(&[b'n', byte]);
         if byte % 16 == 5 {
             list.check();
+            list.info();
             list.look_up(&[b'n', byte - 1]);
         }
     }
@@ -337,6 +345,7 @@ pub fn deepest(list: &mut List) {
         }
         list.command("write stack");
         list.check();
+        list.info();
         list.look_up(&[DOWN; LONGEST_KEY]);
         list.look_up(&[DOWN; LONGEST_KEY - 1]);
         list.pack();
@@ -366,6 +375,7 @@ pub fn times(list: &mut List) {
     list.command("write time");
     for _ in 0..200 {
         list.check();
+        list.info();
         list.look_up(b"line.rate");
         list.put(b"line.rate", Value { length: 8, seed: 61 });
         list.erase(b"line.rate");
