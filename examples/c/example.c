@@ -1,5 +1,6 @@
 /*
- * A frame of 1,024 bytes with 8 slots: three settings put, one read, one erased, the rest packed. README.md says how to build it.
+ * A frame of 1,024 bytes with 8 slots: three settings put, one read, one erased, the rest packed, and how full the frame is before and
+ * after that. README.md says how to build it.
  */
 #include <stdio.h>
 #include <string.h>
@@ -29,6 +30,17 @@ static void show(const uint8_t *from, const char *key) {
     printf("\n");
 }
 
+static void tell(const uint8_t *of) {
+    struct frame_counts counts;
+    uint32_t given = frame_fullness(of, F, &counts);
+    printf("info: %u", (unsigned)given);
+    if (given == FRAME_DONE) {
+        printf(" %u records, %u slots and %u bytes left", (unsigned)counts.records,
+               (unsigned)(counts.slots - counts.slots_given), (unsigned)(counts.bytes - counts.bytes_given));
+    }
+    printf("\n");
+}
+
 int main(void) {
     printf("format: %u\n", (unsigned)frame_format(frame, F, F, N));
     put("line.rate", "100");
@@ -38,10 +50,13 @@ int main(void) {
     show(frame, "line.mode");
     printf("erase host: %u\n", (unsigned)frame_erase(frame, F, bytes("host"), 4));
     show(frame, "host");
+    tell(frame);
     printf("pack: %u\n", (unsigned)frame_pack(frame, F, packed, F));
+    tell(packed);
     show(packed, "line.rate");
     printf("check: %u\n", (unsigned)frame_check(packed, F));
     frame[20] ^= 1; /* U is wrong now: no good frame, and refused by every call */
     show(frame, "line.rate");
+    tell(frame);
     return 0;
 }
