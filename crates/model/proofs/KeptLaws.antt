@@ -41,13 +41,13 @@ low-entries a n [] h z = refl
 low-entries a n (extent e m ∷ is) h z = omega (arith, no-entry a e m, low-entries a n is h (λ t q. omega (arith, z t q)))
 low-entries a n (body s k o ∷ is) h z = omega (arith, low-entry a n s k o h (λ t q. omega (arith, z t q)), low-entries a n is h (λ t q. omega (arith, z t q)))
 
-taken-less : (v : Item → ℕ) (R is : List Item) → sum v (notIn R is) ≤ sum v is
+pub taken-less : (v : Item → ℕ) (R is : List Item) → sum v (notIn R is) ≤ sum v is
 unfolding sum
 taken-less v R [] = omega arith
 taken-less v R (extent e n ∷ is) = omega (arith, taken-less v R is)
 taken-less v R (body s k o ∷ is) = bool-cases (eqb (sum (onSlot s) R) 0) (λ t. rw t (omega (arith, taken-less v R is))) (λ t. rw t (omega (arith, taken-less v R is)))
 
-those-less : (v : Item → ℕ) (ss : List ℕ) (is : List Item) → sum v (those ss is) ≤ sum v is
+pub those-less : (v : Item → ℕ) (ss : List ℕ) (is : List Item) → sum v (those ss is) ≤ sum v is
 unfolding sum
 those-less v ss [] = omega arith
 those-less v ss (extent e n ∷ is) = omega (arith, those-less v ss is)

@@ -13,7 +13,7 @@ use Rattle.layout.specs.Number.{Bytes}
 use Rattle.layout.specs.Place.{prefixMost}
 use Rattle.layout.specs.Kind.{Prefix}
 use Rattle.model.specs.Strings.{pick, shared}
-use Rattle.model.specs.Edition.{Legal, edition1}
+use Rattle.model.specs.Edition.{Edition, Legal, edition1}
 use Rattle.model.specs.Tree.{Art, Kids, Change, Left, isInner, chain, prefixes, rechained, loneChild, underPrefix}
 use Rattle.model.specs.Tree.Left.{kept}
 use Rattle.model.specs.Frame.{Lay, IsNode, Below, atop, art, Tree, Single}
@@ -37,16 +37,22 @@ node-below p (leaf s o e k v) I = absurd I
 node-below p (prefix s o q l) I = absurd I
 node-below p (node s o kind ks) I = tt
 
--- the path to what stands below a Prefix is short
-below-short : (f path p : List ℕ) (l : Lay) → Bytes f → Below p l → Tree edition1 f path l → length path ≤ prefixMost
+-- of an edition: the path to what stands below a Prefix is short
+abbrev pub Narrow : Edition → Type 0
+Narrow E = (f path p : List ℕ) (l : Lay) → Bytes f → Below p l → Tree E f path l → length path ≤ prefixMost
+
+pub below-short : Narrow edition1
 below-short f path p l B H T = inside1 path (below-inside lawful1 f path p l B H T) .short
 
--- so in edition 1 it is an inner node
-pub below-node : Single edition1
+-- so it is an inner node
+pub narrow-node : (E : Edition) → Narrow E → Single E
 unfolding Tree
-below-node f path p (leaf s o e k v) B H T = absurd H
-below-node f path p (prefix s o q l) B H T = absurd (omega (arith, below-short f (path ++ p ++ q) q l B (T .2) (T .3), length-append (path ++ p) q, length-append path p, T .1 .some))
-below-node f path p (node s o kind ks) B H T = tt
+narrow-node E short f path p (leaf s o e k v) B H T = absurd H
+narrow-node E short f path p (prefix s o q l) B H T = absurd (omega (arith, short f (path ++ p ++ q) q l B (T .2) (T .3), length-append (path ++ p) q, length-append path p, T .1 .some))
+narrow-node E short f path p (node s o kind ks) B H T = tt
+
+pub below-node : Single edition1
+below-node = narrow-node edition1 below-short
 
 -- n bytes above a tree go into one Prefix with those that it begins with
 abbrev pub OneBody : ℕ → Lay → Type 0

@@ -297,7 +297,7 @@ module _ (E : Edition) (k : List ℕ) where
   absent8 s none h = refl
   absent8 s (some a) h = ap (λ (z : Option (List ℕ)). eraseFound E s k a z .answer) h
 
-  erase-found : {f : List ℕ} {st : State} (w : Stands E f st) → onErase E st k .answer ≡ 0 → (c : Part) × (findAt E (w .root) k ≡ some c)
+  pub erase-found : {f : List ℕ} {st : State} (w : Stands E f st) → onErase E st k .answer ≡ 0 → (c : Part) × (findAt E (w .root) k ≡ some c)
   erase-found {f} {st} w h = go (findAt E (w .root) k) refl
     where
       go : (c : Option Part) → findAt E (w .root) k ≡ c → (c : Part) × (findAt E (w .root) k ≡ some c)

@@ -83,9 +83,9 @@ module _ (E : Edition) (chains : Single E) (f g : List ℕ) (F : Bytes f) (G : B
   root-twins (tree l) (bare s' o') T U h = clash (cc)
   root-twins (tree l) (tree l') T U h = let e : art l ≡ art l' = cc in twins l [] [] l' T U e
 
--- ---- a slot that was live has its place
+-- ---- a slot has one kind and one place
 
-slot-find : (s : ℕ) (is : List Item) → 1 ≤ sum (onSlot s) is → (k : ℕ) × (o : ℕ) × (1 ≤ sum (isBody s k o) is)
+pub slot-find : (s : ℕ) (is : List Item) → 1 ≤ sum (onSlot s) is → (k : ℕ) × (o : ℕ) × (1 ≤ sum (isBody s k o) is)
 unfolding sum onSlot
 slot-find s [] h = absurd (omega arith)
 slot-find s (extent e n ∷ is) h = let B = slot-find s is (omega arith) in (B .0, B .1, omega (arith, B .2))
@@ -98,7 +98,7 @@ slot-find s (body t k o ∷ is) h = elim (decLe 1 (onSlot s (body t k o))) [
   | no q ↦ let B = slot-find s is (omega arith) in (B .0, B .1, omega (arith, B .2))
 ]
 
-one-place : (s k o k' o' : ℕ) (is : List Item) → sum (onSlot s) is ≤ 1 → 1 ≤ sum (isBody s k o) is → 1 ≤ sum (isBody s k' o') is → o ≡ o'
+pub one-place : (s k o k' o' : ℕ) (is : List Item) → sum (onSlot s) is ≤ 1 → 1 ≤ sum (isBody s k o) is → 1 ≤ sum (isBody s k' o') is → (k ≡ k') × (o ≡ o')
 unfolding sum
 one-place s k o k' o' [] h p q = absurd (omega arith)
 one-place s k o k' o' (extent e n ∷ is) h p q = one-place s k o k' o' is (omega arith) (omega arith) (omega arith)
@@ -107,7 +107,7 @@ one-place s k o k' o' (body t c a ∷ is) h p q =
     let v = slot-of-body s k' o' (body t c a ∷ []) in
     elim (decLe 1 (isBody s k o (body t c a))) [
       | yes x ↦ elim (decLe 1 (isBody s k' o' (body t c a))) [
-        | yes y ↦ is-body s k o t c a x .2 ∙ sym (is-body s k' o' t c a y .2)
+        | yes y ↦ let i = is-body s k o t c a x in let j = is-body s k' o' t c a y in (i .1 ∙ sym (j .1), i .2 ∙ sym (j .2))
         | no y ↦ absurd (omega (arith, slot-of-body s k' o' is))
       ]
       | no x ↦ elim (decLe 1 (isBody s k' o' (body t c a))) [
@@ -125,7 +125,7 @@ module _ {E : Edition} {f f' : List ℕ} {s s' : State} (w : Stands E f s) (w' :
       let R = rootItems (w' .root) in
       let L = freed 1 (w' .lists) in
       one-place s k o k0 o0 (R ++ L) (slot-once (w' .heap .sound) s) (omega (arith, sum-app (isBody s k o) R L))
-      (O .keeps s k0 o0 (omega (arith, sum-app (isBody s k0 o0) (rootItems (w .root)) (freed 1 (w .lists)))))
+      (O .keeps s k0 o0 (omega (arith, sum-app (isBody s k0 o0) (rootItems (w .root)) (freed 1 (w .lists))))) .1
 
   -- the key's extent lies beside every body
   abbrev Beside : Type 0
