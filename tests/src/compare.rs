@@ -388,6 +388,10 @@ impl<'a> Comparer<'a> {
         if packed.refusal().is_some() || packed.state().records() != state.records() {
             return self.differs(format!("{call}: the image does not read back"));
         }
+        let (slots, bytes) = given_back(state);
+        let (is, was) = (packed.state(), state);
+        let kept = is.u + slots == was.u && is.b + bytes <= was.b;
+        self.demand(kept, || format!("{call} does not give back {slots} slots and {bytes} bytes"))?;
         Ok(Some(packed))
     }
 
@@ -413,6 +417,15 @@ impl<'a> Comparer<'a> {
         self.same_number(&call, given, number)?;
         self.demand(told == expected, || format!("{call} tells {told:?}, not {expected:?}"))
     }
+}
+
+/// The slots that packing gives back, and the bytes that it gives back at least:
+/// those of freed bodies, and dead extents.
+fn given_back(state: &State) -> (usize, usize) {
+    let freed = |kind: &Kind| state.list_lengths[kind.number()];
+    let slots = Kind::ALL.iter().map(freed).sum();
+    let bodies: usize = Kind::ALL.iter().map(|kind| freed(kind) * kind.body_bytes()).sum();
+    (slots, bodies + state.x)
 }
 
 /// What info tells of a frame with this model.
