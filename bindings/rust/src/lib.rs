@@ -93,7 +93,7 @@ impl fmt::Display for Refusal {
             Refusal::KeyZero => "the key holds a byte 0",
             Refusal::ValueLength => "the value has more than 65,535 bytes",
             Refusal::Output => "the output is not as long as the frame",
-            Refusal::Room => "too few slots or bytes are left for this call; info tells how many, and packing gives back what is no longer used",
+            Refusal::Room => "too few slots or bytes are left for this call; `Info::lacked` tells which, and packing gives back what is no longer used",
         })
     }
 }
@@ -116,6 +116,17 @@ pub enum Erase {
     Done,
     /// 8: there was no such key.
     Absent,
+}
+
+/// What a call that was refused for room lacked.
+#[derive(Clone, Copy, PartialEq, Eq, Hash, Debug)]
+pub enum Lack {
+    /// Slots: a frame of the same length with more of them would take the call.
+    Slots,
+    /// Bytes: a longer frame would take the call.
+    Bytes,
+    /// One of the two, or both: so little is left of each that it depends on where the key leads.
+    SlotsOrBytes,
 }
 
 /// How full a frame is.
@@ -151,6 +162,26 @@ impl Info {
         self.bytes - self.bytes_given
     }
 
+    /// The most slots that a call needs: a Leaf's, a node's and a Prefix's.
+    pub const MOST_SLOTS: usize = 3;
+
+    /// What a call lacked that was refused for room in the frame of these counts. A put needs an extent for the `text` bytes of key and
+    /// value, an erase none (0); no call needs more than three slots, or more bytes than those of an extent, a Leaf, a Prefix and the
+    /// largest node.
+    pub fn lacked(&self, text: usize) -> Lack {
+        let most_bytes = text.next_multiple_of(8)
+            + Info::BODY_BYTES[LEAF]
+            + Info::BODY_BYTES[PREFIX]
+            + Info::BODY_BYTES[NODE256];
+        if self.free_slots() >= Info::MOST_SLOTS {
+            Lack::Bytes
+        } else if self.free_bytes() >= most_bytes {
+            Lack::Slots
+        } else {
+            Lack::SlotsOrBytes
+        }
+    }
+
     /// The slots that packing gives back: those of the freed bodies.
     pub fn slots_to_pack(&self) -> usize {
         self.freed.iter().sum()
@@ -162,6 +193,11 @@ impl Info {
         self.dead_bytes + bodies.sum::<usize>()
     }
 }
+
+/// Places of kinds in `Info::freed` and `Info::BODY_BYTES`.
+const LEAF: usize = 0;
+const PREFIX: usize = 1;
+const NODE256: usize = 6;
 
 const DONE: u32 = 0;
 const ABSENT: u32 = 8;

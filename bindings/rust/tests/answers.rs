@@ -1,7 +1,7 @@
 //! Every answer of every call, through the safe calls.
 #![forbid(unsafe_code)]
 
-use frame_store::{check, Erase, Frame, Info, Put, Refusal, View};
+use frame_store::{check, Erase, Frame, Info, Lack, Put, Refusal, View};
 
 const F: usize = 1_024;
 const N: usize = 8;
@@ -166,6 +166,29 @@ fn info_tells_what_is_left_and_what_packing_gives_back() -> Result<(), Refusal> 
     let mut packed = frame.pack([0; F])?;
     assert_eq!(packed.put(b"b", &value), Err(Refusal::Room));
     assert!(packed.info()?.free_bytes() < 16 + 24 + 1 + value.len());
+    Ok(())
+}
+
+#[test]
+fn info_tells_what_a_call_lacked() -> Result<(), Refusal> {
+    // Eight slots and bytes for many more records.
+    let mut few_slots = Frame::format([0; 8_192], 8)?;
+    let full = (0..9u8).find(|name| few_slots.put(&[b'a' + name], b"1").is_err());
+    let full = [b'a' + full.expect("eight slots hold no nine records")];
+    assert_eq!(few_slots.put(&full, b"1"), Err(Refusal::Room));
+    assert_eq!(few_slots.info()?.lacked(2), Lack::Slots);
+    // Slots for many records, and few bytes.
+    let mut few_bytes = Frame::format([0; 1_024], 100)?;
+    few_bytes.put(b"a", &[7; 400])?;
+    assert_eq!(few_bytes.put(b"b", &[7; 400]), Err(Refusal::Room));
+    assert_eq!(few_bytes.info()?.lacked(401), Lack::Bytes);
+    // Little of both.
+    let mut little = Frame::format([0; 1_024], 8)?;
+    for name in [b"a", b"b", b"c", b"d"] {
+        little.put(name, &[7; 100])?;
+    }
+    assert_eq!(little.put(b"e", &[7; 500]), Err(Refusal::Room));
+    assert_eq!(little.info()?.lacked(501), Lack::SlotsOrBytes);
     Ok(())
 }
 
