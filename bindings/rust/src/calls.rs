@@ -4,73 +4,94 @@
 //! through the call, and what is lent for writing overlaps nothing, since it is borrowed by `&mut`.
 #![allow(unsafe_code)]
 
+/// A length or a number that is passed: 64 bits on every machine, as `frame_length` in C.
+type Length = u64;
+
+fn length(of: usize) -> Length {
+    Length::try_from(of).expect("a length of at most 64 bits")
+}
+
 mod c {
+    use super::Length;
+
     extern "C" {
-        pub fn frame_format(frame: *mut u8, frame_len: usize, f: usize, n: usize) -> u32;
-        pub fn frame_check(frame: *const u8, frame_len: usize) -> u32;
+        pub fn frame_format(frame: *mut u8, frame_len: Length, f: Length, n: Length) -> u32;
+        pub fn frame_check(frame: *const u8, frame_len: Length) -> u32;
         pub fn frame_look_up(
             frame: *const u8,
-            frame_len: usize,
+            frame_len: Length,
             key: *const u8,
-            key_len: usize,
+            key_len: Length,
             place_and_len: *mut u64,
-            two: usize,
+            two: Length,
         ) -> u32;
         pub fn frame_put(
             frame: *mut u8,
-            frame_len: usize,
+            frame_len: Length,
             key: *const u8,
-            key_len: usize,
+            key_len: Length,
             value: *const u8,
-            value_len: usize,
+            value_len: Length,
         ) -> u32;
-        pub fn frame_erase(frame: *mut u8, frame_len: usize, key: *const u8, key_len: usize)
-            -> u32;
-        pub fn frame_pack(frame: *const u8, frame_len: usize, out: *mut u8, out_len: usize) -> u32;
+        pub fn frame_erase(
+            frame: *mut u8,
+            frame_len: Length,
+            key: *const u8,
+            key_len: Length,
+        ) -> u32;
+        pub fn frame_pack(
+            frame: *const u8,
+            frame_len: Length,
+            out: *mut u8,
+            out_len: Length,
+        ) -> u32;
         pub fn frame_info(
             frame: *const u8,
-            frame_len: usize,
+            frame_len: Length,
             counts: *mut u64,
-            fourteen: usize,
+            fourteen: Length,
         ) -> u32;
     }
 }
 
 pub fn format(frame: &mut [u8], f: usize, n: usize) -> u32 {
-    unsafe { c::frame_format(frame.as_mut_ptr(), frame.len(), f, n) }
+    unsafe { c::frame_format(frame.as_mut_ptr(), length(frame.len()), length(f), length(n)) }
 }
 
 pub fn check(frame: &[u8]) -> u32 {
-    unsafe { c::frame_check(frame.as_ptr(), frame.len()) }
+    unsafe { c::frame_check(frame.as_ptr(), length(frame.len())) }
 }
 
 pub fn look_up(frame: &[u8], key: &[u8]) -> (u32, [u64; 2]) {
     let mut place_and_len = [0; 2];
-    let number = unsafe {
-        let two = place_and_len.len();
-        let lent = place_and_len.as_mut_ptr();
-        c::frame_look_up(frame.as_ptr(), frame.len(), key.as_ptr(), key.len(), lent, two)
-    };
+    let (frame_len, key_len) = (length(frame.len()), length(key.len()));
+    let two = length(place_and_len.len());
+    let lent = place_and_len.as_mut_ptr();
+    let number =
+        unsafe { c::frame_look_up(frame.as_ptr(), frame_len, key.as_ptr(), key_len, lent, two) };
     (number, place_and_len)
 }
 
 pub fn put(frame: &mut [u8], key: &[u8], value: &[u8]) -> u32 {
-    let (frame_len, value_len) = (frame.len(), value.len());
+    let frame_len = length(frame.len());
+    let (key_len, value_len) = (length(key.len()), length(value.len()));
     let lent = frame.as_mut_ptr();
-    unsafe { c::frame_put(lent, frame_len, key.as_ptr(), key.len(), value.as_ptr(), value_len) }
+    unsafe { c::frame_put(lent, frame_len, key.as_ptr(), key_len, value.as_ptr(), value_len) }
 }
 
 pub fn erase(frame: &mut [u8], key: &[u8]) -> u32 {
-    unsafe { c::frame_erase(frame.as_mut_ptr(), frame.len(), key.as_ptr(), key.len()) }
+    let (frame_len, key_len) = (length(frame.len()), length(key.len()));
+    unsafe { c::frame_erase(frame.as_mut_ptr(), frame_len, key.as_ptr(), key_len) }
 }
 
 pub fn pack(frame: &[u8], out: &mut [u8]) -> u32 {
-    unsafe { c::frame_pack(frame.as_ptr(), frame.len(), out.as_mut_ptr(), out.len()) }
+    let (frame_len, out_len) = (length(frame.len()), length(out.len()));
+    unsafe { c::frame_pack(frame.as_ptr(), frame_len, out.as_mut_ptr(), out_len) }
 }
 
 pub fn info(frame: &[u8]) -> (u32, [u64; 14]) {
     let mut counts = [0; 14];
-    let fourteen = counts.len();
+    let fourteen = length(counts.len());
     let lent = counts.as_mut_ptr();
-    (unsafe { c::frame_info(frame.as_ptr(), frame.len(), lent, fourteen) }, counts)
+    (unsafe { c::frame_info(frame.as_ptr(), length(frame.len()), lent, fourteen) }, counts)
 }
