@@ -1,12 +1,14 @@
 //! A second settings store, written from document 01 alone, and the harness
 //! that compares any store with it.
 //!
-//! `layout`, `check` and `store` are the second store. `slotless` and `image`
-//! are two further readings of document 01, and the store is held to both.
+//! `layout` and `check`, which have a package of their own (`tools/rules`), and
+//! `store` are the second store. `slotless` and `image` are two further
+//! readings of document 01, and the store is held to both.
 //! `compare` holds any seven calls to all of them; `run` is what the gate runs.
 
+pub use frame_rules::{check, layout};
+
 pub mod bindings;
-pub mod check;
 pub mod compare;
 pub mod crafted;
 pub mod damage;
@@ -14,7 +16,6 @@ pub mod decode;
 pub mod exported;
 pub mod history;
 pub mod image;
-pub mod layout;
 pub mod orders;
 pub mod random;
 pub mod run;

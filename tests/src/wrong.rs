@@ -105,7 +105,7 @@ pub fn checks() -> Vec<Altered> {
         with_check(&format!("a check without the rule {rule:?}"), move |frame| {
             match check::read(frame) {
                 None => LENGTHS,
-                Some(reading) if reading.broken.iter().all(|broken| *broken == rule) => DONE,
+                Some(reading) if reading.broken.keys().all(|broken| *broken == rule) => DONE,
                 Some(_) => NOT_GOOD,
             }
         })

@@ -1,5 +1,6 @@
 //! Every named damage gives its number, and breaks the rule it is aimed at.
 
+use frame_rules::words::{told, told_lengths};
 use second_store::check::{check, read, Rule};
 use second_store::damage::{all, undamaged, Aim};
 use std::collections::BTreeSet;
@@ -17,7 +18,8 @@ fn each_damage_breaks_its_rule() {
     let mut wrong = Vec::new();
     for damage in all() {
         assert_eq!(check(&damage.bytes), damage.number(), "{}", damage.name);
-        let broken = read(&damage.bytes).map(|reading| reading.broken);
+        let broken =
+            read(&damage.bytes).map(|reading| BTreeSet::from_iter(reading.broken.into_keys()));
         let as_aimed = match (damage.aim, &broken) {
             (Aim::Lengths, None) => true,
             (Aim::Alone(rule), Some(broken)) => *broken == BTreeSet::from([rule]),
@@ -29,6 +31,22 @@ fn each_damage_breaks_its_rule() {
         }
     }
     assert!(wrong.is_empty(), "{}", wrong.join("\n"));
+}
+
+#[test]
+fn each_broken_rule_is_told_with_its_place() {
+    for damage in all() {
+        let Some(reading) = read(&damage.bytes) else {
+            assert!(!told_lengths(&damage.bytes).is_empty());
+            continue;
+        };
+        for (rule, place) in &reading.broken {
+            let told = told(&damage.bytes, *rule, place);
+            let byte = place.bytes.start.to_string();
+            assert!(told.starts_with(rule.sentence()) && told.contains(&byte), "{told}");
+            assert!(place.slot.is_none_or(|slot| told.contains(&format!("slot {slot}"))), "{told}");
+        }
+    }
 }
 
 #[test]
