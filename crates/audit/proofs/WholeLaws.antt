@@ -10,7 +10,7 @@ use borrow.Author.Tests.{eqb-true, eqb-false}
 use Rattle.layout.specs.Number.{le}
 use Rattle.layout.specs.Place.{atD, atB, atU, atR, atX, atRoot}
 use Rattle.layout.specs.Entry.{placeOf}
-use Rattle.model.specs.Edition.{edition1}
+use Rattle.model.specs.Edition.{Edition, edition1}
 use Rattle.model.specs.State.{State}
 use Rattle.model.specs.Item.{Item, body, extent, inside, onSlot, cover, bulk, leafy, sum, Sound}
 use Rattle.model.specs.Frame.{Lay, LayKids, Root, bare, tree, items, itemsAll, Tree, Trees, RootAt, rootItems, Lists, freed, stateOf, Stands, Good}
@@ -222,10 +222,10 @@ module _ {f : List ℕ} {d u b : ℕ} (H : HeaderFits f) (ed : d ≡ le 4 f atD)
             (omega (arith, G .slots, none .0, C .slotsAre, eu, sum-as isBody bodied body-is is)) in
             let sound = sound-made {x = le 4 f atX} slots fits (omega (arith, G .bytes, none .1, C .accounted, ed, eb)) in
             let h = H .header in (
-              stateOf (numbersOf f) ls (W .root),
+              stateOf (numbersOf edition1 f) ls (W .root),
               record {
                 bytes = H .bytes;
-                nums = numbersOf f;
+                nums = numbersOf edition1 f;
                 lists = ls;
                 root = W .root;
                 heap = record {
@@ -233,7 +233,7 @@ module _ {f : List ℕ} {d u b : ℕ} (H : HeaderFits f) (ed : d ≡ le 4 f atD)
                   lists = lists-all f ls (omega arith) (F .are);
                   sound = sound-as (ed ∙ h .dataAt) eu eb (join (sym (W .are)) (sym (F .items))) sound;
                 };
-                editionIs = H .edition;
+                editionIs = refl;
                 rootIs = sym es ∙ sym (W .slot);
                 rootAt = W .at;
                 counted = omega (arith, K .grown .leaves, none .2, C .leavesAre, ap (sum isExtent) (W .are), root-leaves f (W .root) (W .at));
@@ -265,7 +265,7 @@ module _ {f : List ℕ} {n : ℕ} where
 
 -- a header that no good frame has
 pub header-none : {f : List ℕ} {g : Bool} → HeaderTold f g → g ≡ false → Good edition1 f → ⊥
-header-none T n G = let S = G .1 in T .fails n (S .nums) (S .heap .header) (S .editionIs)
+header-none T n G = let S = G .1 in T .fails n (S .nums) (S .heap .header) (ap (λ (E : Edition). E .number) (S .editionIs))
 
 -- ---- the sums compared
 

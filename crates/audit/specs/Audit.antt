@@ -4,7 +4,7 @@ use mathlib.Core.Path.{_≡_}
 use mathlib.Core.List.{List, [], _∷_}
 use mathlib.Core.Bool.{Bool, true, false}
 use Rattle.layout.specs.Number.{le, Bytes}
-use Rattle.layout.specs.Place.{atEdition, atD, atB, atU, atR, atX}
+use Rattle.layout.specs.Place.{atD, atB, atU, atR, atX}
 use Rattle.layout.specs.Kind.{EmptyRoot}
 use Rattle.model.specs.Edition.{edition1}
 use Rattle.model.specs.Item.{Item, body}
@@ -18,8 +18,7 @@ use Rattle.census.specs.Told.{Told}
 -- a slice of bytes with a good header of edition 1
 pub record HeaderFits (f : List ℕ) : Type 0 where
   pub bytes : Bytes f
-  pub header : frame.Header f (numbersOf f)
-  pub edition : le 4 f atEdition ≡ 1
+  pub header : frame.Header f (numbersOf edition1 f)
 
 -- the items of the root at slot s
 pub record RootItems (f : List ℕ) (s : ℕ) (xs : List Item) : Type 0 where

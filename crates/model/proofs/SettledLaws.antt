@@ -163,7 +163,7 @@ module _ (E : Edition) (f g : List ℕ) (F : Bytes f) (G : Bytes g) (a : ℕ) wh
 
   pub numbers-agree : (n m : Numbers) → Header f n → Header g m → SameNumbers n m → a < atRoot → byteAt f a ≡ byteAt g a
   numbers-agree n m H K e u = elim (decLt a 4) [
-    | yes h ↦ le-inj 4 f g atEdition F G (H .edition ∙ e .edition ∙ sym (K .edition)) a (omega arith) (omega arith)
+    | yes h ↦ le-inj 4 f g atEdition F G (H .edition ∙ ap (λ (X : Edition). X .number) (e .edition) ∙ sym (K .edition)) a (omega arith) (omega arith)
     | no h ↦ elim (decLt a 8) [
       | yes i ↦ le-inj 4 f g atF F G (H .stored ∙ e .F ∙ sym (K .stored)) a (omega arith) (omega arith)
       | no i ↦ elim (decLt a 12) [

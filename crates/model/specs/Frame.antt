@@ -151,7 +151,7 @@ rootItems (tree l) = items l
 -- ---- the header and the lists
 
 pub record Numbers : Type 0 where
-  pub edition : ℕ
+  pub edition : Edition
   pub F : ℕ
   pub N : ℕ
   pub B : ℕ
@@ -172,7 +172,7 @@ SlotCapacity n = (n % 2 ≡ 0) × (8 ≤ n) × (n ≤ 10240)
 pub record Header (f : List ℕ) (h : Numbers) : Type 0 where
   pub size : length f ≡ h .F
   pub limits : FrameLength (h .F)
-  pub edition : le 4 f atEdition ≡ h .edition
+  pub edition : le 4 f atEdition ≡ h .edition .number
   pub stored : le 4 f atF ≡ h .F
   pub slotsAt : le 4 f atN ≡ h .N
   pub slotCap : SlotCapacity (h .N)
@@ -236,7 +236,7 @@ pub record Stands (E : Edition) (f : List ℕ) (st : State) : Type 0 where
   pub lists : List (List (ℕ × ℕ))
   pub root : Root
   pub heap : Heap f (viewOf nums lists root)
-  pub editionIs : nums .edition ≡ E .number
+  pub editionIs : nums .edition ≡ E
   pub rootIs : nums .root ≡ rootSlot root
   pub rootAt : RootAt E f root
   -- "exactly when R is 0; otherwise R counts the Leaves"

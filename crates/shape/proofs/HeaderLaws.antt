@@ -1,6 +1,6 @@
 -- The header's test, exit by exit: what a good header has passed, and that one that passed all is good. Assumes nothing.
 use Prim.Native.Nat.{ℕ, _+_, _*_}
-use mathlib.Core.Path.{_≡_}
+use mathlib.Core.Path.{_≡_, sym, _∙_}
 use mathlib.Core.List.{List}
 use mathlib.Core.Bool.{Bool, false}
 use native.Mathlib.Omega.{arith}
@@ -21,10 +21,10 @@ pub record HeaderRead (f : List ℕ) (n d b u : ℕ) : Type 0 where
   pub given : u ≡ le 4 f atU
 
 module _ (f : List ℕ) where
-  pub header-denied : ((h : Numbers) → Header f h → h .edition ≡ 1 → ⊥) → HeaderTold f false
+  pub header-denied : ((h : Numbers) → Header f h → h .edition .number ≡ 1 → ⊥) → HeaderTold f false
   header-denied n = record { holds = λ e. clash (cc); fails = λ e. n }
 
-  pub header-edition : (h : Numbers) → Header f h → h .edition ≡ 1 → le 4 f atEdition ≡ 1
+  pub header-edition : (h : Numbers) → Header f h → h .edition .number ≡ 1 → le 4 f atEdition ≡ 1
   header-edition h H e = cc
 
   module _ (n d b u : ℕ) (R : HeaderRead f n d b u) where
@@ -41,11 +41,11 @@ module _ (f : List ℕ) where
         → Decides (Blank f (64 + 4 * u) d) r → HeaderTold f r
     header-end L e N s D =
         record {
-          holds = λ t. (
+          holds = λ t E n1.
             record {
               size = omega arith;
               limits = omega arith;
-              edition = cc;
+              edition = e ∙ sym n1;
               stored = cc;
               slotsAt = cc;
               slotCap = rw (R .slots) at (N .slotCap);
@@ -59,8 +59,6 @@ module _ (f : List ℕ) where
               rootAt = cc;
               spare = s;
               above = λ a x y. D .holds t a (omega arith) (omega arith);
-            },
-            e,
-          );
+            };
           fails = λ t h H q. D .fails t (header-above h H);
         }

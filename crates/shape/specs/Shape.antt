@@ -5,9 +5,9 @@ use mathlib.Core.List.{List}
 use mathlib.Core.Bool.{Bool, true, false}
 use lib.ListN.{length, getD}
 use Rattle.layout.specs.Number.{le, byteAt}
-use Rattle.layout.specs.Place.{atEdition, atF, atN, atB, atU, atR, atX, atRoot, dataStart}
+use Rattle.layout.specs.Place.{atF, atN, atB, atU, atR, atX, atRoot, dataStart}
 use Rattle.pieces.specs.Range.{Clean}
-use Rattle.model.specs.Edition.{edition1}
+use Rattle.model.specs.Edition.{Edition, edition1}
 use Rattle.model.specs.Tree.{extentOf}
 use Rattle.model.specs.Body.{PrefixAt}
 use Rattle.model.specs.Frame.{Numbers, FrameLength, SlotCapacity, Header, LeafOf}
@@ -26,11 +26,11 @@ pub record NumbersFit (F N D B U : ℕ) : Type 0 where
   pub bumpIn : (B % 8 ≡ 0) × (dataStart N + 8 ≤ B) × (B ≤ F)
   pub givenIn : (1 ≤ U) × (U ≤ N)
 
--- what the header's fields hold
-abbrev pub numbersOf : List ℕ → Numbers
-numbersOf f =
+-- what the header's fields hold, for a frame that is looked at as one of an edition
+abbrev pub numbersOf : Edition → List ℕ → Numbers
+numbersOf E f =
     record {
-      edition = le 4 f atEdition;
+      edition = E;
       F = le 4 f atF;
       N = le 4 f atN;
       B = le 4 f atB;
@@ -42,8 +42,8 @@ numbersOf f =
 
 -- the header is a good one of edition 1, and its numbers are what its fields hold; or it is none, whatever the numbers
 pub record HeaderTold (f : List ℕ) (r : Bool) : Type 0 where
-  pub holds : r ≡ true → Header f (numbersOf f) × (le 4 f atEdition ≡ 1)
-  pub fails : r ≡ false → (h : Numbers) → Header f h → h .edition ≡ 1 → ⊥
+  pub holds : r ≡ true → (E : Edition) → E .number ≡ 1 → Header f (numbersOf E f)
+  pub fails : r ≡ false → (h : Numbers) → Header f h → h .edition .number ≡ 1 → ⊥
 
 -- ---- a Prefix
 

@@ -2,6 +2,7 @@
 use mathlib.Core.Path.{refl}
 use native.Mathlib.Omega.{arith}
 use borrow.Author.Tests.{not-true, not-false}
+use Rattle.model.specs.Edition.{edition1}
 use Rattle.pieces.proofs.DecideLaws.{refuted, passed}
 use Rattle.audit.proofs.WholeLaws.{audit-length, audit-bad, audit-good, header-none}
 use borrow.Author.Needs.{needs}
@@ -26,7 +27,7 @@ all-requires : tie.Need-all-requires
 all-requires c κs =
     let k = c .before .before .before .before in
     let T = c .before .header-good .ensures .holds (not-false _ (c .if2 .left)) in
-    record { bytes = λ a. omega (arith, k .shared-slice-known .given a); header = T .0; edition = T .1 }
+    record { bytes = λ a. omega (arith, k .shared-slice-known .given a); header = T edition1 refl }
 
 returns-3 : tie.Need-returns-3
 returns-3 c =
