@@ -74,13 +74,13 @@ lost-shrinks u s kind g nil h n = absurd (omega arith)
 lost-shrinks u s kind g (kid b j l nil) h n = absurd (omega arith)
 lost-shrinks u s kind g (kid b j l (kid b' j' l' ks)) h n = rw (eq-eqb (size (kid b j l (kid b' j' l' ks))) (shrinkMark kind) n) refl
 
--- the call, once the change is known
-done-kept : (st : State) (c : Change Left) (l : Left) (a : Art) → l ≡ kept a → eraseDone st c l ≡ pick (room st c) (done 0 (after st c (st .R - 1) (some a))) (done 6 st)
-done-kept st c l a e = rw e refl
+-- the call, once the change is known and the record is not the only one
+done-kept : (st : State) (c : Change Left) (a : Art) → (st .R ≡ 1 → ⊥) → c .now ≡ kept a → eraseDone st c ≡ pick (room st c) (done 0 (after st c (st .R - 1) (some a))) (done 6 st)
+done-kept st c a n e = rw (ne-eqb (st .R) 1 n, e) refl
 
-pub erase-is : (E : Edition) (st : State) (k v : List ℕ) (a a' : Art) (c : Change Left) → st .tree ≡ some a → findTree E a 0 k ≡ some v → eraseChange E a k ≡ c → c .now ≡ kept a'
+pub erase-is : (E : Edition) (st : State) (k v : List ℕ) (a a' : Art) (c : Change Left) → st .tree ≡ some a → findTree E a 0 k ≡ some v → eraseChange E a k ≡ c → c .now ≡ kept a' → (st .R ≡ 1 → ⊥)
     → callErase E st k ≡ pick (room st c) (done 0 (after st c (st .R - 1) (some a'))) (done 6 st)
-erase-is E st k v a a' c et ef ec en = ap (eraseIn E st k) et ∙ ap (eraseFound E st k a) ef ∙ ap (λ (x : Change Left). eraseDone st x (x .now)) ec ∙ done-kept st c (c .now) a' en
+erase-is E st k v a a' c et ef ec en n = ap (eraseIn E st k) et ∙ ap (eraseFound E st k a) ef ∙ ap (eraseDone st) ec ∙ done-kept st c a' n en
 
 -- ---- among the children of a node: the key's byte at depth d is b, and no child of ls has it
 

@@ -1,26 +1,20 @@
 -- No room in numbers, where the model has a test; what the answers of put and erase are in a good frame. Assumes nothing.
-use Prim.Native.Nat.{ℕ, suc, _+_, _-_, _<_, _≤_}
+use Prim.Native.Nat.{ℕ, _+_, _-_, _<_, _≤_}
 use native.Mathlib.Omega.{arith}
 use mathlib.Core.Path.{_≡_, refl, sym, ap, subst, _∙_}
-use mathlib.Core.List.{List, []}
+use mathlib.Core.List.{List}
 use mathlib.Core.Bool.{true, false}
 use mathlib.Core.Option.{Option, none, some}
 use mathlib.Core.Logic.{inl, inr, ⊎-elim, _≢_}
-use lib.ListN.{length}
 use borrow.Author.Tests.{leb-false, ne-eqb}
 use Rattle.model.specs.Edition.{Edition, Legal, Lawful}
-use Rattle.model.specs.Tree.{Art, Change, Left}
-use Rattle.model.specs.Tree.Left.{gone, one, kept}
-use Rattle.model.specs.Records.{records, recordsOf, lookup, remove}
+use Rattle.model.specs.Tree.{Art, Change}
+use Rattle.model.specs.Records.{recordsOf, lookup}
 use Rattle.model.specs.State.{State, Done, done, unless, freshSlots, freshBytes, room, eraseChange, callErase}
 use Rattle.model.specs.Frame.{Stands}
-use Rattle.model.proofs.StringLaws.{leb-cases, bool-cases, clash}
-use Rattle.model.proofs.SetLaws.{remove-length}
+use Rattle.model.proofs.StringLaws.{leb-cases, eqb-cases, bool-cases, clash}
 use Rattle.model.proofs.GoodState.{GoodAt, GoodState}
-use Rattle.model.proofs.WellLaws.{ascending}
-use Rattle.model.proofs.EraseLaws.{ClosedOk, erase-tree}
-use Rattle.model.proofs.PackedLaws.{records-some}
-use Rattle.model.proofs.StateLaws.{room-facts, eraseRoom, eraseFits, erase-done, erase-full, erase-missing}
+use Rattle.model.proofs.StateLaws.{room-facts, eraseFits, one-fewer, erase-done, erase-full, erase-missing}
 use Rattle.model.proofs.UniqueLaws.{stands-unique}
 use Rattle.demands.specs.Words.{NoRoom, NoRoomIn, EraseFull}
 
@@ -52,27 +46,15 @@ faultless n s d h = rw h
 -- ---- erase
 
 module _ {E : Edition} (L : Lawful E) where
-  -- one record fewer is left
-  left : (s : State) (a : Art) (k v : List ℕ) → GoodAt E s (some a) → lookup k (records a) ≡ some v → suc (length (remove k (records a))) ≡ s .R
-  left s a k v h e = (rw e at (remove-length k (records a) (ascending L a [] (h .well)))) ∙ sym (h .recs)
-
   fits-full : (s : State) (k v : List ℕ) (t : Option Art) → GoodAt E s t → Legal E k → lookup k (recordsOf t) ≡ some v → eraseFits E s k t ≡ false → (2 ≤ s .R) × NoRoomIn E s t k
   fits-full s k v none h l e r = clash (cc)
-  fits-full s k v (some a) h l e r = go (eraseChange E a k) (eraseChange E a k .now) (erase-tree L a k (h .well) l) r
-    where
-      go : (c : Change Left) (x : Left) → ClosedOk E a [] k x → eraseRoom s c x ≡ false → (2 ≤ s .R) × NoRoom s c
-      go c gone o r = clash (cc)
-      go c (one b x) o r = clash (cc)
-      go c (kept x) o r = (omega (arith, left s a k v h e, records-some L x [] (o .0), ap length (o .1)), room-full s c r)
+  fits-full s k v (some a) h l e r = eqb-cases (s .R) 1
+      (λ t q. clash (let z = rw t at r in cc))
+      (λ t q. (omega (arith, one-fewer L s a k v h e), room-full s (eraseChange E a k) (rw t at r)))
 
-  fits-not : (s : State) (k v : List ℕ) (t : Option Art) → GoodAt E s t → Legal E k → lookup k (recordsOf t) ≡ some v → eraseFits E s k t ≡ true → 2 ≤ s .R → NoRoomIn E s t k → ⊥
-  fits-not s k v none h l e r two q = q
-  fits-not s k v (some a) h l e r two q = go (eraseChange E a k) (eraseChange E a k .now) (erase-tree L a k (h .well) l) r q
-    where
-      go : (c : Change Left) (x : Left) → ClosedOk E a [] k x → eraseRoom s c x ≡ true → NoRoom s c → ⊥
-      go c gone o r q = omega (arith, left s a k v h e, ap length o)
-      go c (one b x) o r q = o
-      go c (kept x) o r q = room-not s c r q
+  fits-not : (s : State) (k : List ℕ) (t : Option Art) → eraseFits E s k t ≡ true → 2 ≤ s .R → NoRoomIn E s t k → ⊥
+  fits-not s k none r two q = q
+  fits-not s k (some a) r two q = room-not s (eraseChange E a k) (rw (ne-eqb (s .R) 1 (λ z. omega arith)) at r) q
 
   -- 8, 6 or 0
   pub data Erased (s : State) (k : List ℕ) (n : ℕ) : Type 0 where
@@ -89,5 +71,5 @@ module _ {E : Edition} (L : Lawful E) where
       go : (o : Option (List ℕ)) → lookup k (recordsOf (s .tree)) ≡ o → Erased s k (callErase E s k .answer)
       go none e = missing e (ap (λ (d : Done). d .answer) (erase-missing L s k h l e))
       go (some v) e = bool-cases (eraseFits E s k (s .tree))
-          (λ t. erased (there v e) (λ x. fits-not s k v (s .tree) h l e t (x .1) (x .2)) (erase-done L s k v h l e t .answer))
+          (λ t. erased (there v e) (λ x. fits-not s k (s .tree) t (x .1) (x .2)) (erase-done L s k v h l e t .answer))
           (λ t. let q = fits-full s k v (s .tree) h l e t in full (there v e, q .0, q .1) (ap (λ (d : Done). d .answer) (erase-full L s k v h l e t)))

@@ -12,15 +12,13 @@ use Rattle.model.specs.Edition.{Edition, edition1}
 use Rattle.model.specs.Tree.{Art}
 use Rattle.model.specs.State as state
 use Rattle.model.specs.State.{State, Done, done, room, findIn, eraseChange, eraseIn, callErase}
-use Rattle.model.specs.Records.{recordsOf}
 use Rattle.model.specs.Body.{InnerAt}
 use Rattle.model.specs.Frame.{art, pairs, rootArt, Stands}
 use Rattle.model.specs.Promise.{changes}
 use Rattle.model.proofs.StringLaws.{clash}
 use Rattle.model.proofs.Edition1.{lawful1}
-use Rattle.model.proofs.GoodState.{TreeOk, GoodState}
 use Rattle.model.proofs.StandsGood.{stands-good}
-use Rattle.model.proofs.PackedLaws.{records-some}
+use Rattle.model.proofs.StateLaws.{erase-more}
 use Rattle.inner.proofs.InnerLaws.{inner-count}
 use Rattle.room.specs.declared.fit.Room.{Room}
 use Rattle.room.specs.declared.fit.Needs.{Needs}
@@ -89,13 +87,6 @@ absent-is : (s : State) (k : List ℕ) (t : Option Art) → findIn edition1 t k 
 absent-is s k none e = refl
 absent-is s k (some a) e = rw e refl
 
--- a state with a tree has records
-some-left : (s : State) (a : Art) → GoodState edition1 s → s .tree ≡ some a → 1 ≤ s .R
-some-left s a G e =
-    let T : TreeOk edition1 (some a) = rw e at (G .well) in
-    let n : s .R ≡ length (recordsOf (some a)) = rw e at (G .recs) in
-    omega (arith, records-some lawful1 a [] T)
-
 pub only-made : {f k f' : List ℕ} → OnlyStep f k f' → EraseMade f k 0 f'
 only-made O =
     record {
@@ -128,8 +119,17 @@ module _ {f k : List ℕ} (A : Asked f k) {p : Spot} (S : (s : State) (w : Stand
         abbrev fewer : (s : State) → Stands edition1 f s → State
         fewer s w = state.after s (eraseChange edition1 (art (inside w .lay)) k) (s .R - 1) (some (erasing s w .left))
 
-        some-fewer : {f' : List ℕ} (s : State) (w : Stands edition1 f s) → Stands edition1 f' (fewer s w) → 2 ≤ s .R
-        some-fewer {f'} s w w' = omega (arith, some-left (fewer s w) (erasing s w .left) (stands-good edition1 f' (fewer s w) w') refl)
+        stands-tree : (s : State) (w : Stands edition1 f s) → s .tree ≡ some (art (inside w .lay))
+        stands-tree s w = ap (λ (z : State). z .tree) (w .state) ∙ ap rootArt (inside w .is)
+
+        there : (s : State) (w : Stands edition1 f s) → let L = found-leaf w (S s w) found in findIn edition1 (some (art (inside w .lay))) k ≡ some (take (length (L .value)) (drop (L .extent + length k) f))
+        there s w = ap (λ t. findIn edition1 t k) (sym (stands-tree s w)) ∙ value-stands k w ∙ ap (valueIn f) (found-leaf w (S s w) found .look)
+
+        -- a record that a node holds is not the only one
+        more : (s : State) (w : Stands edition1 f s) → s .R ≡ 1 → ⊥
+        more s w =
+            let a = art (inside w .lay) in
+            erase-more lawful1 s a k _ (erasing s w .left) (rw (stands-tree s w) at (stands-good edition1 f s w)) (A .legal) (there s w) (erasing s w .leaves)
 
       module _ {n : Needs} (N : ErasePlan f k p n) {r : Room} (R : (E : Edition) (s : State) → Stands E f s → RoomOf r s n) {b : Bool} (F : (b ≡ true → Fit r n) × (Fit r n → b ≡ true)) where
         room-any : (s : State) (w : Stands edition1 f s) → b ≡ room s (eraseChange edition1 (art (inside w .lay)) k)
@@ -138,10 +138,7 @@ module _ {f k : List ℕ} (A : Asked f k) {p : Spot} (S : (s : State) (w : Stand
         call-is : (s : State) (w : Stands edition1 f s) {x : Bool} → b ≡ x → callErase edition1 s k ≡ pick x (done 0 (fewer N s w)) (done 6 s)
         call-is s w e =
             let a = art (inside w .lay) in
-            let L = found-leaf w (S s w) found in
-            let et : s .tree ≡ some a = ap (λ (z : State). z .tree) (w .state) ∙ ap rootArt (inside w .is) in
-            let ef : findIn edition1 (some a) k ≡ some (take (length (L .value)) (drop (L .extent + length k) f)) = ap (λ t. findIn edition1 t k) (sym et) ∙ value-stands k w ∙ ap (valueIn f) (L .look) in
-            erase-is edition1 s k _ a (erasing N s w .left) (eraseChange edition1 a k) et ef refl (erasing N s w .leaves) ∙ ap (λ y. pick y (done 0 (fewer N s w)) (done 6 s)) (sym (room-any s w) ∙ e)
+            erase-is edition1 s k _ a (erasing N s w .left) (eraseChange edition1 a k) (stands-tree N s w) (there N s w) refl (erasing N s w .leaves) (more N s w) ∙ ap (λ y. pick y (done 0 (fewer N s w)) (done 6 s)) (sym (room-any s w) ∙ e)
 
         pub no-room : b ≡ false → EraseMade f k 6 f
         no-room e = unchanged k 6 refl (λ s w. call-is s w e)
@@ -166,6 +163,6 @@ module _ {f k : List ℕ} (A : Asked f k) {p : Spot} (S : (s : State) (w : Stand
             record {
               answer = λ s w. sym (T .answer s w);
               after = λ s w. (T .after s w .0, λ z. T .after s w .1);
-              only = λ s w z o. let m = some-fewer N s w (subst (λ (d : Done). Stands edition1 f' (d .state)) (call-is s w e) (T .after s w .0)) in absurd (omega arith);
+              only = λ s w z o. absurd (more N s w o);
               kept = λ z. absurd (differ z);
             }

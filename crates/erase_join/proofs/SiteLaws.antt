@@ -25,7 +25,9 @@ use Rattle.model.specs.Mark as marking
 use Rattle.model.specs.Freedom.{is}
 use Rattle.model.proofs.StringLaws.{same-refl}
 use Rattle.model.proofs.ItemLaws.{sum-cons}
-use Rattle.model.proofs.StandsGood.{leafy-other}
+use Rattle.model.proofs.Edition1.{lawful1}
+use Rattle.model.proofs.StateLaws.{tree-some}
+use Rattle.model.proofs.StandsGood.{leafy-other, stands-good}
 use Rattle.model.proofs.UniqueLaws.{root-unique, stands-unique}
 use Rattle.model.proofs.MarkLaws.{leaf-marks, node-marks, kid-marks, nil-marks, is-gone}
 use Rattle.between.specs.Hole.{app, Step, plug, pathOf, stepsItems}
@@ -211,14 +213,6 @@ module _ {f f1 k : List ℕ} {s : State} {w : Stands edition1 f s} {xs : List St
     abbrev state' : State
     state' = after s change' (w .nums .R - 1) (some (art (M .lay)))
 
-    is-erase : callErase edition1 s k ≡ done 0 state'
-    is-erase =
-        let et : s .tree ≡ some (art (plug xs (pairOf P))) = ap (λ (z : State). z .tree) (w .state) ∙ ap rootArt (P .whole) in
-        let e = erase-is edition1 s k (P .value) (art (plug xs (pairOf P))) (art (M .lay)) change' et (site-found P) (M .change) refl in
-        let q : room s change' ≡ true = rw (M .change) at fits in
-        let er : s .R ≡ w .nums .R = ap (λ (z : State). z .R) (w .state) in
-        e ∙ ap (λ (z : Bool). pick z (done 0 (after s change' (s .R - 1) (some (art (M .lay))))) (done 6 s)) q ∙ ap (λ n. done 0 (after s change' (n - 1) (some (art (M .lay))))) er
-
     left-leaves : Z .view .nums .R ≡ sum leafy (items (M .lay))
     left-leaves =
         let g1 = body (l .leaf) Leaf (l .at) in
@@ -243,6 +237,17 @@ module _ {f f1 k : List ℕ} {s : State} {w : Stands edition1 f s} {xs : List St
 
     stands' : Stands edition1 g state'
     stands' = stands-of state' (M .lay) (Z .work) refl bytes (booked' .edition ∙ w .editionIs) left-leaves (book-of w change' (M .lay) (art (M .lay)) booked' refl)
+
+    more : s .R ≡ 1 → ⊥
+    more z = omega (arith, ap (λ (z : State). z .R) (w .state), tree-some lawful1 state' (art (M .lay)) (stands-good edition1 g state' stands') refl)
+
+    is-erase : callErase edition1 s k ≡ done 0 state'
+    is-erase =
+        let et : s .tree ≡ some (art (plug xs (pairOf P))) = ap (λ (z : State). z .tree) (w .state) ∙ ap rootArt (P .whole) in
+        let e = erase-is edition1 s k (P .value) (art (plug xs (pairOf P))) (art (M .lay)) change' et (site-found P) (M .change) refl more in
+        let q : room s change' ≡ true = rw (M .change) at fits in
+        let er : s .R ≡ w .nums .R = ap (λ (z : State). z .R) (w .state) in
+        e ∙ ap (λ (z : Bool). pick z (done 0 (after s change' (s .R - 1) (some (art (M .lay))))) (done 6 s)) q ∙ ap (λ n. done 0 (after s change' (n - 1) (some (art (M .lay))))) er
 
     pub mid-done : Result f g k w (callErase edition1 s k)
     unfolding stands'

@@ -9,6 +9,9 @@ use native.Mathlib.Omega.{arith}
 use lib.ListN.{length}
 use Rattle.layout.specs.Number.{Bytes}
 use Rattle.model.specs.Edition.{edition1}
+use Rattle.model.proofs.Edition1.{lawful1}
+use Rattle.model.proofs.StateLaws.{tree-some}
+use Rattle.model.proofs.StandsGood.{stands-good}
 use Rattle.model.specs.Tree.{Art, Change, Left, eraseTree, findTree}
 use Rattle.model.specs.Tree.Left.{kept}
 use Rattle.model.specs.State.{State, Done, done, room, after, eraseChange, callErase}
@@ -61,11 +64,6 @@ module _ {f k : List ℕ} {s : State} (w : Stands edition1 f s) (xs : List Step)
   fits-is q = subst (λ (x : Change Left). room s x ≡ true) (ap (λ a. eraseChange edition1 a k) (art-plug xs t) ∙ change-is) q
 
   module _ (finds : findTree edition1 (art t) (length (pathOf xs)) k ≡ some v) (fits : room s c ≡ true) where
-    is-erase : callErase edition1 s k ≡ done 0 (after s c' (s .R - 1) (some (artIn xs (art lay))))
-    is-erase =
-        erase-is edition1 s k v whole (artIn xs (art lay)) c' (ap (λ (z : State). z .tree) (w .state) ∙ ap rootArt er ∙ ap some (art-plug xs t)) (plug-find L (art t) ∙ finds) change-is refl
-        ∙ rw fits refl
-
     -- in g it stands there; the numbers are the model's, and these bodies were taken, rewritten and freed
     module _ {g : List ℕ} {h : View} {slot : ℕ} {takes rewrites frees : List Item} (notLeaf : NotLeaf t) (W : Work edition1 g h [] slot (([], plug xs lay) ∷ []) []) (es : slot ≡ slotOf (plug xs lay)) (bytes : Bytes g)
         (books : Booked (standsView w) h (c .takes) (c .frees) (c .extent) (c .dead) (w .nums .R - 1)) (fewer : sum leafy (items lay) + 1 ≡ sum leafy (items t))
@@ -81,6 +79,14 @@ module _ {f k : List ℕ} {s : State} (w : Stands edition1 f s) (xs : List Step)
       stands =
           stands-of _ (plug xs lay) W es bytes (books .edition ∙ w .editionIs) counted
           (ap (λ i. after s c' i (some (artIn xs (art lay)))) records-is ∙ book-of w c' (plug xs lay) (artIn xs (art lay)) books (art-plug xs lay))
+
+      more : s .R ≡ 1 → ⊥
+      more z = omega (arith, tree-some lawful1 _ (artIn xs (art lay)) (stands-good edition1 g _ stands) refl)
+
+      is-erase : callErase edition1 s k ≡ done 0 (after s c' (s .R - 1) (some (artIn xs (art lay))))
+      is-erase =
+          erase-is edition1 s k v whole (artIn xs (art lay)) c' (ap (λ (z : State). z .tree) (w .state) ∙ ap rootArt er ∙ ap some (art-plug xs t)) (plug-find L (art t) ∙ finds) change-is refl more
+          ∙ rw fits refl
 
       outside : Outside f g (w .root) (stands .root) (w .lists) (stands .lists) (eraseKinds edition1 (w .root) k) (eraseTouch edition1 (w .root) k) [] false
       outside =

@@ -4,6 +4,7 @@ use mathlib.Core.Path.{_≡_, refl, sym, ap, subst, _∙_}
 use mathlib.Core.List.{List, [], _∷_}
 use mathlib.Core.Option.{some}
 use native.Mathlib.Omega.{arith}
+use borrow.Author.Tests.{eq-eqb}
 use lib.ListN.{length}
 use Rattle.layout.specs.Number.{le}
 use Rattle.layout.specs.Place.{atN}
@@ -58,17 +59,17 @@ module _ {f : List ℕ} {s : State} (w : Stands edition1 f s) where
 
   -- erase of the key of the only Leaf
   module _ (l o e : ℕ) (k v : List ℕ) (er : w .root ≡ tree (leaf l o e k v)) where
+    one-record : s .R ≡ 1
+    one-record = omega (arith, ap (λ (z : State). z .R) (w .state), w .counted, stands-sum w (leaf l o e k v) er leafy, leafy-leaf l o e k v)
+
     is-erase : callErase edition1 s k ≡ done 0 (formatted (s .F) (s .N))
     is-erase =
         let found : findTree edition1 (Art.leaf k v) 0 k ≡ some v = rw (same-refl k) refl in
-        let gone : eraseFound edition1 s k (Art.leaf k v) (some v) ≡ done 0 (formatted (s .F) (s .N)) = rw (same-refl k) refl in
+        let gone : eraseFound edition1 s k (Art.leaf k v) (some v) ≡ done 0 (formatted (s .F) (s .N)) = rw (eq-eqb (s .R) 1 one-record) refl in
         ap (eraseIn edition1 s k) (ap (λ (z : State). z .tree) (w .state) ∙ ap rootArt er) ∙ ap (eraseFound edition1 s k (Art.leaf k v)) found ∙ gone
 
-    one-record : 2 ≤ s .R → ⊥
-    one-record h = omega (arith, ap (λ (z : State). z .R) (w .state), w .counted, stands-sum w (leaf l o e k v) er leafy, leafy-leaf l o e k v)
-
     only-done : {g : List ℕ} {n : ℕ} → n ≡ le 4 f atN → g ≡ image edition1 (length f) n [] → Result f g k w (callErase edition1 s k)
-    only-done {g} en eg = subst (Result f g k w) (sym is-erase) (refl, left-stands en eg, λ h. absurd (one-record h))
+    only-done {g} en eg = subst (Result f g k w) (sym is-erase) (refl, left-stands en eg, λ h. absurd (omega (arith, one-record)))
 
 pub only-step : {f g : List ℕ} {n : ℕ} → n ≡ le 4 f atN → g ≡ image edition1 (length f) n [] → (k : List ℕ) → OnlyAt f k → OnlyStep f k g
 only-step {f} en eg k P =

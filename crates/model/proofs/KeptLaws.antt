@@ -14,7 +14,7 @@ use Rattle.layout.specs.Place.{atB, atSpare, entryAt, dataStart}
 use Rattle.layout.specs.Kind.{bodySize}
 use Rattle.model.specs.Strings.{same, shared}
 use Rattle.model.specs.Edition.{Edition, valueFault}
-use Rattle.model.specs.Tree.{Art, Change, Left, gone, one, kept, up8, findTree}
+use Rattle.model.specs.Tree.{Art, Change, Left, up8, findTree}
 use Rattle.model.specs.State.{State, Done, room, unless, putChange, callPut, onPut, eraseChange, eraseDone, eraseFound, eraseIn, callErase, onErase}
 use Rattle.model.specs.Item.{Item, body, extent, onSlot, cover, onEntry, sum}
 use Rattle.model.specs.Frame.{Lay, LayKids, Root, bare, tree, items, itemsAll, rootItems, freed, Stands}
@@ -219,14 +219,12 @@ module _ (E : Edition) (s : State) (k : List ℕ) where
   put-cap : (v : List ℕ) → onPut E s k v .state .N ≡ s .N
   put-cap v = unless-cap (E .keyFault k) s (unless (valueFault v) s (callPut E s k v)) (unless-cap (valueFault v) s (callPut E s k v) (bool-cases (room s (putChange E s k v)) (λ t. rw t refl) (λ t. rw t refl)))
 
-  done-cap : (c : Change Left) (l : Left) → eraseDone s c l .state .N ≡ s .N
-  done-cap c gone = refl
-  done-cap c (one b a) = refl
-  done-cap c (kept a) = bool-cases (room s c) (λ t. rw t refl) (λ t. rw t refl)
+  done-cap : (c : Change Left) → eraseDone s c .state .N ≡ s .N
+  done-cap c = bool-cases (eqb (s .R) 1) (λ u. rw u refl) (λ u. bool-cases (room s c) (λ t. rw (u, t) refl) (λ t. rw (u, t) refl))
 
   found-cap : (a : Art) (x : Option (List ℕ)) → eraseFound E s k a x .state .N ≡ s .N
   found-cap a none = refl
-  found-cap a (some v) = done-cap (eraseChange E a k) (eraseChange E a k .now)
+  found-cap a (some v) = done-cap (eraseChange E a k)
 
   in-cap : (t : Option Art) → eraseIn E s k t .state .N ≡ s .N
   in-cap none = refl

@@ -12,7 +12,7 @@ use Rattle.model.specs.Strings.{pick, same, shared}
 use Rattle.model.specs.Edition.{Edition}
 use Rattle.model.specs.Tree as model
 use Rattle.model.specs.Tree.{Art, Kids, Change, over, findTree, Left, gone, one, kept, LeftKids, fewer, still, numbered, unnumbered, carried, lessOne, close, closeUnder, afterKids, consKid, fromChild, eraseTree, eraseKids}
-use Rattle.model.specs.State.{State, room, eraseChange, eraseDone, eraseFound, eraseIn, onErase}
+use Rattle.model.specs.State.{State, room, eraseChange, treeLeft, eraseDone, eraseFound, eraseIn, onErase}
 use Rattle.model.specs.Frame.{Lay, LayKids, Root, bare, tree, atop, art, artKids, rootArt, RootAt, Tree, Trees, Stands}
 use Rattle.model.specs.Frame.Lay.{leaf, prefix, node}
 use Rattle.model.specs.Frame.LayKids.{nil, kid}
@@ -183,18 +183,27 @@ module _ (y : List ℕ) where
           (λ t. rw t (omega (arith, child-knots p b j ks (close (e .now) e .now), close-knots (p ++ b ∷ []) (e .now) e refl)))
           (λ t. rw t (omega (arith, cons-knots p b j a (eraseKids E ks d k .now))))
 
-    done-knots : (s : State) (a : Art) (l : Left) → s .tree ≡ some a → eraseChange E a k .now ≡ l → knotsIn (eraseDone s (eraseChange E a k) l .state .tree) ≤ knotsIn (s .tree)
+    left-knots : (a : Art) (l : Left) → eraseChange E a k .now ≡ l → knotsIn (treeLeft l) ≤ knotsIn (some a)
     unfolding knotsIn knotsLeft
-    done-knots s a gone es e = omega arith
-    done-knots s a (one b x) es e = omega arith
-    done-knots s a (kept x) es e =
+    left-knots a gone e = omega arith
+    left-knots a (one b x) e = omega arith
+    left-knots a (kept x) e =
         let c = eraseTree E a 0 k in
         let h : knots y [] x ≤ knotsLeft [] (c .now) = rw e at (close-knots [] (c .now) c refl) in
-        bool-cases (room s (eraseChange E a k)) (λ t. rw (t, es) (omega (arith, erase-knots a [] 0))) (λ t. rw t (omega arith))
+        omega (arith, erase-knots a [] 0)
+
+    done-knots : (s : State) (a : Art) → s .tree ≡ some a → knotsIn (eraseDone s (eraseChange E a k) .state .tree) ≤ knotsIn (s .tree)
+    unfolding knotsIn
+    done-knots s a es =
+        let c = eraseChange E a k in
+        let h = left-knots a (c .now) refl in
+        bool-cases (eqb (s .R) 1)
+        (λ u. rw u (omega arith))
+        (λ u. bool-cases (room s c) (λ t. rw (u, t, es) h) (λ t. rw (u, t) (omega arith)))
 
     found-knots : (s : State) (a : Art) (x : Option (List ℕ)) → s .tree ≡ some a → knotsIn (eraseFound E s k a x .state .tree) ≤ knotsIn (s .tree)
     found-knots s a none es = omega arith
-    found-knots s a (some v) es = done-knots s a (eraseChange E a k .now) es refl
+    found-knots s a (some v) es = done-knots s a es
 
     in-knots : (s : State) (t : Option Art) → s .tree ≡ t → knotsIn (eraseIn E s k t .state .tree) ≤ knotsIn (s .tree)
     in-knots s none es = omega arith

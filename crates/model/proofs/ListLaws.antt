@@ -20,7 +20,7 @@ use Rattle.model.specs.Strings.{pick, same, shared}
 use Rattle.model.specs.Edition.{Edition, valueFault}
 use Rattle.model.specs.Tree as model
 use Rattle.model.specs.Tree.{Art, Kids, isInner, extentOf, Change, over, has, chain, prefixes, putTree, putKids, findTree, Left, gone, one, kept, LeftKids, fewer, still, lessOne, close, closeUnder, afterKids, consKid, fromChild, eraseTree, eraseKids}
-use Rattle.model.specs.State.{State, Done, tally, kinds, room, unless, after, putIn, putChange, callPut, onPut, eraseChange, eraseDone, eraseFound, eraseIn, onErase}
+use Rattle.model.specs.State.{State, Done, tally, kinds, room, unless, after, putIn, putChange, callPut, onPut, eraseChange, treeLeft, eraseDone, eraseFound, eraseIn, onErase}
 use Rattle.model.specs.Item.{Item, body, extent, onSlot, cover, onEntry, leafy, sum}
 use Rattle.model.specs.Frame.{Lay, LayKids, Root, bare, tree, IsNode, Below, atop, art, artKids, NodeOf, rootArt, items, itemsAll, rootItems, RootAt, Tree, Trees, Chain, listItems, freed, Stands}
 use Rattle.model.specs.Frame.Lay.{leaf, prefix, node}
@@ -616,14 +616,14 @@ module _ {E : Edition} {f f' : List ℕ} {st st' : State} (w : Stands E f st) (w
       omega (arith, O .keeps 2 (F .0) (F .1) (F .2), slot-of-body 2 (F .0) (F .1) (rootItems (w' .root) ++ freed 1 (w' .lists)), w' .heap .sound .past 2 (omega arith))
 
 module _ (k : ℕ) (kind : k ≤ 8) (E : Edition) (s : State) (x : List ℕ) where
-  done-free : (c : Change Left) (l : Left) → among k (c .takes ++ c .frees) ≡ false → (eraseDone s c l .state .U ≡ 1 → ⊥) → freeAt (eraseDone s c l .state) k ≡ freeAt s k
-  done-free c gone h n = absurd (n refl)
-  done-free c (one b a) h n = refl
-  done-free c (kept a) h n = bool-cases (room s c) (λ t. rw t (after-free k kind s c (s .R - 1) (some a) h)) (λ t. rw t refl)
+  done-free : (c : Change Left) → among k (c .takes ++ c .frees) ≡ false → (eraseDone s c .state .U ≡ 1 → ⊥) → freeAt (eraseDone s c .state) k ≡ freeAt s k
+  done-free c h n = bool-cases (eqb (s .R) 1)
+      (λ u. absurd (n (rw u refl)))
+      (λ u. bool-cases (room s c) (λ t. rw (u, t) (after-free k kind s c (s .R - 1) (treeLeft (c .now)) h)) (λ t. rw (u, t) refl))
 
   found-free : (a : Art) (v : Option (List ℕ)) → (let c = eraseChange E a x in among k (c .takes ++ c .frees) ≡ false) → (eraseFound E s x a v .state .U ≡ 1 → ⊥) → freeAt (eraseFound E s x a v .state) k ≡ freeAt s k
   found-free a none h n = refl
-  found-free a (some v) h n = done-free (eraseChange E a x) (eraseChange E a x .now) h n
+  found-free a (some v) h n = done-free (eraseChange E a x) h n
 
   in-free : (r : Root) → among k (eraseKinds E r x) ≡ false → (eraseIn E s x (rootArt r) .state .U ≡ 1 → ⊥) → freeAt (eraseIn E s x (rootArt r) .state) k ≡ freeAt s k
   in-free (bare t o) h n = refl
