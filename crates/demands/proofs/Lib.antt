@@ -5,3 +5,4 @@ pub mod DoneLaws
 pub mod Sets
 pub mod Orders
 pub mod Theorems
+pub mod SlotLaws

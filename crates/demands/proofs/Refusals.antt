@@ -10,7 +10,8 @@ use lib.ListN.{length}
 use borrow.Author.Tests.{ne-eqb}
 use Rattle.model.specs.Edition.{Edition, edition1, Legal, valueFault}
 use Rattle.model.specs.State.{State, Done, unless, room, putChange, callPut, callErase}
-use Rattle.model.specs.Frame.{Stands, Good, Root}
+use Rattle.model.specs.Visits.{visitsIn}
+use Rattle.model.specs.Frame.{Stands, Good, Root, rootArt}
 use Rattle.model.specs.Touch.{Part, findAt}
 use Rattle.model.specs.Promise.{Found, foundOf, onLookUp, LookUpPromise, changes}
 use Rattle.model.proofs.StringLaws.{bool-cases, eqb-cases, ltb-cases}
@@ -30,15 +31,15 @@ refused-not0 n r e = omega arith
 
 -- ---- the answers in a good frame
 
-found-number : (o : Option Part) → OneOf (foundOf o .number) (0 ∷ 8 ∷ [])
-found-number none = inr (inl refl)
-found-number (some c) = inl refl
+found-number : (o : Option Part) (visited : ℕ) → OneOf (foundOf o visited .number) (0 ∷ 8 ∷ [])
+found-number none n = inr (inl refl)
+found-number (some c) n = inl refl
 
 look-fault : (E : Edition) (r : Root) (k : List ℕ) → E .keyFault k ≢ 0 → onLookUp E r k .number ≡ E .keyFault k
 look-fault E r k h = rw (ne-eqb (E .keyFault k) 0 h)
 
 pub look-answer : (E : Edition) (r : Root) (k : List ℕ) → E .keyFault k ≡ 0 → OneOf (onLookUp E r k .number) (0 ∷ 8 ∷ [])
-look-answer E r k h = rw h (found-number (findAt E r k))
+look-answer E r k h = rw h (found-number (findAt E r k) (visitsIn E (rootArt r) k))
 
 look-given : (f k : List ℕ) (g : Found) → LookUpPromise edition1 f k g → Good edition1 f → Given (keyLength k ∷ keyZero k ∷ []) (0 ∷ 8 ∷ []) (g .number)
 look-given f k g p h =
@@ -78,7 +79,8 @@ demand1 = record {
   check = λ f n p. frame-first f [] (0 ∷ []) n refl (p .told) (λ g. inl (p .good0 g));
   lookUp = λ f k g p. (
     frame-first f (keyLength k ∷ keyZero k ∷ []) (0 ∷ 8 ∷ []) (g .number) refl (p .told) (look-given f k g p),
-    λ r. let z = p .zeros (refused-not0 (g .number) r) in λ i. record { number = g .number; place = z .0 i; long = z .1 i },
+    λ r. let z = p .zeros (refused-not0 (g .number) r) in let u = p .unvisited (refused-not0 (g .number) r) (λ e. omega arith) in
+        λ i. record { number = g .number; place = z .0 i; long = z .1 i; slots = u i },
   );
   value = λ f k at part h. let p = h .looked in let g = h .look in (
     frame-first f (keyLength k ∷ keyZero k ∷ []) (0 ∷ 8 ∷ []) (g .number) refl (p .told) (look-given f k g p),

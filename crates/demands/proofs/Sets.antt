@@ -16,7 +16,8 @@ use Rattle.model.specs.Tree.{Art}
 use Rattle.model.specs.Records.{Record, recordsOf, lookup, absent, Ascending}
 use Rattle.model.specs.State.{State, formatted, room, putChange, callPut, callErase}
 use Rattle.model.specs.Image.{treeOf}
-use Rattle.model.specs.Frame.{Root, Stands, RootAt}
+use Rattle.model.specs.Visits.{visitsIn}
+use Rattle.model.specs.Frame.{Root, Stands, RootAt, rootArt}
 use Rattle.model.specs.Touch.{Part, findAt}
 use Rattle.model.specs.Promise.{FormatOk, FormatPromise, Found, foundOf, onLookUp, LookUpPromise, ValuePromise, PutPromise, ErasePromise, PackPromise}
 use Rattle.model.specs.Call.{Call, put, erase, keyOf, edited, given, Called}
@@ -60,14 +61,15 @@ found-or-missing n p o e (inr (inr z)) = absurd z
 part-of : (f : List ℕ) (a n : ℕ) → a + n ≤ length f → take n (drop a f) ≡ take (length (take n (drop a f))) (drop a f)
 part-of f a n h = let e = length-take-le n (drop a f) (rw (length-drop a f) (omega arith)) in rw e
 
-found-within : (E : Edition) (f k : List ℕ) (r : Root) (o : Option Part) → RootAt E f r → findAt E r k ≡ o → foundOf o .place + foundOf o .long ≤ length f
-found-within E f k r none R e = omega arith
-found-within E f k r (some c) R e = root-within E f k c r R e
+found-within : (E : Edition) (f k : List ℕ) (r : Root) (o : Option Part) (n : ℕ) → RootAt E f r → findAt E r k ≡ o → foundOf o n .place + foundOf o n .long ≤ length f
+found-within E f k r none n R e = omega arith
+found-within E f k r (some c) n R e = root-within E f k c r R e
 
 look-within : (E : Edition) (f k : List ℕ) (g : Found) (s : State) (w : Stands E f s) → E .keyFault k ≡ 0 → g ≡ onLookUp E (w .root) k → g .place + g .long ≤ length f
 look-within E f k g s w z e =
-    let q : g ≡ foundOf (findAt E (w .root) k) = e ∙ rw z in
-    rw q (found-within E f k (w .root) (findAt E (w .root) k) (w .rootAt) refl)
+    let n = visitsIn E (rootArt (w .root)) k in
+    let q : g ≡ foundOf (findAt E (w .root) k) n = e ∙ rw z in
+    rw q (found-within E f k (w .root) (findAt E (w .root) k) n (w .rootAt) refl)
 
 -- ---- format: what is not refused is within the limits
 

@@ -45,40 +45,40 @@ demands = (demand1, two, three)
 
 -- ---- two good frames of F 1,024 and N 8: W1, and the packed image of a=1
 
-abbrev a : List ℕ
+abbrev pub a : List ℕ
 a = 97 ∷ []
 
 abbrev b : List ℕ
 b = 98 ∷ []
 
-abbrev v : List ℕ
+abbrev pub v : List ℕ
 v = 49 ∷ []
 
 abbrev a1 : List Record
 a1 = record { key = a; value = v } ∷ []
 
-abbrev state0 : State
+abbrev pub state0 : State
 state0 = formatted 1024 8
 
 abbrev state1 : State
 state1 = imageState 1024 8 (some (leaf a v))
 
-legal-a : Legal edition1 a
+pub legal-a : Legal edition1 a
 legal-a = record { passes = refl; bytes = (lit< tt, tt) }
 
 legal-b : Legal edition1 b
 legal-b = record { passes = refl; bytes = (lit< tt, tt) }
 
-legal-v : LegalValue v
+pub legal-v : LegalValue v
 legal-v = record { passes = lit≤ tt; bytes = (lit< tt, tt) }
 
-length1024 : FrameLength 1024
+pub length1024 : FrameLength 1024
 length1024 = (refl, lit≤ tt, lit≤ tt)
 
-slots8 : SlotCapacity 8
+pub slots8 : SlotCapacity 8
 slots8 = (refl, lit≤ tt, lit≤ tt)
 
-empty : (f : List ℕ) × Stands edition1 f state0
+pub empty : (f : List ℕ) × Stands edition1 f state0
 empty = (image edition1 1024 8 [], empty-stands edition1 1024 8 (lawful1 .fields .number) length1024 slots8 (lit≤ tt))
 
 holding : (f : List ℕ) × Stands edition1 f state1
@@ -87,7 +87,7 @@ holding = (
   image-of-stands lawful1 1024 8 a1 (tt, tt) (legal-a, legal-v, tt) (record { limits = length1024; cap = slots8; room = lit≤ tt; slotsFit = lit≤ tt; bytesFit = lit≤ tt }),
 )
 
-holds0 : Holds edition1 (empty .0) []
+pub holds0 : Holds edition1 (empty .0) []
 holds0 = record { state = state0; stands = empty .1; set = refl }
 
 holds1 : Holds edition1 (holding .0) a1
@@ -115,7 +115,7 @@ shut-out = record {
       let z : _≡_ {A = ℕ} 6 0 = p .1 .answer state0 (empty .1) in omega arith;
   allEight = λ h.
       let p = h (holding .0) a (state1, holding .1) legal-a in
-      let z = two .lookUp (holding .0) a _ a1 legal-a p holds1 .absent8 .0 refl in clash (cc);
+      let z = two .lookUp (holding .0) a _ a1 legal-a (p .1) holds1 .absent8 .0 refl in clash (cc);
   holdsNothing = λ h.
       let p = h (empty .0) a v (state0, empty .1) legal-a legal-v in
       let q = two .change (empty .0) (put a v) (p .0) (p .1) [] (legal-a .bytes, legal-v .bytes) (p .2) holds0 (not0 (p .0) (p .2 .answer state0 (empty .1))) in

@@ -28,7 +28,7 @@ pub record Demand1 : Type 0 where
   pub check : (f : List ℕ) (n : ℕ) → CheckPromise edition1 f n
       → FirstOf (wrongLength f ∷ notGood f ∷ []) (0 ∷ []) n
   pub lookUp : (f k : List ℕ) (g : Found) → LookUpPromise edition1 f k g
-      → FirstOf (wrongLength f ∷ notGood f ∷ keyLength k ∷ keyZero k ∷ []) (0 ∷ 8 ∷ []) (g .number) × (Refusal (g .number) → g ≡ notFound (g .number))
+      → FirstOf (wrongLength f ∷ notGood f ∷ keyLength k ∷ keyZero k ∷ []) (0 ∷ 8 ∷ []) (g .number) × (Refusal (g .number) → g ≡ notFound (g .number) 0)
   -- the second look-up call gives no number; it answers from the first one's
   pub value : (f k : List ℕ) (at : ℕ) (part : List ℕ) (h : ValuePromise edition1 f k at part) → let n = h .look .number in
       FirstOf (wrongLength f ∷ notGood f ∷ keyLength k ∷ keyZero k ∷ []) (0 ∷ 8 ∷ []) n × (Refusal n → (at ≡ 0) × (part ≡ []))

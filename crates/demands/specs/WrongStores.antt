@@ -23,7 +23,7 @@ AllSix = (f k v : List ℕ) → Good edition1 f → Legal edition1 k → LegalVa
 
 -- "one that always says 8 or holds nothing (look-up, demand 2)"
 abbrev pub AllEight : Type 0
-AllEight = (f k : List ℕ) → Good edition1 f → Legal edition1 k → LookUpPromise edition1 f k (notFound 8)
+AllEight = (f k : List ℕ) → Good edition1 f → Legal edition1 k → (visited : ℕ) × LookUpPromise edition1 f k (notFound 8 visited)
 
 abbrev pub HoldsNothing : Type 0
 HoldsNothing = (f k v : List ℕ) → Good edition1 f → Legal edition1 k → LegalValue v → (n : ℕ) × (f' : List ℕ) × PutPromise edition1 f k v n f' × Holds edition1 f' []
