@@ -15,14 +15,14 @@ use Rattle.layout.specs.Kind.{Leaf, Prefix, EmptyRoot}
 use Rattle.model.specs.Strings.{pick, same}
 use Rattle.model.specs.Edition.{Edition}
 use Rattle.model.specs.Tree.{extentOf}
-use Rattle.model.specs.State.{State}
+use Rattle.model.specs.State.{State, Write}
 use Rattle.model.specs.Item.{Item, body, extent, onSlot, sum}
 use Rattle.model.specs.Frame.{Lay, LayKids, Root, Begins, bare, tree, rootArt, items, itemsAll, rootItems, RootAt, Tree, Single, freed, Stands}
 use Rattle.model.specs.Frame.Lay.{leaf, prefix, node}
 use Rattle.model.specs.Frame.LayKids.{nil, kid}
 use Rattle.model.specs.Mark.{Mark, mark, marks, marksAll, rootMarks, like, count}
 use Rattle.model.specs.Touch.{Touch, among, Outside}
-use Rattle.model.specs.Promise.{changes, PutPromise, ErasePromise}
+use Rattle.model.specs.Promise.{changes, WritePromise, ErasePromise}
 use Rattle.model.specs.Freedom.{is, slotIs, In, Live, Halved, Cut, Uncut, Alike}
 use Rattle.model.proofs.StringLaws.{clash, bool-cases, eqb-cases, same-true, same-refl}
 use Rattle.model.proofs.ItemLaws.{in-yes, in-under, in-over, sum-app, slot-once}
@@ -350,7 +350,7 @@ slot-stays {r = r} {r' = r'} {goes = goes} R s h n =
 pub arts-same : {E : Edition} {f' f'' : List ℕ} {s : State} (w' : Stands E f' s) (w'' : Stands E f'' s) → rootArt (w' .root) ≡ rootArt (w'' .root)
 arts-same w' w'' = sym (ap (λ (z : State). z .tree) (w' .state)) ∙ ap (λ (z : State). z .tree) (w'' .state)
 
-module _ {E : Edition} {f k v : List ℕ} {n m : ℕ} {f' f'' : List ℕ} (P : PutPromise E f k v n f') (Q : PutPromise E f k v m f'') {s : State} (w : Stands E f s) where
+module _ {E : Edition} {a : Write} {f k v : List ℕ} {n m : ℕ} {f' f'' : List ℕ} (P : WritePromise E a f k v n f') (Q : WritePromise E a f k v m f'') {s : State} (w : Stands E f s) where
   pub put-number : n ≡ m
   put-number = P .answer s w ∙ sym (Q .answer s w)
 

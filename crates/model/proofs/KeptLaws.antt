@@ -13,14 +13,16 @@ use Rattle.layout.specs.Number.{byteAt}
 use Rattle.layout.specs.Place.{atB, atSpare, entryAt, dataStart}
 use Rattle.layout.specs.Kind.{bodySize}
 use Rattle.model.specs.Strings.{same, shared}
-use Rattle.model.specs.Edition.{Edition, valueFault}
-use Rattle.model.specs.Tree.{Art, Change, Left, up8, findTree}
-use Rattle.model.specs.State.{State, Done, room, unless, putChange, callPut, onPut, eraseChange, eraseDone, eraseFound, eraseIn, callErase, onErase}
+use Rattle.model.specs.Edition.{Edition}
+use Rattle.model.specs.Tree.{up8}
+use Rattle.model.specs.State.{State, Write, onWrite, onErase}
 use Rattle.model.specs.Item.{Item, body, extent, onSlot, cover, onEntry, sum}
 use Rattle.model.specs.Frame.{Lay, LayKids, Root, bare, tree, items, itemsAll, rootItems, freed, Stands}
 use Rattle.model.specs.Frame.Lay.{leaf, prefix, node}
 use Rattle.model.specs.Frame.LayKids.{nil, kid}
 use Rattle.model.specs.Touch.{Touch, Part, among, notIn, those, isBody, findLay, findLayKids, findAt, extentAt, Outside}
+use Rattle.model.specs.Call.{erase}
+use Rattle.model.proofs.Commute.{on-write-frame, call-frame}
 use Rattle.model.proofs.StringLaws.{clash, bool-cases, same-true}
 use Rattle.model.proofs.ItemLaws.{in-yes, in-over, sum-app, sum-add, slot-once}
 use Rattle.model.proofs.AlikeLaws.{slot-stays, result-of}
@@ -212,32 +214,11 @@ none-beside r s k o a h = omega (arith, body-weighs (cover a) s k o (rootItems r
 
 -- ---- no call changes N
 
-unless-cap : (n : ℕ) (s : State) (d : Done) → d .state .N ≡ s .N → unless n s d .state .N ≡ s .N
-unless-cap n s d h = bool-cases (eqb n 0) (λ t. rw t h) (λ t. rw t refl)
-
-module _ (E : Edition) (s : State) (k : List ℕ) where
-  put-cap : (v : List ℕ) → onPut E s k v .state .N ≡ s .N
-  put-cap v = unless-cap (E .keyFault k) s (unless (valueFault v) s (callPut E s k v)) (unless-cap (valueFault v) s (callPut E s k v) (bool-cases (room s (putChange E s k v)) (λ t. rw t refl) (λ t. rw t refl)))
-
-  done-cap : (c : Change Left) → eraseDone s c .state .N ≡ s .N
-  done-cap c = bool-cases (eqb (s .R) 1) (λ u. rw u refl) (λ u. bool-cases (room s c) (λ t. rw (u, t) refl) (λ t. rw (u, t) refl))
-
-  found-cap : (a : Art) (x : Option (List ℕ)) → eraseFound E s k a x .state .N ≡ s .N
-  found-cap a none = refl
-  found-cap a (some v) = done-cap (eraseChange E a k)
-
-  in-cap : (t : Option Art) → eraseIn E s k t .state .N ≡ s .N
-  in-cap none = refl
-  in-cap (some a) = found-cap a (findTree E a 0 k)
-
-  erase-cap : onErase E s k .state .N ≡ s .N
-  erase-cap = unless-cap (E .keyFault k) s (callErase E s k) (in-cap (s .tree))
-
 cap-of : {E : Edition} {f : List ℕ} {s : State} (w : Stands E f s) → s .N ≡ w .nums .N
 cap-of w = ap (λ (z : State). z .N) (w .state)
 
-pub put-same-cap : {E : Edition} {f f' : List ℕ} (k v : List ℕ) {s : State} (w : Stands E f s) (w' : Stands E f' (onPut E s k v .state)) → w' .nums .N ≡ w .nums .N
-put-same-cap {E} k v {s} w w' = sym (cap-of w') ∙ put-cap E s k v ∙ cap-of w
+pub put-same-cap : {E : Edition} (a : Write) {f f' : List ℕ} (k v : List ℕ) {s : State} (w : Stands E f s) (w' : Stands E f' (onWrite E a s k v .state)) → w' .nums .N ≡ w .nums .N
+put-same-cap {E} a k v {s} w w' = sym (cap-of w') ∙ on-write-frame E a s k v .1 ∙ cap-of w
 
 pub erase-same-cap : {E : Edition} {f f' : List ℕ} (k : List ℕ) {s : State} (w : Stands E f s) (w' : Stands E f' (onErase E s k .state)) → w' .nums .N ≡ w .nums .N
-erase-same-cap {E} k {s} w w' = sym (cap-of w') ∙ erase-cap E s k ∙ cap-of w
+erase-same-cap {E} k {s} w w' = sym (cap-of w') ∙ call-frame E s (erase k) .1 ∙ cap-of w

@@ -17,16 +17,17 @@ use Rattle.layout.specs.Kind.{Leaf, Prefix, EmptyRoot, bodySize, most, shrinkMa
 use Rattle.layout.specs.Entry.{placeOf, highOf, entryPlace, entryHigh}
 use Rattle.layout.proofs.NumberLaws.{le-same, le-zero}
 use Rattle.model.specs.Strings.{pick, same, shared}
-use Rattle.model.specs.Edition.{Edition, valueFault}
+use Rattle.model.specs.Edition.{Edition}
 use Rattle.model.specs.Tree as model
 use Rattle.model.specs.Tree.{Art, Kids, isInner, extentOf, Change, over, has, chain, prefixes, putTree, putKids, findTree, Left, gone, one, kept, LeftKids, fewer, still, lessOne, close, closeUnder, afterKids, consKid, fromChild, eraseTree, eraseKids}
-use Rattle.model.specs.State.{State, Done, tally, kinds, room, unless, after, putIn, putChange, callPut, onPut, eraseChange, treeLeft, eraseDone, eraseFound, eraseIn, onErase}
+use Rattle.model.specs.State.{State, Done, tally, kinds, room, unless, after, putIn, putChange, Write, onWrite, eraseChange, treeLeft, eraseDone, eraseFound, eraseIn, onErase}
 use Rattle.model.specs.Item.{Item, body, extent, onSlot, cover, onEntry, leafy, sum}
 use Rattle.model.specs.Frame.{Lay, LayKids, Root, bare, tree, IsNode, Below, atop, art, artKids, NodeOf, rootArt, items, itemsAll, rootItems, RootAt, Tree, Trees, Chain, listItems, freed, Stands}
 use Rattle.model.specs.Frame.Lay.{leaf, prefix, node}
 use Rattle.model.specs.Frame.LayKids.{nil, kid}
 use Rattle.model.specs.Touch.{Touch, among, ofKinds, isBody, size, hasByte, without, touchPut, touchPutKids, putTouch, Above, held, under, next, touchLone, touchLost, touchErase, touchEraseKids, touchChild, eraseTouch, Part, findLay, findLayKids, findAt, Outside}
-use Rattle.model.specs.Promise.{changes, PutPromise, eraseKinds, ErasePromise}
+use Rattle.model.specs.Promise.{changes, WritePromise, eraseKinds, ErasePromise}
+use Rattle.model.proofs.Commute.{write-cases}
 use Rattle.model.proofs.StringLaws.{clash, bool-cases, eqb-cases}
 use Rattle.model.proofs.WellLaws.{two}
 use Rattle.model.proofs.ItemLaws.{in-where, in-yes, in-over, sum-app, slot-once, entry-few}
@@ -247,14 +248,11 @@ module _ (k : ℕ) (kind : k ≤ 8) where
       kind-at (λ j. (getD (s .free) j 0 - tally (c .takes) j) + tally (c .frees) j) k kind
       ∙ (let x = tally-none k (c .takes) (not-gone k (c .takes) (c .frees) h) in let y = tally-none k (c .frees) (none-right k (c .takes) (c .frees) h) in omega arith)
 
-  unless-free : (n : ℕ) (s : State) (d : Done) → freeAt (d .state) k ≡ freeAt s k → freeAt (unless n s d .state) k ≡ freeAt s k
-  unless-free n s d h = bool-cases (eqb n 0) (λ t. rw t h) (λ t. rw t refl)
-
-  put-free : (E : Edition) (s : State) (x v : List ℕ) → (let c = putChange E s x v in among k (c .takes ++ c .frees) ≡ false) → freeAt (onPut E s x v .state) k ≡ freeAt s k
-  put-free E s x v h =
+  put-free : (E : Edition) (a : Write) (s : State) (x v : List ℕ) → (let c = putChange E s x v in among k (c .takes ++ c .frees) ≡ false) → freeAt (onWrite E a s x v .state) k ≡ freeAt s k
+  put-free E a s x v h =
       let c = putChange E s x v in
-      unless-free (E .keyFault x) s (unless (valueFault v) s (callPut E s x v)) (unless-free (valueFault v) s (callPut E s x v)
-      (bool-cases (room s c) (λ t. rw t (after-free s c (pick (c .fresh) (s .R + 1) (s .R)) (some (c .now)) h)) (λ t. rw t refl)))
+      write-cases E a s x v (λ d. freeAt (d .state) k ≡ freeAt s k)
+      (bool-cases (room s c) (λ t. rw t (after-free s c (pick (c .fresh) (s .R + 1) (s .R)) (some (c .now)) h)) (λ t. rw t refl)) (λ n. refl)
 
 list-long : {E : Edition} {f : List ℕ} {s : State} (w : Stands E f s) (k i : ℕ) → k ≡ 1 + i → freeAt s k ≡ length (getD (w .lists) i [])
 list-long w k i e =
@@ -353,16 +351,16 @@ module _ {E : Edition} {f : List ℕ} {st : State} (w : Stands E f st) (k : ℕ)
       let z : true ≡ false = sym (F .freed) ∙ rw e at off in clash (cc))
       (λ t. t)
 
-module _ {E : Edition} {f x v : List ℕ} {n : ℕ} {f' : List ℕ} (P : PutPromise E f x v n f') {s : State} (w : Stands E f s) (done : changes n ≡ true) (k : ℕ) (low : 1 ≤ k) (high : k ≤ 8)
+module _ {E : Edition} {a : Write} {f x v : List ℕ} {n : ℕ} {f' : List ℕ} (P : WritePromise E a f x v n f') {s : State} (w : Stands E f s) (done : changes n ≡ true) (k : ℕ) (low : 1 ≤ k) (high : k ≤ 8)
     (off : let c = putChange E s x v in among k (c .takes ++ c .frees) ≡ false) where
-  abbrev after-put : Stands E f' (onPut E s x v .state)
+  abbrev after-put : Stands E f' (onWrite E a s x v .state)
   after-put = P .after s w .0
 
   pub put-list : getD (after-put .lists) (k - 1) [] ≡ getD (w .lists) (k - 1) []
   put-list =
       let c = putChange E s x v in
       let w' = after-put in
-      let cap = put-same-cap x v w w' in
+      let cap = put-same-cap a x v w w' in
       let is : k ≡ 1 + (k - 1) = omega arith in
       let B = root-body (w' .root) in
       let t : s .tree ≡ rootArt (w .root) = ap (λ (z : State). z .tree) (w .state) in
@@ -371,7 +369,7 @@ module _ {E : Edition} {f x v : List ℕ} {n : ℕ} {f' : List ℕ} (P : PutProm
       (λ a l. omega (arith, extent-beside E x (w' .root) (B .0) (B .1) (B .2) a (B .3), w' .heap .sound .low a (omega (arith, cap)), sum-app (cover a) (rootItems (w' .root)) (freed 1 (w' .lists))))
       k (k - 1) is (omega arith) off (body-some k (k - 1) is (omega arith))
       (spared w k (putIn E (rootArt (w .root)) x v .frees) (putTouch E (w .root) x v .goes) freesOff (λ u. root-frees E x v f u (w .root) (w .rootAt)))
-      (sym (list-long w' k (k - 1) is) ∙ put-free k high E s x v off ∙ list-long w k (k - 1) is)
+      (sym (list-long w' k (k - 1) is) ∙ put-free k high E a s x v off ∙ list-long w k (k - 1) is)
 
 -- ---- the bodies that an erase frees are of kinds that it frees
 
@@ -654,7 +652,7 @@ module _ {E : Edition} {f x : List ℕ} {n : ℕ} {f' : List ℕ} (P : EraseProm
 
 -- ---- two results have the list in common
 
-module _ {E : Edition} {f x v : List ℕ} {n m : ℕ} {f' f'' : List ℕ} (P : PutPromise E f x v n f') (Q : PutPromise E f x v m f'') {s : State} (w : Stands E f s) (done : changes n ≡ true) (k : ℕ) (low : 1 ≤ k) (high : k ≤ 8)
+module _ {E : Edition} {a : Write} {f x v : List ℕ} {n m : ℕ} {f' f'' : List ℕ} (P : WritePromise E a f x v n f') (Q : WritePromise E a f x v m f'') {s : State} (w : Stands E f s) (done : changes n ≡ true) (k : ℕ) (low : 1 ≤ k) (high : k ≤ 8)
     (off : let c = putChange E s x v in among k (c .takes ++ c .frees) ≡ false) where
   pub put-lists : getD (P .after s w .0 .lists) (k - 1) [] ≡ getD (Q .after s w .0 .lists) (k - 1) []
   put-lists = put-list P w done k low high off ∙ sym (put-list Q w (rw (← put-number P Q w) done) k low high off)

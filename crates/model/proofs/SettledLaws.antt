@@ -16,7 +16,7 @@ use Rattle.layout.specs.Entry.{highOf}
 use Rattle.layout.proofs.NumberLaws.{le-inj}
 use Rattle.model.specs.Strings.{pick, same, shared}
 use Rattle.model.specs.Edition.{Edition}
-use Rattle.model.specs.State.{State, onPut, onErase}
+use Rattle.model.specs.State.{State, Write, onWrite, onErase}
 use Rattle.model.specs.Tree.{up8, extentOf}
 use Rattle.model.specs.Item.{Item, body, extent, inside, onSlot, cover, onEntry, sum}
 use Rattle.model.specs.Body.{Zero}
@@ -24,7 +24,7 @@ use Rattle.model.specs.Frame.{Lay, LayKids, slotOf, Root, bare, tree, it
 use Rattle.model.specs.Frame.Lay.{leaf, prefix, node}
 use Rattle.model.specs.Frame.LayKids.{nil, kid}
 use Rattle.model.specs.Touch.{Touch, Part, among, notIn, those, ofKinds, isBody, touched, putTouch, eraseTouch, findLay, findLayKids, findAt, extentAt, Outside}
-use Rattle.model.specs.Promise.{changes, PutPromise, ErasePromise}
+use Rattle.model.specs.Promise.{changes, WritePromise, ErasePromise}
 use Rattle.model.specs.Freedom.{padding}
 use Rattle.model.proofs.StringLaws.{clash, bool-cases, eqb-cases, same-true}
 use Rattle.model.proofs.ItemLaws.{in-where, in-yes, sum-app, slot-once}
@@ -435,11 +435,11 @@ text-or E f g F G a k r T U (some c) e p h =
 
 -- ---- put and erase
 
-module _ {E : Edition} {f k v : List ℕ} {n m : ℕ} {f' f'' : List ℕ} (P : PutPromise E f k v n f') (Q : PutPromise E f k v m f'') {s : State} (w : Stands E f s) (done : changes n ≡ true) where
-  abbrev one : Stands E f' (onPut E s k v .state)
+module _ {E : Edition} {a : Write} {f k v : List ℕ} {n m : ℕ} {f' f'' : List ℕ} (P : WritePromise E a f k v n f') (Q : WritePromise E a f k v m f'') {s : State} (w : Stands E f s) (done : changes n ≡ true) where
+  abbrev one : Stands E f' (onWrite E a s k v .state)
   one = P .after s w .0
 
-  abbrev other : Stands E f'' (onPut E s k v .state)
+  abbrev other : Stands E f'' (onWrite E a s k v .state)
   other = Q .after s w .0
 
   -- with the same slots, places and lists the two frames agree on every byte but the bodies that the put frees and the padding of the key's extent

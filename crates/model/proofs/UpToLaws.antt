@@ -11,14 +11,14 @@ use Rattle.layout.specs.Number.{byteAt, Bytes}
 use Rattle.layout.specs.Kind.{bodySize}
 use Rattle.model.specs.Edition.{Edition}
 use Rattle.model.specs.Tree.{Art}
-use Rattle.model.specs.State.{State, putChange, onPut, onErase}
+use Rattle.model.specs.State.{State, Write, putChange, onWrite, onErase}
 use Rattle.model.specs.Item.{Item, body, extent, onSlot, cover, sum}
 use Rattle.model.specs.Body.{LeafAt, PrefixAt}
 use Rattle.model.specs.Frame.{Lay, LayKids, slotOf, art, artKids, Root, bare, tree, rootArt, rootItems, RootAt, Tree, Trees, Single, NodeOf, freed, Stands}
 use Rattle.model.specs.Frame.Lay.{leaf, prefix, node}
 use Rattle.model.specs.Frame.LayKids.{nil, kid}
 use Rattle.model.specs.Touch.{Touch, among, isBody, putTouch, eraseTouch, findAt, extentAt, Outside}
-use Rattle.model.specs.Promise.{changes, eraseKinds, PutPromise, ErasePromise}
+use Rattle.model.specs.Promise.{changes, eraseKinds, WritePromise, ErasePromise}
 use Rattle.model.specs.Freedom.{Cut, Uncut, Alike, LeafTwins, PrefixTwins, NodeTwins, Twins, TwinsAll, RootTwins, UpTo}
 use Rattle.model.proofs.StringLaws.{clash}
 use Rattle.model.proofs.ItemLaws.{in-where, sum-app, slot-once}
@@ -161,11 +161,11 @@ module _ {E : Edition} (chains : Single E) {f f' f'' : List ℕ} {s s' : State} 
 swapped : {r r' r'' : Root} → Alike (Cut r r'' r') r r'' r' → Alike (Cut r r' r'') r r'' r'
 swapped A = record { shape = A .shape; same = λ x y hx hy k a b l. ⊎-elim (λ e. inl e) (λ c. inr (⊎-elim (λ h. inr h) (λ h. inl h) c)) (A .same x y hx hy k a b l) }
 
-module _ {E : Edition} {f k v : List ℕ} {n m : ℕ} {f' f'' : List ℕ} (P : PutPromise E f k v n f') (Q : PutPromise E f k v m f'') {s : State} (w : Stands E f s) (done : changes n ≡ true) where
-  abbrev one : Stands E f' (onPut E s k v .state)
+module _ {E : Edition} {a : Write} {f k v : List ℕ} {n m : ℕ} {f' f'' : List ℕ} (P : WritePromise E a f k v n f') (Q : WritePromise E a f k v m f'') {s : State} (w : Stands E f s) (done : changes n ≡ true) where
+  abbrev one : Stands E f' (onWrite E a s k v .state)
   one = P .after s w .0
 
-  abbrev other : Stands E f'' (onPut E s k v .state)
+  abbrev other : Stands E f'' (onWrite E a s k v .state)
   other = Q .after s w .0
 
   pub put-up-to : Single E → UpTo (Cut (w .root) (one .root) (other .root)) (w .root) (putChange E s k v .takes ++ putChange E s k v .frees) (putTouch E (w .root) k v) f' f'' (one .root) (other .root) (one .lists) (other .lists)
@@ -176,7 +176,7 @@ module _ {E : Edition} {f k v : List ℕ} {n m : ℕ} {f' f'' : List ℕ} (P : P
       let R = result-of (w .root) one O in
       let S = result-of (w .root) other O' in
       let e = arts-same one other in
-      up-to chains w one other O O' (Cut (w .root) (one .root) (other .root)) (alike chains R S e) (swapped (alike chains S R (sym e))) (put-same-cap k v w one) (extent-beside E k (one .root)) (extent-beside E k (other .root))
+      up-to chains w one other O O' (Cut (w .root) (one .root) (other .root)) (alike chains R S e) (swapped (alike chains S R (sym e))) (put-same-cap a k v w one) (extent-beside E k (one .root)) (extent-beside E k (other .root))
 
 module _ {E : Edition} {f k : List ℕ} {n m : ℕ} {f' f'' : List ℕ} (P : ErasePromise E f k n f') (Q : ErasePromise E f k m f'') {s : State} (w : Stands E f s) (done : n ≡ 0) (more : 2 ≤ s .R) where
   abbrev eone : Stands E f' (onErase E s k .state)
