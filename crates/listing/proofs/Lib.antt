@@ -1,0 +1,5 @@
+pub mod ListingLaws
+pub mod WorkedLaws
+pub mod SeekLaws
+pub mod BoundLaws
+pub mod PagesLaws

@@ -1,0 +1,5 @@
+pub mod Listing
+pub mod Pages
+pub mod Worked
+pub mod Seek
+pub mod Bound
