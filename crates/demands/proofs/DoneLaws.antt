@@ -1,4 +1,4 @@
--- What promised calls that are not refused do: put and erase leave the set edited and answer from it, pack writes its image; and the part that
+-- What promised calls that are not refused do: put, replacement and erase leave the set edited and answer from it, pack writes its image; and the part that
 -- a look-up gives lies within the frame. Assumes nothing.
 use Prim.Native.Nat.{ℕ, _+_, _≤_}
 use native.Mathlib.Omega.{arith}
@@ -9,34 +9,40 @@ use mathlib.Core.Option.{some}
 use mathlib.Core.Logic.{_≢_}
 use lib.ListN.{length, getD, drop}
 use lib.Dec.{eqb}
-use Rattle.model.specs.Strings.{same, shared}
-use Rattle.model.specs.Edition.{Edition, Lawful, valueFault}
-use Rattle.model.specs.Records.{Record, recordsOf}
-use Rattle.model.specs.State.{State, Done, unless, callPut, callErase}
+use borrow.Author.Tests.{ne-eqb}
+use Rattle.model.specs.Strings.{All, Byte, same, shared}
+use Rattle.model.specs.Edition.{Edition, Lawful, Legal, LegalValue, valueFault}
+use Rattle.model.specs.Records.{Record, recordsOf, lookup}
+use Rattle.model.specs.State.{State, Done, unless, Write, new, replacing, callWrite, onWrite, callErase}
 use Rattle.model.specs.Image.{image}
 use Rattle.model.specs.Frame.{Lay, LayKids, Root, bare, tree, Tree, Trees, RootAt, Stands, Good}
 use Rattle.model.specs.Frame.Lay.{leaf, prefix, node}
 use Rattle.model.specs.Frame.LayKids.{nil, kid}
 use Rattle.model.specs.Touch.{Part, findLay, findLayKids, findAt}
 use Rattle.model.specs.Promise.{Told, PackPromise}
-use Rattle.model.specs.Call.{Call, put, erase, keyOf, LegalCall, onCall, edited, given, Called}
+use Rattle.model.specs.Call.{Call, put, replace, erase, keyOf, LegalCall, onCall, edited, given, Called}
 use Rattle.model.proofs.StringLaws.{bool-cases, eqb-cases, ltb-cases, clash, same-refl, same-true}
 use Rattle.model.proofs.Commute.{CallDone, call-done, edited-lookup}
 use Rattle.model.proofs.StateLaws.{packedState, pack-good}
 use Rattle.model.proofs.StandsGood.{stands-good, stands-heads}
 use Rattle.model.proofs.PackStands.{pack-stands}
 use Rattle.model.proofs.WorkedLaws.{called-stands}
-use Rattle.demands.specs.Words.{NotRefused, Holds, slotsOf, OnlyAt, OfBytes}
+use Rattle.demands.specs.Words.{Refusal, NotRefused, Holds, slotsOf, OnlyAt, OfBytes}
 use Rattle.demands.proofs.RoomLaws.{faulty, faultless}
+
+-- what document 01 gives as a refusal of a key
+low-refusal : (n : ℕ) → n ≢ 0 → n ≤ 7 → Refusal n
+low-refusal n h l = rw (ne-eqb n 0 h, ne-eqb n 8 (λ e. omega arith), ne-eqb n 9 (λ e. omega arith), ne-eqb n 11 (λ e. omega arith))
 
 -- ---- which frame, which key
 
 told-of : (E : Edition) (f : List ℕ) (c : Call) (n : ℕ) (f' : List ℕ) → Called E f c n f' → Told E f n
 told-of E f (put k v) n f' h = h .told
+told-of E f (replace k v) n f' h = h .told
 told-of E f (erase k) n f' h = h .told
 
 pub good-frame : (E : Edition) (f : List ℕ) (n : ℕ) → Told E f n → NotRefused n → Good E f
-good-frame E f n t r = t .good (λ e. r (omega arith, omega arith)) (λ e. r (omega arith, omega arith))
+good-frame E f n t r = t .good (λ e. r (rw e)) (λ e. r (rw e))
 
 pub good-called : (E : Edition) (f : List ℕ) (c : Call) (n : ℕ) (f' : List ℕ) → Called E f c n f' → NotRefused n → Good E f
 good-called E f c n f' h r = good-frame E f n (told-of E f c n f' h) r
@@ -44,7 +50,7 @@ good-called E f c n f' h r = good-frame E f n (told-of E f c n f' h) r
 pub differ : (k l : List ℕ) → k ≢ l → same k l ≡ false
 differ k l h = bool-cases (same k l) (λ t. absurd (h (same-true k l t))) (λ t. t)
 
-pub only-at : (c : Call) (rs : List Record) → OnlyAt (keyOf c) (given c) rs (edited c rs)
+pub only-at : (c : Call) (rs : List Record) → OnlyAt (keyOf c) (given c (lookup (keyOf c) rs)) rs (edited c rs)
 only-at c rs = record {
   own = edited-lookup c (keyOf c) rs ∙ rw (same-refl (keyOf c));
   others = λ l h. edited-lookup c l rs ∙ rw (differ l (keyOf c) h);
@@ -94,31 +100,35 @@ pub packed-of : (E : Edition) (f o : List ℕ) (n : ℕ) (o' : List ℕ) (s : St
     → (n ≡ 0) × (o' ≡ image E (s .F) (s .N) (recordsOf (s .tree)))
 packed-of E f o n o' s p w r = eqb-cases (length o) (length f)
     (λ t q. p .packed0 s w q)
-    (λ t q. let z : n ≡ 7 = p .output7 (s, w) q in absurd (r (omega arith, omega arith)))
+    (λ t q. absurd (r (rw (p .output7 (s, w) q))))
 
 module _ {E : Edition} (L : Lawful E) (faults : (k : List ℕ) → E .keyFault k ≤ 7) where
   legal-key : (k : List ℕ) (n : ℕ) (s : State) (d : Done) → n ≡ unless (E .keyFault k) s d .answer → NotRefused n → E .keyFault k ≡ 0
   legal-key k n s d e r = eqb-cases (E .keyFault k) 0
       (λ t q. q)
-      (λ t q. let z : n ≡ E .keyFault k = e ∙ ap (λ (x : Done). x .answer) (faulty (E .keyFault k) s d q) in let h = faults k in absurd (r (omega arith, omega arith)))
+      (λ t q. let z : n ≡ E .keyFault k = e ∙ ap (λ (x : Done). x .answer) (faulty (E .keyFault k) s d q) in absurd (r (rw z (low-refusal (E .keyFault k) q (faults k)))))
 
   legal-value : (v : List ℕ) (n : ℕ) (s : State) (d : Done) → n ≡ unless (valueFault v) s d .answer → NotRefused n → length v ≤ 65535
   legal-value v n s d e r = ltb-cases 65535 (length v)
-      (λ t o. let z : n ≡ 5 = e ∙ rw t in absurd (r (omega arith, omega arith)))
+      (λ t o. let z : n ≡ 5 = e ∙ rw t in absurd (r (rw z)))
       (λ t o. o)
 
-  legal-of : (c : Call) (n : ℕ) (s : State) → OfBytes c → n ≡ onCall E s c .answer → NotRefused n → LegalCall E c
-  legal-of (put k v) n s b e r =
-      let d = unless (valueFault v) s (callPut E s k v) in
+  legal-write : (a : Write) (k v : List ℕ) (n : ℕ) (s : State) → All Byte k → All Byte v → n ≡ onWrite E a s k v .answer → NotRefused n → Legal E k × LegalValue v
+  legal-write a k v n s bk bv e r =
+      let call = callWrite E a s k v in let d = unless (valueFault v) s call in
       let q = legal-key k n s d e r in
-      (record { passes = q; bytes = b .0 }, record { passes = legal-value v n s (callPut E s k v) (e ∙ ap (λ (x : Done). x .answer) (faultless (E .keyFault k) s d q)) r; bytes = b .1 })
+      (record { passes = q; bytes = bk }, record { passes = legal-value v n s call (e ∙ ap (λ (x : Done). x .answer) (faultless (E .keyFault k) s d q)) r; bytes = bv })
+
+  legal-of : (c : Call) (n : ℕ) (s : State) → OfBytes c → n ≡ onCall E s c .answer → NotRefused n → LegalCall E c
+  legal-of (put k v) n s b e r = legal-write new k v n s (b .0) (b .1) e r
+  legal-of (replace k v) n s b e r = legal-write replacing k v n s (b .0) (b .1) e r
   legal-of (erase k) n s b e r = record { passes = legal-key k n s (callErase E s k) e r; bytes = b }
 
   pub did : (f : List ℕ) (c : Call) (n : ℕ) (f' : List ℕ) (s : State) → OfBytes c → Called E f c n f' → Stands E f s → NotRefused n → Did E s c n f'
   did f c n f' s b h w r =
       let p = called-stands E f c n f' s w h in
       let l = legal-of c n s b (p .0) r in
-      let six : onCall E s c .answer ≢ 6 = λ e. (let z : n ≡ 6 = p .0 ∙ e in r (omega arith, omega arith)) in
+      let six : onCall E s c .answer ≢ 6 = λ e. (let z : n ≡ 6 = p .0 ∙ e in r (rw z)) in
       record { stands = p .1; legal = l; enough = six; work = call-done L s c (stands-good E f s w) l six; answer = p .0 }
 
   -- ---- packed, in the words of the frame

@@ -1,5 +1,5 @@
 -- Demand 1: refusals by document 01's numbers and in its order, and a refused call changes nothing. Assumes nothing.
-use Prim.Native.Nat.{ℕ}
+use Prim.Native.Nat.{ℕ, _≤_}
 use native.Mathlib.Omega.{arith}
 use mathlib.Core.Path.{_≡_, refl, ap, _∙_}
 use mathlib.Core.List.{List, [], _∷_}
@@ -8,26 +8,30 @@ use mathlib.Core.Option.{Option, none, some}
 use mathlib.Core.Logic.{inl, inr, _≢_}
 use lib.ListN.{length}
 use borrow.Author.Tests.{ne-eqb}
-use Rattle.model.specs.Edition.{Edition, edition1, Legal, valueFault}
-use Rattle.model.specs.State.{State, Done, unless, room, putChange, callPut, callErase}
+use Rattle.model.specs.Strings.{All, Byte}
+use Rattle.model.specs.Edition.{Edition, edition1, Legal, LegalValue, valueFault}
+use Rattle.model.specs.State.{State, Done, unless, Write, new, replacing, callWrite, onWrite, callErase}
 use Rattle.model.specs.Visits.{visitsIn}
 use Rattle.model.specs.Frame.{Stands, Good, Root, rootArt}
 use Rattle.model.specs.Touch.{Part, findAt}
 use Rattle.model.specs.Promise.{Found, foundOf, onLookUp, LookUpPromise, changes}
-use Rattle.model.proofs.StringLaws.{bool-cases, eqb-cases, ltb-cases}
+use Rattle.model.proofs.StringLaws.{eqb-cases, ltb-cases, clash}
 use Rattle.model.proofs.StandsGood.{stands-good}
 use Rattle.model.proofs.Edition1.{lawful1}
-use Rattle.demands.specs.Words.{Refusal, OneOf, PutFull, EraseFull, keyLength, keyZero, valueLong, outputLength, putFull, eraseFull}
+use Rattle.demands.specs.Words.{Refusal, Ground, OneOf, PutFull, ReplaceFull, EraseFull, keyLength, keyZero, valueLong, outputLength, putFull, replaceFull, eraseFull}
 use Rattle.demands.specs.Demands.{Demand1}
 use Rattle.demands.proofs.FirstLaws.{Given, frame-first, key-given}
-use Rattle.demands.proofs.RoomLaws.{room-full, room-not, of-state, faulty, faultless, Erased, missing, full, erased, erase-cases}
+use Rattle.demands.proofs.RoomLaws.{of-state, faulty, faultless, Ends, idle, full, made, new-ends, replace-ends, erase-ends}
 
 -- a refusal is none of the numbers after which something may differ
 pub unchanging : (n : ℕ) → Refusal n → changes n ≡ false
-unchanging n r = rw (ne-eqb n 0 (λ e. omega arith), ne-eqb n 9 (λ e. omega arith))
+unchanging n r = eqb-cases n 0 (λ t e. clash (let z = rw e at r in cc)) (λ t e. eqb-cases n 9 (λ u q. clash (let z = rw q at r in cc)) (λ u q. rw (t, u)))
 
 refused-not0 : (n : ℕ) → Refusal n → n ≢ 0
-refused-not0 n r e = omega arith
+refused-not0 n r e = clash (let z = rw e at r in cc)
+
+refused-not8 : (n : ℕ) → Refusal n → n ≢ 8
+refused-not8 n r e = clash (let z = rw e at r in cc)
 
 -- ---- the answers in a good frame
 
@@ -46,27 +50,28 @@ look-given f k g p h =
     let e = p .found (h .0) (h .1) in let r = h .1 .root in
     rw e (key-given k (onLookUp edition1 r k .number) [] (0 ∷ 8 ∷ []) (look-fault edition1 r k) (look-answer edition1 r k))
 
-put-given : (f k v : List ℕ) (n : ℕ) (s : State) → Stands edition1 f s → n ≡ unless (valueFault v) s (callPut edition1 s k v) .answer
-    → Given (valueLong v ∷ putFull f k v ∷ []) (0 ∷ 9 ∷ []) n
-put-given f k v n s w e = let c = putChange edition1 s k v in ltb-cases 65535 (length v)
-    (λ t o. inl (o, e ∙ rw t))
-    (λ t o. inr (
-      λ x. omega arith,
-      bool-cases (room s c)
-          (λ r. inr (λ x. room-not s c r (of-state edition1 f s (λ z. PutFull edition1 z k v) w x), bool-cases (c .fresh) (λ u. inl (e ∙ rw (t, r, u))) (λ u. inr (inl (e ∙ rw (t, r, u))))))
-          (λ r. inl ((s, w, room-full s c r), e ∙ rw (t, r))),
-    ))
+-- a value too long, and else what is given on the other grounds
+value-given : (v : List ℕ) (n : ℕ) (s : State) (d : Done) (gs : List Ground) (answers : List ℕ) → n ≡ unless (valueFault v) s d .answer → (length v ≤ 65535 → n ≡ d .answer → Given gs answers n) → Given (valueLong v ∷ gs) answers n
+value-given v n s d gs answers e h = ltb-cases 65535 (length v) (λ t o. inl (o, e ∙ rw t)) (λ t o. inr (λ x. omega arith, h o (e ∙ rw t)))
 
-erase-given : (f k : List ℕ) (n : ℕ) (s : State) → Stands edition1 f s → Legal edition1 k → n ≡ callErase edition1 s k .answer → Given (eraseFull f k ∷ []) (0 ∷ 8 ∷ []) n
-erase-given f k n s w l e = go (erase-cases lawful1 s k (stands-good edition1 f s w) l)
-  where
-    fits : (EraseFull edition1 s k → ⊥) → eraseFull f k .applies → ⊥
-    fits h x = h (of-state edition1 f s (λ z. EraseFull edition1 z k) w x)
+-- no room as P says of the frame's state, and else the call's own answers
+ends-given : {I : Type 0} {i d n m : ℕ} (f : List ℕ) (s : State) (P : State → Type 0) (answers : List ℕ) → Stands edition1 f s → OneOf i answers → OneOf d answers → n ≡ m → Ends I (P s) i d m
+    → Given (record { number = 6; applies = (z : State) × Stands edition1 f z × P z } ∷ []) answers n
+ends-given f s P answers w x y is (idle a b e) = inr (λ z. b (of-state edition1 f s P w z), rw (is ∙ e) x)
+ends-given f s P answers w x y is (full a e) = inl ((s, w, a), is ∙ e)
+ends-given f s P answers w x y is (made a b e) = inr (λ z. b (of-state edition1 f s P w z), rw (is ∙ e) y)
 
-    go : Erased lawful1 s k (callErase edition1 s k .answer) → Given (eraseFull f k ∷ []) (0 ∷ 8 ∷ []) n
-    go (missing a b) = inr (fits (λ x. x .0 a), inr (inl (e ∙ b)))
-    go (full a b) = inl ((s, w, a), e ∙ b)
-    go (erased a b c) = inr (fits b, inl (e ∙ c))
+-- what a write gives in a good frame: 3, 4, 5, and then as it ends there
+write-given : {I : Type 0} {i d : ℕ} (a : Write) (f k v : List ℕ) (n : ℕ) (s : State) (P : State → Type 0) (answers : List ℕ) → All Byte k → All Byte v → Stands edition1 f s → OneOf i answers → OneOf d answers
+    → n ≡ onWrite edition1 a s k v .answer → (Legal edition1 k → LegalValue v → Ends I (P s) i d (callWrite edition1 a s k v .answer))
+    → Given (keyLength k ∷ keyZero k ∷ valueLong v ∷ record { number = 6; applies = (z : State) × Stands edition1 f z × P z } ∷ []) answers n
+write-given a f k v n s P answers bk bv w x y e ends =
+    let call = callWrite edition1 a s k v in let unlong = unless (valueFault v) s call in
+    let no : Ground = record { number = 6; applies = (z : State) × Stands edition1 f z × P z } in
+    key-given k n (valueLong v ∷ no ∷ []) answers
+    (λ q. e ∙ ap (λ (z : Done). z .answer) (faulty (edition1 .keyFault k) s unlong q))
+    (λ q. value-given v n s call (no ∷ []) answers (e ∙ ap (λ (z : Done). z .answer) (faultless (edition1 .keyFault k) s unlong q))
+    (λ short is. ends-given f s P answers w x y is (ends (record { passes = q; bytes = bk }) (record { passes = short; bytes = bv }))))
 
 -- ---- the calls
 
@@ -74,24 +79,28 @@ pub demand1 : Demand1
 demand1 = record {
   format = λ f len cap n f' p. (
     ((λ e ok. (let z = p .done0 ok .0 in omega arith), λ x. p .limits1 x .0), λ ok. eqb-cases n 0 (λ t q. inl q) (λ t q. absurd (ok (λ x. q (p .done0 x .0))))),
-    λ r. eqb-cases n 0 (λ t q. absurd (omega arith)) (λ t q. p .limits1 (λ x. q (p .done0 x .0)) .1),
+    λ r. eqb-cases n 0 (λ t q. absurd (refused-not0 n r q)) (λ t q. p .limits1 (λ x. q (p .done0 x .0)) .1),
   );
   check = λ f n p. frame-first f [] (0 ∷ []) n refl (p .told) (λ g. inl (p .good0 g));
   lookUp = λ f k g p. (
     frame-first f (keyLength k ∷ keyZero k ∷ []) (0 ∷ 8 ∷ []) (g .number) refl (p .told) (look-given f k g p),
-    λ r. let z = p .zeros (refused-not0 (g .number) r) in let u = p .unvisited (refused-not0 (g .number) r) (λ e. omega arith) in
+    λ r. let z = p .zeros (refused-not0 (g .number) r) in let u = p .unvisited (refused-not0 (g .number) r) (refused-not8 (g .number) r) in
         λ i. record { number = g .number; place = z .0 i; long = z .1 i; slots = u i },
   );
   value = λ f k at part h. let p = h .looked in let g = h .look in (
     frame-first f (keyLength k ∷ keyZero k ∷ []) (0 ∷ 8 ∷ []) (g .number) refl (p .told) (look-given f k g p),
     λ r. let z = p .zeros (refused-not0 (g .number) r) in (h .starts ∙ z .0, h .holds ∙ rw (z .1)),
   );
-  put = λ f k v n f' p. (
-    frame-first f (keyLength k ∷ keyZero k ∷ valueLong v ∷ putFull f k v ∷ []) (0 ∷ 9 ∷ []) n refl (p .told)
-        (λ g. let s = g .0 in let e = p .answer s (g .1) in let d = unless (valueFault v) s (callPut edition1 s k v) in
-        key-given k n (valueLong v ∷ putFull f k v ∷ []) (0 ∷ 9 ∷ [])
-        (λ x. e ∙ ap (λ (z : Done). z .answer) (faulty (edition1 .keyFault k) s d x))
-        (λ x. put-given f k v n s (g .1) (e ∙ ap (λ (z : Done). z .answer) (faultless (edition1 .keyFault k) s d x)))),
+  put = λ f k v n f' bk bv p. (
+    frame-first f (keyLength k ∷ keyZero k ∷ valueLong v ∷ putFull f k v ∷ []) (0 ∷ 11 ∷ []) n refl (p .told)
+        (λ g. write-given new f k v n (g .0) (λ z. PutFull edition1 z k v) (0 ∷ 11 ∷ []) bk bv (g .1) (inr (inl refl)) (inl refl) (p .answer (g .0) (g .1))
+        (new-ends lawful1 (g .0) k v (stands-good edition1 f (g .0) (g .1)))),
+    λ r. p .kept (unchanging n r),
+  );
+  replace = λ f k v n f' bk bv p. (
+    frame-first f (keyLength k ∷ keyZero k ∷ valueLong v ∷ replaceFull f k v ∷ []) (9 ∷ 8 ∷ []) n refl (p .told)
+        (λ g. write-given replacing f k v n (g .0) (λ z. ReplaceFull edition1 z k v) (9 ∷ 8 ∷ []) bk bv (g .1) (inr (inl refl)) (inl refl) (p .answer (g .0) (g .1))
+        (replace-ends lawful1 (g .0) k v (stands-good edition1 f (g .0) (g .1)))),
     λ r. p .kept (unchanging n r),
   );
   erase = λ f k n f' b p. (
@@ -99,7 +108,8 @@ demand1 = record {
         (λ g. let s = g .0 in let e = p .answer s (g .1) in let d = callErase edition1 s k in
         key-given k n (eraseFull f k ∷ []) (0 ∷ 8 ∷ [])
         (λ x. e ∙ ap (λ (z : Done). z .answer) (faulty (edition1 .keyFault k) s d x))
-        (λ x. erase-given f k n s (g .1) (record { passes = x; bytes = b }) (e ∙ ap (λ (z : Done). z .answer) (faultless (edition1 .keyFault k) s d x)))),
+        (λ x. ends-given f s (λ z. EraseFull edition1 z k) (0 ∷ 8 ∷ []) (g .1) (inr (inl refl)) (inl refl)
+        (e ∙ ap (λ (z : Done). z .answer) (faultless (edition1 .keyFault k) s d x)) (erase-ends lawful1 s k (stands-good edition1 f s (g .1)) (record { passes = x; bytes = b })))),
     λ r. p .kept (unchanging n r),
   );
   pack = λ f o n o' p. (

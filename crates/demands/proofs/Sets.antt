@@ -1,27 +1,28 @@
--- Demand 2: the check, the set of records, look-up, put, erase, pack and no room. Assumes nothing.
+-- Demand 2: the check, the set of records, look-up, put, replacement, erase, pack and no room. Assumes nothing.
 use Prim.Native.Nat.{ℕ, _+_, _%_, _≤_}
 use native.Mathlib.Omega.{arith}
 use mathlib.Core.Path.{_≡_, refl, sym, ap, subst, _∙_}
-use mathlib.Core.List.{List, [], _∷_}
+use mathlib.Core.List.{List, [], _∷_, _++_}
+use mathlib.Core.Bool.{true}
 use mathlib.Core.Option.{Option, none, some}
 use mathlib.Core.Logic.{_↔_, inl, inr, _≢_}
 use lib.ListN.{length, take, drop, length-drop}
 use lib.Seq.{length-take-le}
-use lib.Dec.{eqb}
+use lib.Dec.{ltb, eqb}
 use borrow.Author.Tests.{le-ltb}
 use Rattle.layout.specs.Place.{dataStart}
-use Rattle.model.specs.Strings.{pick}
-use Rattle.model.specs.Edition.{Edition, Lawful, Legal, LegalValue}
+use Rattle.model.specs.Strings.{All, Byte, pick}
+use Rattle.model.specs.Edition.{Edition, Lawful, Legal, LegalValue, valueFault}
 use Rattle.model.specs.Tree.{Art}
 use Rattle.model.specs.Records.{Record, recordsOf, lookup, absent, Ascending}
-use Rattle.model.specs.State.{State, formatted, room, putChange, callPut, callErase}
+use Rattle.model.specs.State.{State, Done, unless, formatted, findIn, putChange, callPut, Write, new, replacing, either, callWrite, onWrite, callErase}
 use Rattle.model.specs.Image.{treeOf}
 use Rattle.model.specs.Visits.{visitsIn}
 use Rattle.model.specs.Frame.{Root, Stands, RootAt, rootArt}
-use Rattle.model.specs.Touch.{Part, findAt}
-use Rattle.model.specs.Promise.{FormatOk, FormatPromise, Found, foundOf, onLookUp, LookUpPromise, ValuePromise, PutPromise, ErasePromise, PackPromise}
-use Rattle.model.specs.Call.{Call, put, erase, keyOf, edited, given, Called}
-use Rattle.model.proofs.StringLaws.{bool-cases, eqb-cases, leb-cases, clash}
+use Rattle.model.specs.Touch.{Part, Outside, putTouch, findAt, extentAt}
+use Rattle.model.specs.Promise.{FormatOk, FormatPromise, Found, foundOf, onLookUp, LookUpPromise, ValuePromise, changes, WritePromise, PutPromise, ReplacePromise, PutOrReplacePromise, ErasePromise, PackPromise}
+use Rattle.model.specs.Call.{Call, put, replace, erase, keyOf, edited, given, Called}
+use Rattle.model.proofs.StringLaws.{eqb-cases, leb-cases, clash}
 use Rattle.model.proofs.SetLaws.{lookup-all}
 use Rattle.model.proofs.GoodState.{TreeOk}
 use Rattle.model.proofs.StateLaws.{tree-ascending, find-good}
@@ -30,21 +31,17 @@ use Rattle.model.proofs.StandsGood.{stands-good, stands-heads}
 use Rattle.model.proofs.FormatLaws.{empty-stands}
 use Rattle.model.proofs.PackedWords.{words-one}
 use Rattle.model.proofs.PackedLaws.{LegalRecords, legal-records, packed-words}
-use Rattle.demands.specs.Words.{NotRefused, OneOf, PutFull, EraseFull, Holds, slotsOf, OnlyAt, OfBytes}
+use Rattle.demands.specs.Words.{NotRefused, OneOf, PutFull, ReplaceFull, EraseFull, Holds, slotsOf, OnlyAt, OfBytes}
 use Rattle.demands.specs.Demands.{LookedUp, Packed, Demand2}
-use Rattle.demands.proofs.RoomLaws.{room-full, room-not, Erased, missing, full, erased, erase-cases}
+use Rattle.demands.proofs.RoomLaws.{ends-room, new-ends, replace-ends, erase-ends}
 use Rattle.demands.proofs.Refusals.{look-answer}
 use Rattle.demands.proofs.DoneLaws.{only-at, root-within, did, packed-to}
 
 -- ---- numbers from a value that is there or not
 
-new-or-there : (o : Option (List ℕ)) (n : ℕ) → n ≡ pick (absent o) 0 9 → ((n ≡ 0) ↔ (o ≡ none)) × ((n ≡ 9) ↔ (o ≢ none))
-new-or-there none n e = ((λ q. refl, λ x. e), (λ q. absurd (omega arith), λ x. absurd (x refl)))
-new-or-there (some v) n e = ((λ q. absurd (omega arith), λ x. clash (cc)), (λ q x. clash (cc), λ x. e))
-
-there-or-missing : (o : Option (List ℕ)) (n : ℕ) → n ≡ pick (absent o) 8 0 → ((n ≡ 0) ↔ (o ≢ none)) × ((n ≡ 8) ↔ (o ≡ none))
-there-or-missing none n e = ((λ q. absurd (omega arith), λ x. absurd (x refl)), (λ q. refl, λ x. e))
-there-or-missing (some v) n e = ((λ q x. clash (cc), λ x. e), (λ q. absurd (omega arith), λ x. clash (cc)))
+absent-or-there : (o : Option (List ℕ)) (n i j : ℕ) → i ≢ j → n ≡ pick (absent o) i j → ((n ≡ i) ↔ (o ≡ none)) × ((n ≡ j) ↔ (o ≢ none))
+absent-or-there none n i j d e = ((λ q. refl, λ x. e), (λ q. absurd (d (sym e ∙ q)), λ x. absurd (x refl)))
+absent-or-there (some v) n i j d e = ((λ q. absurd (d (sym q ∙ e)), λ x. clash (cc)), (λ q x. clash (cc), λ x. e))
 
 found-or-missing : (n : ℕ) (p : List ℕ) (o : Option (List ℕ)) → o ≡ pick (eqb n 0) (some p) none → OneOf n (0 ∷ 8 ∷ [])
     → ((v : List ℕ) → (o ≡ some v) ↔ ((n ≡ 0) × (p ≡ v))) × ((n ≡ 8) ↔ (o ≡ none))
@@ -103,7 +100,7 @@ module _ {E : Edition} (L : Lawful E) (faults : (k : List ℕ) → E .keyFault k
 
   formats : (f : List ℕ) (len cap n : ℕ) (f' : List ℕ) → FormatPromise E f len cap n f' → NotRefused n → Holds E f' [] × (length f' ≡ len) × (slotsOf f' ≡ cap)
   formats f len cap n f' p r =
-      let ok = format-ok f len cap (λ x. let z = p .limits1 x .0 in r (omega arith, omega arith)) in
+      let ok = format-ok f len cap (λ x. r (rw (p .limits1 x .0))) in
       let w : Stands E f' (formatted len cap) = rw (p .done0 ok .1) (empty-stands E len cap (L .fields .number) (ok .0) (ok .1) (ok .2)) in
       let H = stands-heads E f' (formatted len cap) w in
       (record { state = formatted len cap; stands = w; set = refl }, H .size, H .slotsAt)
@@ -127,29 +124,57 @@ module _ {E : Edition} (L : Lawful E) (faults : (k : List ℕ) → E .keyFault k
       )
 
   changed : (f : List ℕ) (c : Call) (n : ℕ) (f' : List ℕ) (rs : List Record) → OfBytes c → Called E f c n f' → Holds E f rs → NotRefused n
-      → Holds E f' (edited c rs) × OnlyAt (keyOf c) (given c) rs (edited c rs)
+      → Holds E f' (edited c rs) × OnlyAt (keyOf c) (given c (lookup (keyOf c) rs)) rs (edited c rs)
   changed f c n f' rs b p h r =
       let d = did L faults f c n f' (h .state) b p (h .stands) r in
       (record { state = _; stands = d .stands; set = d .work .set ∙ ap (edited c) (h .set) }, only-at c rs)
 
+  -- an answer of the kind of call that a write is, on a legal key and value
+  on-legal : (a : Write) (k v : List ℕ) (n : ℕ) (s : State) → Legal E k → LegalValue v → n ≡ onWrite E a s k v .answer → n ≡ callWrite E a s k v .answer
+  on-legal a k v n s l m e = e ∙ rw (l .passes, le-ltb 65535 (length v) (m .passes))
+
   put-room : (f k v : List ℕ) (n : ℕ) (f' : List ℕ) (s : State) → Legal E k → LegalValue v → PutPromise E f k v n f' → Stands E f s → (n ≡ 6) ↔ PutFull E s k v
-  put-room f k v n f' s l m p w =
-      let c = putChange E s k v in
-      let e : n ≡ callPut E s k v .answer = p .answer s w ∙ rw (l .passes, le-ltb 65535 (length v) (m .passes)) in
-      bool-cases (room s c)
-      (λ t. (λ q. absurd (bool-cases (c .fresh) (λ u. let z : n ≡ 0 = e ∙ rw (t, u) in omega arith) (λ u. let z : n ≡ 9 = e ∙ rw (t, u) in omega arith)), λ x. absurd (room-not s c t x)))
-      (λ t. (λ q. room-full s c t, λ x. e ∙ rw t))
+  put-room f k v n f' s l m p w = rw (on-legal new k v n s l m (p .answer s w)) (ends-room (λ z. omega arith) (λ z. omega arith) (new-ends L s k v (stands-good E f s w) l m))
+
+  replace-room : (f k v : List ℕ) (n : ℕ) (f' : List ℕ) (s : State) → Legal E k → LegalValue v → ReplacePromise E f k v n f' → Stands E f s → (n ≡ 6) ↔ ReplaceFull E s k v
+  replace-room f k v n f' s l m p w = rw (on-legal replacing k v n s l m (p .answer s w)) (ends-room (λ z. omega arith) (λ z. omega arith) (replace-ends L s k v (stands-good E f s w) l m))
 
   erase-room : (f k : List ℕ) (n : ℕ) (f' : List ℕ) (s : State) → Legal E k → ErasePromise E f k n f' → Stands E f s → (n ≡ 6) ↔ EraseFull E s k
-  erase-room f k n f' s l p w = go (erase-cases L s k (stands-good E f s w) l)
-    where
-      e : n ≡ callErase E s k .answer
-      e = p .answer s w ∙ rw (l .passes)
+  erase-room f k n f' s l p w =
+      let e : n ≡ callErase E s k .answer = p .answer s w ∙ rw (l .passes) in
+      rw e (ends-room (λ z. omega arith) (λ z. omega arith) (erase-ends L s k (stands-good E f s w) l))
 
-      go : Erased L s k (callErase E s k .answer) → (n ≡ 6) ↔ EraseFull E s k
-      go (missing a b) = (λ q. (let z : n ≡ 8 = e ∙ b in absurd (omega arith)), λ x. absurd (x .0 a))
-      go (full a b) = (λ q. a, λ x. e ∙ b)
-      go (erased a b c) = (λ q. (let z : n ≡ 0 = e ∙ c in absurd (omega arith)), λ x. absurd (b x))
+  -- the promise of a write is that of another which does the same to the frame's state
+  asked-as : (a b : Write) (f k v : List ℕ) (n : ℕ) (f' : List ℕ) → ((s : State) → Stands E f s → onWrite E a s k v ≡ onWrite E b s k v) → WritePromise E a f k v n f' → WritePromise E b f k v n f'
+  asked-as a b f k v n f' is p =
+      record {
+        told = p .told;
+        answer = λ s w. p .answer s w ∙ ap (λ (d : Done). d .answer) (is s w);
+        after = λ s w. subst
+            (λ (d : Done). (w' : Stands E f' (d .state)) × (changes n ≡ true → let c = putChange E s k v in
+            Outside f f' (w .root) (w' .root) (w .lists) (w' .lists) (c .takes ++ c .frees) (putTouch E (w .root) k v) (extentAt (length k) (findAt E (w' .root) k)) (ltb 0 (c .extent))))
+            (is s w) (p .after s w);
+        kept = p .kept;
+      }
+
+  either-as : (b : Write) (f k v : List ℕ) (n : ℕ) (f' : List ℕ) (rs : List Record) → All Byte k → Holds E f rs → (o : Option (List ℕ)) → lookup k rs ≡ o
+      → ((s : State) → findIn E (s .tree) k ≡ o → callPut E s k v ≡ callWrite E b s k v) → PutOrReplacePromise E f k v n f' → WritePromise E b f k v n f'
+  either-as b f k v n f' rs bytes h o e is = asked-as either b f k v n f' (λ s w. eqb-cases (E .keyFault k) 0
+      (λ t z.
+      let found : findIn E (s .tree) k ≡ o = find-good L s k (stands-good E f s w) (record { passes = z; bytes = bytes }) ∙ ap (lookup k) (one-set f (recordsOf (s .tree)) rs (record { state = s; stands = w; set = refl }) h) ∙ e in
+      ap (λ (d : Done). unless (E .keyFault k) s (unless (valueFault v) s d)) (is s found))
+      (λ t z. rw t))
+
+  put-or-replace : (f k v : List ℕ) (n : ℕ) (f' : List ℕ) (rs : List Record) → All Byte k → PutOrReplacePromise E f k v n f' → Holds E f rs
+      → (lookup k rs ≡ none → PutPromise E f k v n f') × (lookup k rs ≢ none → ReplacePromise E f k v n f')
+  put-or-replace f k v n f' rs b p h = (
+    λ e. either-as new f k v n f' rs b h none e (λ s q. rw q) p,
+    there (lookup k rs) refl,
+  )
+    where
+      there : (o : Option (List ℕ)) → lookup k rs ≡ o → lookup k rs ≢ none → ReplacePromise E f k v n f'
+      there none e x = absurd (x e)
+      there (some u) e x = either-as replacing f k v n f' rs b h (some u) e (λ s q. rw q) p
 
   packs : (f o : List ℕ) (n : ℕ) (o' : List ℕ) (rs : List Record) → PackPromise E f o n o' → Holds E f rs → length o ≡ length f → Packed E f rs n o'
   packs f o n o' rs p h l =
@@ -175,11 +200,17 @@ module _ {E : Edition} (L : Lawful E) (faults : (k : List ℕ) → E .keyFault k
     value = valued;
     change = changed;
     put = λ f k v n f' rs b b' p h r. let d = did L faults f (put k v) n f' (h .state) (b, b') p (h .stands) r in
-        new-or-there (lookup k rs) n (d .answer ∙ d .work .answer ∙ rw (h .set));
+        let q = absent-or-there (lookup k rs) n 0 11 (λ z. omega arith) (d .answer ∙ d .work .answer ∙ rw (h .set)) in
+        (q .0, q .1, λ e. p .kept (rw e));
+    replace = λ f k v n f' rs b b' p h r. let d = did L faults f (replace k v) n f' (h .state) (b, b') p (h .stands) r in
+        let q = absent-or-there (lookup k rs) n 8 9 (λ z. omega arith) (d .answer ∙ d .work .answer ∙ rw (h .set)) in
+        (q .0, q .1, λ e. p .kept (rw e));
+    putOrReplace = put-or-replace;
     erase = λ f k n f' rs b p h r. let d = did L faults f (erase k) n f' (h .state) b p (h .stands) r in
-        let q = there-or-missing (lookup k rs) n (d .answer ∙ d .work .answer ∙ rw (h .set)) in
+        let q = absent-or-there (lookup k rs) n 8 0 (λ z. omega arith) (d .answer ∙ d .work .answer ∙ rw (h .set)) in
         (q .0, q .1, λ e. p .kept (rw e));
     pack = packs;
     putRoom = put-room;
+    replaceRoom = replace-room;
     eraseRoom = erase-room;
   }

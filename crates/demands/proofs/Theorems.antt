@@ -4,7 +4,8 @@ use native.Mathlib.Omega.{arith}
 use mathlib.Core.Path.{_≡_, refl, sym, ap, _∙_}
 use mathlib.Core.List.{List, [], _∷_}
 use mathlib.Core.Option.{some}
-use lib.ListN.{length}
+use mathlib.Core.Logic.{inr}
+use lib.ListN.{length, getD, replicate}
 use lib.Dec.{ltb, eqb, lit<, lit≤}
 use Rattle.model.specs.Strings.{hasZero}
 use Rattle.model.specs.Edition.{edition1, Legal, LegalValue}
@@ -14,9 +15,10 @@ use Rattle.model.specs.State.{State, formatted}
 use Rattle.model.specs.Image.{image}
 use Rattle.model.specs.Frame.{Stands, FrameLength, SlotCapacity}
 use Rattle.model.specs.Promise.{LengthOk}
-use Rattle.model.specs.Call.{Call, put, onCall, Called}
+use Rattle.model.specs.Call.{Call, put, replace, onCall, Called}
 use Rattle.model.proofs.StringLaws.{bool-cases, clash}
 use Rattle.model.proofs.Edition1.{lawful1}
+use Rattle.model.proofs.TextLaws.{all-zeros}
 use Rattle.model.proofs.FormatLaws.{empty-stands}
 use Rattle.model.proofs.ImageLaws.{imageState}
 use Rattle.model.proofs.PackStands.{image-of-stands}
@@ -43,7 +45,7 @@ three = demand3 lawful1 faults1
 pub demands : Demand1 × Demand2 edition1 × Demand3 edition1
 demands = (demand1, two, three)
 
--- ---- two good frames of F 1,024 and N 8: W1, and the packed image of a=1
+-- ---- good frames of F 1,024 and N 8: W1, the packed image of a=1, and one that is full
 
 abbrev pub a : List ℕ
 a = 97 ∷ []
@@ -54,8 +56,19 @@ b = 98 ∷ []
 abbrev pub v : List ℕ
 v = 49 ∷ []
 
+abbrev w : List ℕ
+w = 50 ∷ []
+
 abbrev a1 : List Record
 a1 = record { key = a; value = v } ∷ []
+
+abbrev a2 : List Record
+a2 = record { key = a; value = w } ∷ []
+
+-- the first byte of the first value
+abbrev told : List Record → ℕ
+told [] = 0
+told (r ∷ rs) = getD (r .value) 0 0
 
 abbrev pub state0 : State
 state0 = formatted 1024 8
@@ -72,6 +85,9 @@ legal-b = record { passes = refl; bytes = (lit< tt, tt) }
 pub legal-v : LegalValue v
 legal-v = record { passes = lit≤ tt; bytes = (lit< tt, tt) }
 
+legal-w : LegalValue w
+legal-w = record { passes = lit≤ tt; bytes = (lit< tt, tt) }
+
 pub length1024 : FrameLength 1024
 length1024 = (refl, lit≤ tt, lit≤ tt)
 
@@ -87,6 +103,25 @@ holding = (
   image-of-stands lawful1 1024 8 a1 (tt, tt) (legal-a, legal-v, tt) (record { limits = length1024; cap = slots8; room = lit≤ tt; slotsFit = lit≤ tt; bytesFit = lit≤ tt }),
 )
 
+-- full to the last byte, by one value
+abbrev long : List ℕ
+long = replicate 911 0
+
+abbrev a3 : List Record
+a3 = record { key = a; value = long } ∷ []
+
+abbrev state3 : State
+state3 = imageState 1024 8 (some (leaf a long))
+
+legal-long : LegalValue long
+legal-long = record { passes = lit≤ tt; bytes = all-zeros 911 }
+
+filled : (f : List ℕ) × Stands edition1 f state3
+filled = (
+  image edition1 1024 8 a3,
+  image-of-stands lawful1 1024 8 a3 (tt, tt) (legal-a, legal-long, tt) (record { limits = length1024; cap = slots8; room = lit≤ tt; slotsFit = lit≤ tt; bytesFit = lit≤ tt }),
+)
+
 pub holds0 : Holds edition1 (empty .0) []
 holds0 = record { state = state0; stands = empty .1; set = refl }
 
@@ -94,7 +129,7 @@ holds1 : Holds edition1 (holding .0) a1
 holds1 = record { state = state1; stands = holding .1; set = refl }
 
 not0 : (n : ℕ) → n ≡ 0 → NotRefused n
-not0 n e r = omega arith
+not0 n e r = clash (let z = rw e at r in cc)
 
 -- ---- the wrong stores
 
@@ -124,6 +159,24 @@ shut-out = record {
       let p = h (holding .0) b v (record { key = a; value = v }) [] holds1 legal-b legal-v in
       let q = two .change (holding .0) (put b v) 0 (holding .0) a1 (legal-b .bytes, legal-v .bytes) p holds1 (not0 0 refl) in
       let z : _≡_ {A = ℕ} 1 2 = ap length (two .one (holding .0) a1 _ holds1 (q .0)) in omega arith;
+  overwrites = λ h.
+      let p = h (holding .0) a w a1 holds1 legal-a legal-w (λ z. clash (cc)) in
+      let n : p .0 ≡ 11 = p .2 .answer state1 (holding .1) in
+      let q = two .change (holding .0) (put a w) (p .0) (p .1) a1 (legal-a .bytes, legal-w .bytes) (p .2) holds1 (λ r. clash (let z = rw n at r in cc)) in
+      let z : _≡_ {A = ℕ} 49 50 = ap told (two .one (p .1) a1 a2 (q .0) (p .3)) in omega arith;
+  roomFirst = λ h.
+      let p = h (filled .0) a w state3 (filled .1) legal-a legal-w (inr (lit≤ tt)) in
+      let z : _≡_ {A = ℕ} 6 11 = p .answer state3 (filled .1) in omega arith;
+  putsIn = λ h.
+      let p = h (empty .0) a v [] holds0 legal-a legal-v refl in
+      let n : p .0 ≡ 8 = p .2 .answer state0 (empty .1) in
+      let q = two .change (empty .0) (replace a v) (p .0) (p .1) [] (legal-a .bytes, legal-v .bytes) (p .2) holds0 (λ r. clash (let z = rw n at r in cc)) in
+      let z = two .one (p .1) [] a1 (q .0) (p .3) in clash (cc);
+  keepsOld = λ h.
+      let p = h (holding .0) a w a1 holds1 legal-a legal-w (λ z. clash (cc)) in
+      let n : p .0 ≡ 9 = p .2 .answer state1 (holding .1) in
+      let q = two .change (holding .0) (replace a w) (p .0) (p .1) a1 (legal-a .bytes, legal-w .bytes) (p .2) holds1 (λ r. clash (let z = rw n at r in cc)) in
+      let z : _≡_ {A = ℕ} 49 50 = ap told (two .one (p .1) a1 a2 (p .3) (q .0)) in omega arith;
   fixedImage = λ h.
       let f = empty .0 in let g = holding .0 in
       let H = stands-heads edition1 f state0 (empty .1) in let K = stands-heads edition1 g state1 (holding .1) in

@@ -15,10 +15,10 @@ use Rattle.model.specs.Records.{Record, lookup, Ascending}
 use Rattle.model.specs.State.{State}
 use Rattle.model.specs.Image.{imageOf, image}
 use Rattle.model.specs.Frame.{Stands, Good}
-use Rattle.model.specs.Promise.{FormatPromise, CheckPromise, Found, notFound, LookUpPromise, ValuePromise, PutPromise, ErasePromise, PackPromise}
+use Rattle.model.specs.Promise.{FormatPromise, CheckPromise, Found, notFound, LookUpPromise, ValuePromise, PutPromise, ReplacePromise, PutOrReplacePromise, ErasePromise, PackPromise}
 use Rattle.model.specs.Call.{Call, keyOf, edited, given, Called}
 use Rattle.model.specs.Words.{InWords}
-use Rattle.demands.specs.Words.{Refusal, NotRefused, FirstOf, wrongLimits, wrongLength, notGood, keyLength, keyZero, valueLong, outputLength, PutFull, EraseFull, putFull, eraseFull, Holds, slotsOf, OnlyAt, OfBytes}
+use Rattle.demands.specs.Words.{Refusal, NotRefused, FirstOf, wrongLimits, wrongLength, notGood, keyLength, keyZero, valueLong, outputLength, PutFull, ReplaceFull, EraseFull, putFull, replaceFull, eraseFull, Holds, slotsOf, OnlyAt, OfBytes}
 
 -- "1. Lend any bytes as frame, key and value. Every public call ends, refuses by document 01's numbers without asking the caller to have
 -- checked anything, and a refused call changes no byte of any lent buffer."
@@ -32,8 +32,10 @@ pub record Demand1 : Type 0 where
   -- the second look-up call gives no number; it answers from the first one's
   pub value : (f k : List ℕ) (at : ℕ) (part : List ℕ) (h : ValuePromise edition1 f k at part) → let n = h .look .number in
       FirstOf (wrongLength f ∷ notGood f ∷ keyLength k ∷ keyZero k ∷ []) (0 ∷ 8 ∷ []) n × (Refusal n → (at ≡ 0) × (part ≡ []))
-  pub put : (f k v : List ℕ) (n : ℕ) (f' : List ℕ) → PutPromise edition1 f k v n f'
-      → FirstOf (wrongLength f ∷ notGood f ∷ keyLength k ∷ keyZero k ∷ valueLong v ∷ putFull f k v ∷ []) (0 ∷ 9 ∷ []) n × (Refusal n → f' ≡ f)
+  pub put : (f k v : List ℕ) (n : ℕ) (f' : List ℕ) → All Byte k → All Byte v → PutPromise edition1 f k v n f'
+      → FirstOf (wrongLength f ∷ notGood f ∷ keyLength k ∷ keyZero k ∷ valueLong v ∷ putFull f k v ∷ []) (0 ∷ 11 ∷ []) n × (Refusal n → f' ≡ f)
+  pub replace : (f k v : List ℕ) (n : ℕ) (f' : List ℕ) → All Byte k → All Byte v → ReplacePromise edition1 f k v n f'
+      → FirstOf (wrongLength f ∷ notGood f ∷ keyLength k ∷ keyZero k ∷ valueLong v ∷ replaceFull f k v ∷ []) (9 ∷ 8 ∷ []) n × (Refusal n → f' ≡ f)
   pub erase : (f k : List ℕ) (n : ℕ) (f' : List ℕ) → All Byte k → ErasePromise edition1 f k n f'
       → FirstOf (wrongLength f ∷ notGood f ∷ keyLength k ∷ keyZero k ∷ eraseFull f k ∷ []) (0 ∷ 8 ∷ []) n × (Refusal n → f' ≡ f)
   pub pack : (f o : List ℕ) (n : ℕ) (o' : List ℕ) → PackPromise edition1 f o n o'
@@ -74,17 +76,23 @@ pub record Demand2 (E : Edition) : Type 0 where
   pub lookUp : (f k : List ℕ) (g : Found) (rs : List Record) → Legal E k → LookUpPromise E f k g → Holds E f rs → LookedUp f k g rs
   pub value : (f k : List ℕ) (at : ℕ) (part : List ℕ) (rs : List Record) → Legal E k → ValuePromise E f k at part → Holds E f rs
       → (part ≡ take (length part) (drop at f)) × ((v : List ℕ) → lookup k rs ≡ some v → part ≡ v) × (lookup k rs ≡ none → (at ≡ 0) × (part ≡ []))
-  -- put and erase: the set after, and the answer. Shuts out HoldsNothing and OnlyFirst
+  -- put, replacement and erase: the set after, and the answer. Shuts out HoldsNothing, OnlyFirst, Overwrites, PutsIn and KeepsOld
   pub change : (f : List ℕ) (c : Call) (n : ℕ) (f' : List ℕ) (rs : List Record) → OfBytes c → Called E f c n f' → Holds E f rs → NotRefused n
-      → Holds E f' (edited c rs) × OnlyAt (keyOf c) (given c) rs (edited c rs)
+      → Holds E f' (edited c rs) × OnlyAt (keyOf c) (given c (lookup (keyOf c) rs)) rs (edited c rs)
   pub put : (f k v : List ℕ) (n : ℕ) (f' : List ℕ) (rs : List Record) → All Byte k → All Byte v → PutPromise E f k v n f' → Holds E f rs → NotRefused n
-      → ((n ≡ 0) ↔ (lookup k rs ≡ none)) × ((n ≡ 9) ↔ (lookup k rs ≢ none))
+      → ((n ≡ 0) ↔ (lookup k rs ≡ none)) × ((n ≡ 11) ↔ (lookup k rs ≢ none)) × (n ≡ 11 → f' ≡ f)
+  pub replace : (f k v : List ℕ) (n : ℕ) (f' : List ℕ) (rs : List Record) → All Byte k → All Byte v → ReplacePromise E f k v n f' → Holds E f rs → NotRefused n
+      → ((n ≡ 8) ↔ (lookup k rs ≡ none)) × ((n ≡ 9) ↔ (lookup k rs ≢ none)) × (n ≡ 8 → f' ≡ f)
+  -- whoever asks for either has a put of an absent key, and a replacement of a present one
+  pub putOrReplace : (f k v : List ℕ) (n : ℕ) (f' : List ℕ) (rs : List Record) → All Byte k → PutOrReplacePromise E f k v n f' → Holds E f rs
+      → (lookup k rs ≡ none → PutPromise E f k v n f') × (lookup k rs ≢ none → ReplacePromise E f k v n f')
   pub erase : (f k : List ℕ) (n : ℕ) (f' : List ℕ) (rs : List Record) → All Byte k → ErasePromise E f k n f' → Holds E f rs → NotRefused n
-      → ((n ≡ 0) ↔ (lookup k rs ≢ none)) × ((n ≡ 8) ↔ (lookup k rs ≡ none)) × (n ≡ 8 → f' ≡ f)
+      → ((n ≡ 8) ↔ (lookup k rs ≡ none)) × ((n ≡ 0) ↔ (lookup k rs ≢ none)) × (n ≡ 8 → f' ≡ f)
   -- pack: shuts out FixedImage
   pub pack : (f o : List ℕ) (n : ℕ) (o' : List ℕ) (rs : List Record) → PackPromise E f o n o' → Holds E f rs → length o ≡ length f → Packed E f rs n o'
-  -- no room: shuts out AllSix
+  -- no room: for a put of an absent key, a replacement of a present one, or an erase. Shuts out AllSix and RoomFirst
   pub putRoom : (f k v : List ℕ) (n : ℕ) (f' : List ℕ) (s : State) → Legal E k → LegalValue v → PutPromise E f k v n f' → Stands E f s → (n ≡ 6) ↔ PutFull E s k v
+  pub replaceRoom : (f k v : List ℕ) (n : ℕ) (f' : List ℕ) (s : State) → Legal E k → LegalValue v → ReplacePromise E f k v n f' → Stands E f s → (n ≡ 6) ↔ ReplaceFull E s k v
   pub eraseRoom : (f k : List ℕ) (n : ℕ) (f' : List ℕ) (s : State) → Legal E k → ErasePromise E f k n f' → Stands E f s → (n ≡ 6) ↔ EraseFull E s k
 
 -- ---- demand 3
@@ -95,6 +103,7 @@ PackAlike E f g = (o o' p p' : List ℕ) (n m : ℕ) → PackPromise E f o n o' 
 
 -- "3. Two calls on different keys, each a put or an erase, give the same answers in both orders and frames that pack to the same bytes, if none
 -- is refused. Two good frames of equal length and slot capacity pack to the same bytes exactly when they hold the same records."
+-- (02) "The mission's third demand holds for puts, replacements and erases, 11 counted as an answer and not as a refusal."
 pub record Demand3 (E : Edition) : Type 0 where
   -- c and then d, by way of g to h; d and then c, by way of g' to h'
   pub order : (f : List ℕ) (c d : Call) (n m m' n' : ℕ) (g h g' h' : List ℕ) → OfBytes c → OfBytes d → keyOf c ≢ keyOf d

@@ -2,6 +2,7 @@
 use Prim.Native.Nat.{ℕ, _+_, _-_, _<_, _≤_}
 use mathlib.Core.Path.{_≡_}
 use mathlib.Core.List.{List, [], _∷_}
+use mathlib.Core.Bool.{true}
 use mathlib.Core.Option.{Option, none, some}
 use mathlib.Core.Logic.{_↔_, _⊎_, _≢_}
 use lib.ListN.{length}
@@ -13,14 +14,15 @@ use Rattle.model.specs.Tree.{Art, Change}
 use Rattle.model.specs.Records.{Record, recordsOf, lookup}
 use Rattle.model.specs.State.{State, freshSlots, freshBytes, putChange, eraseChange}
 use Rattle.model.specs.Frame.{Stands, Good}
+use Rattle.model.specs.Order.{isRefusal}
 use Rattle.model.specs.Promise.{LengthOk, FormatOk}
-use Rattle.model.specs.Call.{Call, put, erase}
+use Rattle.model.specs.Call.{Call, put, replace, erase}
 
 -- ---- refusals
 
--- "1 to 7 are refusals; 0, 8 and 9 are not."
+-- "1 to 7 are refusals; 0, 8 and 9 are not", nor is 11
 abbrev pub Refusal : ℕ → Type 0
-Refusal n = (1 ≤ n) × (n ≤ 7)
+Refusal n = isRefusal n ≡ true
 
 abbrev pub NotRefused : ℕ → Type 0
 NotRefused n = Refusal n → ⊥
@@ -75,8 +77,13 @@ outputLength f o = record { number = 7; applies = length o ≢ length f }
 abbrev pub NoRoom : {A : Type 0} → State → Change A → Type 0
 NoRoom s c = (s .N - s .U < freshSlots s (c .takes)) ⊎ (s .F - s .B < freshBytes s (c .takes) + c .extent)
 
+-- of a put: the key is absent, else it needs nothing
 abbrev pub PutFull : Edition → State → List ℕ → List ℕ → Type 0
-PutFull E s k v = NoRoom s (putChange E s k v)
+PutFull E s k v = (lookup k (recordsOf (s .tree)) ≡ none) × NoRoom s (putChange E s k v)
+
+-- of a replacement: the key is there, else it needs nothing
+abbrev pub ReplaceFull : Edition → State → List ℕ → List ℕ → Type 0
+ReplaceFull E s k v = (lookup k (recordsOf (s .tree)) ≢ none) × NoRoom s (putChange E s k v)
 
 -- of an erase that is more than "leaves the frame as format leaves it": the key is there, and it is not the only one
 abbrev pub NoRoomIn : Edition → State → Option Art → List ℕ → Type 0
@@ -89,6 +96,9 @@ EraseFull E s k = (lookup k (recordsOf (s .tree)) ≢ none) × (2 ≤ s .R) × N
 -- "no room"
 abbrev pub putFull : List ℕ → List ℕ → List ℕ → Ground
 putFull f k v = record { number = 6; applies = (s : State) × Stands edition1 f s × PutFull edition1 s k v }
+
+abbrev pub replaceFull : List ℕ → List ℕ → List ℕ → Ground
+replaceFull f k v = record { number = 6; applies = (s : State) × Stands edition1 f s × ReplaceFull edition1 s k v }
 
 abbrev pub eraseFull : List ℕ → List ℕ → Ground
 eraseFull f k = record { number = 6; applies = (s : State) × Stands edition1 f s × EraseFull edition1 s k }
@@ -113,4 +123,5 @@ pub record OnlyAt (k : List ℕ) (o : Option (List ℕ)) (rs rs' : List Record) 
 -- the key and the value of a call are strings of bytes
 abbrev pub OfBytes : Call → Type 0
 OfBytes (put k v) = All Byte k × All Byte v
+OfBytes (replace k v) = All Byte k × All Byte v
 OfBytes (erase k) = All Byte k

@@ -1,17 +1,20 @@
--- "Promises have to shut these out": document 01's list of wrong stores, each as what it would have to prove of its calls. No store can.
+-- "Promises have to shut these out": document 01's list of wrong stores, and those that document 02 is about, each as what it would have to prove of
+-- its calls. No store can.
 use Prim.Native.Nat.{ℕ}
 use mathlib.Core.Path.{_≡_}
 use mathlib.Core.List.{List, [], _∷_}
+use mathlib.Core.Option.{none}
+use mathlib.Core.Logic.{_≢_}
 use lib.ListN.{length}
 use Rattle.layout.specs.Number.{le}
 use Rattle.layout.specs.Place.{atB, atU, atR, atX}
 use Rattle.model.specs.Edition.{edition1, Legal, LegalValue}
-use Rattle.model.specs.Records.{Record}
-use Rattle.model.specs.State.{State, formatted}
+use Rattle.model.specs.Records.{Record, lookup, upsert}
+use Rattle.model.specs.State.{State, formatted, putChange}
 use Rattle.model.specs.Frame.{Stands, Good}
-use Rattle.model.specs.Promise.{LengthOk, CheckPromise, notFound, LookUpPromise, PutPromise, PackPromise}
+use Rattle.model.specs.Promise.{LengthOk, CheckPromise, notFound, LookUpPromise, PutPromise, ReplacePromise, PackPromise}
 use Rattle.model.specs.Call.{Call, onCall, Called}
-use Rattle.demands.specs.Words.{Holds, slotsOf}
+use Rattle.demands.specs.Words.{Holds, slotsOf, NoRoom}
 
 -- "a check that answers 2 to everything (demand 2's first sentence, W1)": to everything of the right length
 abbrev pub AllTwo : Type 0
@@ -31,6 +34,24 @@ HoldsNothing = (f k v : List ℕ) → Good edition1 f → Legal edition1 k → L
 -- "a put that writes only the first record and afterwards only says 0 (the set after each put)"
 abbrev pub OnlyFirst : Type 0
 OnlyFirst = (f k v : List ℕ) (r : Record) (rs : List Record) → Holds edition1 f (r ∷ rs) → Legal edition1 k → LegalValue v → PutPromise edition1 f k v 0 f
+
+-- (02) "Two provisioning tools overwrote each other's line profiles": a put that replaces all the same, whatever it says, 11 too
+abbrev pub Overwrites : Type 0
+Overwrites = (f k v : List ℕ) (rs : List Record) → Holds edition1 f rs → Legal edition1 k → LegalValue v → lookup k rs ≢ none
+    → (n : ℕ) × (f' : List ℕ) × PutPromise edition1 f k v n f' × Holds edition1 f' (upsert k v rs)
+
+-- a put that asks for room first, and only then whether the key is there
+abbrev pub RoomFirst : Type 0
+RoomFirst = (f k v : List ℕ) (s : State) → Stands edition1 f s → Legal edition1 k → LegalValue v → NoRoom s (putChange edition1 s k v) → PutPromise edition1 f k v 6 f
+
+-- a replacement that puts an absent key in, and one that keeps the old value
+abbrev pub PutsIn : Type 0
+PutsIn = (f k v : List ℕ) (rs : List Record) → Holds edition1 f rs → Legal edition1 k → LegalValue v → lookup k rs ≡ none
+    → (n : ℕ) × (f' : List ℕ) × ReplacePromise edition1 f k v n f' × Holds edition1 f' (upsert k v rs)
+
+abbrev pub KeepsOld : Type 0
+KeepsOld = (f k v : List ℕ) (rs : List Record) → Holds edition1 f rs → Legal edition1 k → LegalValue v → lookup k rs ≢ none
+    → (n : ℕ) × (f' : List ℕ) × ReplacePromise edition1 f k v n f' × Holds edition1 f' rs
 
 -- "a packer that writes one fixed image (reading back; demand 3 alone would let it pass)": one for each F and N
 abbrev pub FixedImage : Type 0
@@ -53,8 +74,12 @@ pub record ShutOut : Type 0 where
   pub allEight : AllEight → ⊥
   pub holdsNothing : HoldsNothing → ⊥
   pub onlyFirst : OnlyFirst → ⊥
+  pub overwrites : Overwrites → ⊥
+  pub roomFirst : RoomFirst → ⊥
+  pub putsIn : PutsIn → ⊥
+  pub keepsOld : KeepsOld → ⊥
   pub fixedImage : FixedImage → ⊥
   pub invents : Invents → ⊥
-  -- and of every put and erase: the counters are those that the needs give
+  -- and of every put, replacement and erase: the counters are those that the needs give
   pub settled : (f : List ℕ) (c : Call) (n : ℕ) (f' : List ℕ) (s : State) → Stands edition1 f s → Called edition1 f c n f'
       → let t = onCall edition1 s c .state in Counters f' (t .U) (t .B) (t .R) (t .X)
