@@ -42,23 +42,23 @@ module _ (f : List ℕ) where
     header-end L e N s D =
         record {
           holds = λ t E n1.
-            record {
-              size = omega arith;
-              limits = omega arith;
-              edition = e ∙ sym n1;
-              stored = cc;
-              slotsAt = cc;
-              slotCap = rw (R .slots) at (N .slotCap);
-              dataAt = omega arith;
-              bumpAt = cc;
-              bumpIn = rw (R .slots, R .next, ← L .stored) at (N .bumpIn);
-              givenAt = cc;
-              givenIn = omega arith;
-              recordsAt = cc;
-              deadAt = cc;
-              rootAt = cc;
-              spare = s;
-              above = λ a x y. D .holds t a (omega arith) (omega arith);
-            };
+              record {
+                size = omega arith;
+                limits = omega arith;
+                edition = e ∙ sym n1;
+                stored = cc;
+                slotsAt = cc;
+                slotCap = rw (R .slots) at (N .slotCap);
+                dataAt = omega arith;
+                bumpAt = cc;
+                bumpIn = rw (R .slots, R .next, ← L .stored) at (N .bumpIn);
+                givenAt = cc;
+                givenIn = omega arith;
+                recordsAt = cc;
+                deadAt = cc;
+                rootAt = cc;
+                spare = s;
+                above = λ a x y. D .holds t a (omega arith) (omega arith);
+              };
           fails = λ t h H q. D .fails t (header-above h H);
         }
