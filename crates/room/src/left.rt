@@ -16,6 +16,9 @@ fn listed(f: &[u8], kind: usize, most: usize) -> usize
     requires { ⌜ HasHeap (now f) × (1 ≤ kind) × (kind ≤ 8) ⌝ }
     ensures { λ r. ⌜ ((h : View) → Heap (now (f .entry)) h → Listed h kind most r) ⌝ }
 {
+    if most == 0 {
+        return 0;
+    }
     let mut s = Header::list_head(f, kind);
     let mut n = 0;
     while n < most {
