@@ -5,7 +5,7 @@ use mathlib.Core.List.{List, _∷_, _++_}
 use native.Mathlib.Omega.{arith}
 use lib.ListN.{length}
 use Rattle.layout.specs.Number.{le}
-use Rattle.layout.specs.Place.{atR, leafKey, leafValue}
+use Rattle.layout.specs.Place.{atR, leafExtent, leafKey, leafValue}
 use Rattle.layout.specs.Kind.{Leaf, Kind}
 use Rattle.layout.specs.Entry.{placeOf}
 use Rattle.model.specs.Edition.{edition1}
@@ -38,6 +38,9 @@ module _ {f : List ℕ} {h : View} {xs : List Step} {s : ℕ} (n o : ℕ) (path 
   pub leaf-room : o + 16 ≤ length f
   leaf-room = let I = lies n Leaf o _ (W1 .heap) (first-owns W1) (omega arith) (omega arith) in omega (arith, I .ends, W1 .heap .header .size)
 
+  pub leaf-extent : {x : ℕ} → x ≡ le 4 f (o + leafExtent) → x ≡ e
+  leaf-extent ee = ee ∙ open-leaf path ts loose n o e k v W .1 .at .extent
+
   pub leaf-size : {a b m : ℕ} → a ≡ le 2 f (o + leafKey) → b ≡ le 2 f (o + leafValue) → m ≡ up8 (a + b) → m ≡ size
   leaf-size ea eb em =
       let L = open-leaf path ts loose n o e k v W .1 .at in
@@ -64,15 +67,15 @@ module _ {f : List ℕ} {h : View} {xs : List Step} {s : ℕ} (n o : ℕ) (path 
     abbrev rest2 : List Item
     rest2 = loose ++ (stepsItems xs ++ forestItems ts)
 
-    pub leaf-retires : {m : ℕ} → m ≡ size → Retires f1 m
-    leaf-retires em = rw em (record { view = h1; heap = W2 .heap; place = e; rest = rest2; owns = first-owns W2 })
+    pub leaf-retires : {x m : ℕ} → x ≡ e → m ≡ size → Retires f1 x m
+    leaf-retires ex em = rw (ex, em) (record { view = h1; heap = W2 .heap; rest = rest2; owns = first-owns W2 })
 
-    module _ {f2 : List ℕ} {m : ℕ} (em : m ≡ size) (retire : (h : View) (o : ℕ) (rest : List Item) → Heap f1 h → Same (h .owned) (extent o m ∷ rest) → Renumbered f1 f2 h (retired h m rest)) where
+    module _ {f2 : List ℕ} {x m : ℕ} (ex : x ≡ e) (em : m ≡ size) (retire : (h : View) (rest : List Item) → Heap f1 h → Same (h .owned) (extent x m ∷ rest) → Renumbered f1 f2 h (retired h m rest)) where
       abbrev h2 : View
       h2 = retired h1 size rest2
 
       C2 : Renumbered f1 f2 h1 h2
-      C2 = rw em at (retire h1 e rest2 (W2 .heap) (rw em (first-owns W2)))
+      C2 = rw (ex, em) at (retire h1 rest2 (W2 .heap) (rw (ex, em) (first-owns W2)))
 
       W3 : Work edition1 f2 h2 xs s ts loose
       W3 = work-retire W2 C2
@@ -99,20 +102,23 @@ module _ {f : List ℕ} {n o : ℕ} (D : Drops f n o) where
   drops-frees = leaf-frees n o (D .path) (D .extent) (D .key) (D .value) (D .trees) (D .loose) (D .work)
 
   module _ {f1 : List ℕ} (release : (h : View) (o : ℕ) (rest : List Item) → Heap f h → Same (h .owned) (body n Leaf o ∷ rest) → placeOf f n ≡ o → Freed f f1 h n Leaf o rest)
-      {a b m : ℕ} (ea : a ≡ le 2 f (o + leafKey)) (eb : b ≡ le 2 f (o + leafValue)) (em : m ≡ up8 (a + b)) where
+      {a b x m : ℕ} (ea : a ≡ le 2 f (o + leafKey)) (eb : b ≡ le 2 f (o + leafValue)) (ex : x ≡ le 4 f (o + leafExtent)) (em : m ≡ up8 (a + b)) where
+    extent-is : x ≡ D .extent
+    extent-is = leaf-extent n o (D .path) (D .extent) (D .key) (D .value) (D .trees) (D .loose) (D .work) ex
+
     size-is : m ≡ extentOf (D .key) (D .value)
     size-is = leaf-size n o (D .path) (D .extent) (D .key) (D .value) (D .trees) (D .loose) (D .work) ea eb em
 
-    pub drops-retires : Retires f1 m
-    drops-retires = leaf-retires n o (D .path) (D .extent) (D .key) (D .value) (D .trees) (D .loose) (D .work) release size-is
+    pub drops-retires : Retires f1 x m
+    drops-retires = leaf-retires n o (D .path) (D .extent) (D .key) (D .value) (D .trees) (D .loose) (D .work) release extent-is size-is
 
-    pub drops-records : {f2 : List ℕ} → ((h : View) (o : ℕ) (rest : List Item) → Heap f1 h → Same (h .owned) (extent o m ∷ rest) → Renumbered f1 f2 h (retired h m rest)) → 1 ≤ le 4 f2 atR
-    drops-records retire = omega (arith, leaf-records n o (D .path) (D .extent) (D .key) (D .value) (D .trees) (D .loose) (D .work) release size-is retire, D .records)
+    pub drops-records : {f2 : List ℕ} → ((h : View) (rest : List Item) → Heap f1 h → Same (h .owned) (extent x m ∷ rest) → Renumbered f1 f2 h (retired h m rest)) → 1 ≤ le 4 f2 atR
+    drops-records retire = omega (arith, leaf-records n o (D .path) (D .extent) (D .key) (D .value) (D .trees) (D .loose) (D .work) release extent-is size-is retire, D .records)
 
 -- and of any work
-pub drop-law : {f f1 f2 f3 : List ℕ} {n o a b m r : ℕ} → ((h : View) (o : ℕ) (rest : List Item) → Heap f h → Same (h .owned) (body n Leaf o ∷ rest) → placeOf f n ≡ o → Freed f f1 h n Leaf o rest)
-    → a ≡ le 2 f (o + leafKey) → b ≡ le 2 f (o + leafValue) → m ≡ up8 (a + b) → ((h : View) (o : ℕ) (rest : List Item) → Heap f1 h → Same (h .owned) (extent o m ∷ rest) → Renumbered f1 f2 h (retired h m rest))
+pub drop-law : {f f1 f2 f3 : List ℕ} {n o a b x m r : ℕ} → ((h : View) (o : ℕ) (rest : List Item) → Heap f h → Same (h .owned) (body n Leaf o ∷ rest) → placeOf f n ≡ o → Freed f f1 h n Leaf o rest)
+    → a ≡ le 2 f (o + leafKey) → b ≡ le 2 f (o + leafValue) → x ≡ le 4 f (o + leafExtent) → m ≡ up8 (a + b) → ((h : View) (rest : List Item) → Heap f1 h → Same (h .owned) (extent x m ∷ rest) → Renumbered f1 f2 h (retired h m rest))
     → r ≡ le 4 f2 atR → ((h : View) → Heap f2 h → Renumbered f2 f3 h (recorded h (r - 1)))
     → (h : View) (xs : List Step) (s : ℕ) (path : List ℕ) (e : ℕ) (k v : List ℕ) (ts : List (List ℕ × Lay)) (loose : List Item) → Work edition1 f h xs s ((path, leaf n o e k v) ∷ ts) loose → Dropped f f3 h xs s ts loose n o k v
-drop-law {n = n} {o = o} release ea eb em retire er count h xs s path e k v ts loose W =
-    leaf-dropped n o path e k v ts loose W release (leaf-size n o path e k v ts loose W ea eb em) retire er count
+drop-law {n = n} {o = o} release ea eb ex em retire er count h xs s path e k v ts loose W =
+    leaf-dropped n o path e k v ts loose W release (leaf-extent n o path e k v ts loose W ex) (leaf-size n o path e k v ts loose W ea eb em) retire er count

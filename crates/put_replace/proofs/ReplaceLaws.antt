@@ -270,13 +270,13 @@ module _ {f k v : List ℕ} {p : Spot} (P : Present f k v p) where
           omega (arith, L .room, P .put .ready .stands .heap .header .size),
         )
 
+    extent-is : {e : ℕ} → e ≡ le 4 f (p .here .place + leafExtent) → e ≡ P .found .extent
+    extent-is ee = ee ∙ here (P .put .ready .st) (P .put .ready .stands) .1 .at .extent
+
     -- the value has the old length
     module _ {e : ℕ} (ee : e ≡ le 4 f (p .here .place + leafExtent)) (len : length v ≡ old) where
-      extent-is : e ≡ P .found .extent
-      extent-is = ee ∙ here (P .put .ready .st) (P .put .ready .stands) .1 .at .extent
-
       pub paste-ok : e + length k + length v ≤ length f
-      paste-ok = let q = old-is in let x = extent-is in omega (arith, here (P .put .ready .st) (P .put .ready .stands) .1 .at .room)
+      paste-ok = let q = old-is in let x = extent-is ee in omega (arith, here (P .put .ready .st) (P .put .ready .stands) .1 .at .room)
 
       pub ends-same : {g : List ℕ} → Pasted f g (e + length k) (length v) v → Bytes g → PutStep f k v g
       ends-same {g} G by =
@@ -285,7 +285,7 @@ module _ {f k v : List ℕ} {p : Spot} (P : Present f k v p) where
           let o = p .here .place in
           let x = P .found .extent in
           let v' = P .found .value in
-          let G' : Pasted f g (x + length k) (length v) v = subst (λ i. Pasted f g (i + length k) (length v) v) extent-is G in
+          let G' : Pasted f g (x + length k) (length v) v = subst (λ i. Pasted f g (i + length k) (length v) v) (extent-is ee) G in
           record {
             after = λ s w.
                 put-done f g k v w xs (leaf n o x k v') (root-at s w) (P .put .way .leads) (overwritten w xs n o x k v' (root-at s w) g v (len ∙ old-is) G' by) (any-room (P .put) s w);
@@ -330,24 +330,27 @@ module _ {f k v : List ℕ} {p : Spot} (P : Present f k v p) where
             size-old : m ≡ extentOf k (P .found .value)
             size-old = em ∙ ap (λ i. up8 (length k + i)) old-is
 
-            pub retire-ok : Retires f2 m
-            retire-ok =
-                let W = work-at (P .put .ready .st) (P .put .ready .stands) in
-                rw size-old (record { view = extended (standsView (P .put .ready .stands)) (extentOf k v); heap = W .heap; place = P .found .extent; rest = _; owns = first-owns W })
+            module _ {was : ℕ} (ee : was ≡ le 4 f (p .here .place + leafExtent)) where
+              pub retire-ok : Retires f2 was m
+              retire-ok =
+                  let W = work-at (P .put .ready .st) (P .put .ready .stands) in
+                  rw (size-old, extent-is ee) (record { view = extended (standsView (P .put .ready .stands)) (extentOf k v); heap = W .heap; rest = _; owns = first-owns W })
 
-            pub ends-other : {g : List ℕ} → ((h : View) (o : ℕ) (rest : List Item) → Heap f2 h → Same (h .owned) (extent o m ∷ rest) → Renumbered f2 g h (retired h m rest)) → Bytes g → PutStep f k v g
-            ends-other {g} C by =
-                let xs = P .put .way .steps in
-                let n = p .here .slot in
-                let o = p .here .place in
-                let x = P .found .extent in
-                let v' = P .found .value in
-                let C' : (h : View) (o : ℕ) (rest : List Item) → Heap f2 h → Same (h .owned) (extent o (extentOf k v') ∷ rest) → Renumbered f2 g h (retired h (extentOf k v') rest)
-                = subst (λ i. (h : View) (o : ℕ) (rest : List Item) → Heap f2 h → Same (h .owned) (extent o i ∷ rest) → Renumbered f2 g h (retired h i rest)) size-old C in
-                record {
-                  after = λ s w.
-                      let W = work-at s w in
-                      put-done f g k v w xs (leaf n o x k v') (root-at s w) (P .put .way .leads)
-                      (renewed w xs n o x k v' (root-at s w) f1 f2 v e other-length (extended-at s w) leaf-at g (C' (extended (standsView w) (extentOf k v)) x _ (W .heap) (first-owns W)) by)
-                      (any-room (P .put) s w);
-                }
+              pub ends-other : {g : List ℕ} → ((h : View) (rest : List Item) → Heap f2 h → Same (h .owned) (extent was m ∷ rest) → Renumbered f2 g h (retired h m rest)) → Bytes g → PutStep f k v g
+              ends-other {g} C by =
+                  let xs = P .put .way .steps in
+                  let n = p .here .slot in
+                  let o = p .here .place in
+                  let x = P .found .extent in
+                  let v' = P .found .value in
+                  let C1 : (h : View) (rest : List Item) → Heap f2 h → Same (h .owned) (extent was (extentOf k v') ∷ rest) → Renumbered f2 g h (retired h (extentOf k v') rest)
+                  = subst (λ i. (h : View) (rest : List Item) → Heap f2 h → Same (h .owned) (extent was i ∷ rest) → Renumbered f2 g h (retired h i rest)) size-old C in
+                  let C' : (h : View) (rest : List Item) → Heap f2 h → Same (h .owned) (extent x (extentOf k v') ∷ rest) → Renumbered f2 g h (retired h (extentOf k v') rest)
+                  = subst (λ i. (h : View) (rest : List Item) → Heap f2 h → Same (h .owned) (extent i (extentOf k v') ∷ rest) → Renumbered f2 g h (retired h (extentOf k v') rest)) (extent-is ee) C1 in
+                  record {
+                    after = λ s w.
+                        let W = work-at s w in
+                        put-done f g k v w xs (leaf n o x k v') (root-at s w) (P .put .way .leads)
+                        (renewed w xs n o x k v' (root-at s w) f1 f2 v e other-length (extended-at s w) leaf-at g (C' (extended (standsView w) (extentOf k v)) _ (W .heap) (first-owns W)) by)
+                        (any-room (P .put) s w);
+                  }

@@ -17,12 +17,12 @@ pub fn replace(f: &mut [u8], key: &[u8], value: &[u8], spot: Spot)
     let k = key.len();
     let n = value.len();
     let old = Leaf::value_length(f, place);
+    let was = Leaf::extent(f, place);
     if n == old {
-        let extent = Leaf::extent(f, place);
-        fill::paste(f, extent + k, value);
+        fill::paste(f, was + k, value);
         return;
     }
     let extent = heap::extend(f, key, value);
     Leaf::write(f, place, extent, k, n);
-    heap::retire(f, Leaf::rounded(k + old));
+    heap::retire(f, was, Leaf::rounded(k + old));
 }

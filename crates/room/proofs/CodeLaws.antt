@@ -277,5 +277,5 @@ release-ok {f} {s} {k} F =
     let z = H .size in
     (omega arith, omega arith, omega (arith, head-fits k P (F .kind)))
 
-pub retire-ok : {f : List ℕ} {n : ℕ} → Retires f n → le 4 f atX + n ≤ 524288
-retire-ok {f} {n} T = omega (arith, dead-fits (T .heap) (T .place) n (T .rest) (T .owns), T .heap .header .deadAt)
+pub retire-ok : {f : List ℕ} {o n : ℕ} → Retires f o n → le 4 f atX + n ≤ 524288
+retire-ok {f} {o} {n} T = omega (arith, dead-fits (T .heap) o n (T .rest) (T .owns), T .heap .header .deadAt)

@@ -78,13 +78,12 @@ pub record Extended (f g : List ℕ) (h : View) (k v : List ℕ) (e : ℕ) : Typ
 
 -- ---- retire, set_records, set_root: fields alone
 
--- an extent of n bytes is given out
-pub record Retires (f : List ℕ) (n : ℕ) : Type 0 where
+-- an extent of n bytes at o is given out
+pub record Retires (f : List ℕ) (o n : ℕ) : Type 0 where
   pub view : View
   pub heap : Heap f view
-  pub place : ℕ
   pub rest : List Item
-  pub owns : Same (view .owned) (extent place n ∷ rest)
+  pub owns : Same (view .owned) (extent o n ∷ rest)
 
 -- the view h became h', and no byte from 50 on changed
 pub record Renumbered (f g : List ℕ) (h h' : View) : Type 0 where

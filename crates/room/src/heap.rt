@@ -85,10 +85,10 @@ pub fn extend(f: &mut [u8], key: &[u8], value: &[u8]) -> usize
     place
 }
 
-// An extent of `size` bytes dies.
-pub fn retire(f: &mut [u8], size: usize)
-    requires { ⌜ Retires (now f) size ⌝ }
-    ensures { λ _. ⌜ ((h : View) (o : ℕ) (rest : List Item) → Heap (now (f .entry)) h → Same (h .owned) (extent o size ∷ rest)
+// The extent of `size` bytes at `place` dies.
+pub fn retire(f: &mut [u8], place: usize, size: usize)
+    requires { ⌜ Retires (now f) place size ⌝ }
+    ensures { λ _. ⌜ ((h : View) (rest : List Item) → Heap (now (f .entry)) h → Same (h .owned) (extent place size ∷ rest)
         → Renumbered (now (f .entry)) (now (f .exit)) h (retired h size rest)) ⌝ }
 {
     let x = Header::dead_bytes(f);

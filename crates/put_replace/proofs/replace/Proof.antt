@@ -10,36 +10,38 @@ value-length-requires : tie.Need-value-length-requires
 value-length-requires c κs = body-room (c .before .before .before .before .before .pre)
 
 extent-requires : tie.Need-extent-requires
-extent-requires c κs = body-room (c .before .before .before .before .before .before .before .before .pre)
+extent-requires c κs = body-room (c .before .before .before .before .before .before .before .pre)
 
 add-paste : tie.Need-add-paste
 add-paste c = search needs
 
 paste-requires : tie.Need-paste-requires
 paste-requires c κs =
-    let m = c .before .before .before .before in
+    let q = c .before .before in
+    let m = q .before .before in
     let z = m .before .before .before .before .before .before in
-    paste-ok (z .pre) (m .value-length .ensures .0) (c .before .extent .ensures .0) (omega arith)
+    paste-ok (z .pre) (m .value-length .ensures .0) (q .extent .ensures .0) (omega arith)
 
 same-length : tie.Need-same-length
 same-length c = search needs
 
 returns : tie.Need-returns
 returns c =
-    let m = c .before .before .before .before .before .before .before in
+    let q = c .before .before .before .before .before in
+    let m = q .before .before in
     let z = m .before .before .before .before .before .before in
-    ends-same (z .pre) (m .value-length .ensures .0) (c .before .before .before .before .extent .ensures .0) (omega arith) (c .before .before .paste .ensures) (λ a. omega (arith, c .slice-known2 .given a))
+    ends-same (z .pre) (m .value-length .ensures .0) (q .extent .ensures .0) (omega arith) (c .before .before .paste .ensures) (λ a. omega (arith, c .slice-known2 .given a))
 
 extend-requires : tie.Need-extend-requires
 extend-requires c κs =
-    let m = c .before .before in
+    let m = c .before .before .before .before in
     let z = m .before .before .before .before .before .before in
     extend-ok (z .pre) (m .value-length .ensures .0) (λ q. omega arith)
 
 write-requires : tie.Need-write-requires
 write-requires c κs =
     let x = c .before .before .before in
-    let m = x .before .before .before in
+    let m = x .before .before .before .before .before in
     let z = m .before .before .before .before .before .before in
     write-ok (z .pre) (m .value-length .ensures .0) (λ q. omega arith) (x .extend .ensures)
 
@@ -48,7 +50,7 @@ add-rounded c = search needs
 
 rounded-requires : tie.Need-rounded-requires
 rounded-requires c κs =
-    let m = c .before .before .before .before .before .before .before .before .before .before in
+    let m = c .before .before .before .before .before .before .before .before .before .before .before .before in
     let z = m .before .before .before .before .before .before in
     omega (arith, lengths (z .pre) (m .value-length .ensures .0))
 
@@ -56,9 +58,10 @@ retire-requires : tie.Need-retire-requires
 retire-requires c κs =
     let y = c .before .before .before .before in
     let x = y .before .before .before .before in
-    let m = x .before .before .before in
+    let e = x .before .before .before in
+    let m = e .before .before in
     let z = m .before .before .before .before .before .before in
-    retire-ok (z .pre) (m .value-length .ensures .0) (λ q. omega arith) (x .extend .ensures) (y .write .ensures) (c .rounded .ensures)
+    retire-ok (z .pre) (m .value-length .ensures .0) (λ q. omega arith) (x .extend .ensures) (y .write .ensures) (c .rounded .ensures) (e .extent .ensures .0)
 
 same-length-2 : tie.Need-same-length-2
 same-length-2 c = search needs
@@ -68,9 +71,10 @@ returns-2 c =
     let r = c .before .before .before in
     let y = r .before .before .before .before in
     let x = y .before .before .before .before in
-    let m = x .before .before .before in
+    let e = x .before .before .before in
+    let m = e .before .before in
     let z = m .before .before .before .before .before .before in
-    ends-other (z .pre) (m .value-length .ensures .0) (λ q. omega arith) (x .extend .ensures) (y .write .ensures) (r .rounded .ensures) (c .before .before .retire .ensures) (λ a. omega (arith, c .slice-known5 .given a))
+    ends-other (z .pre) (m .value-length .ensures .0) (λ q. omega arith) (x .extend .ensures) (y .write .ensures) (r .rounded .ensures) (e .extent .ensures .0) (c .before .before .retire .ensures) (λ a. omega (arith, c .slice-known5 .given a))
 
 pub replace-spec : {M : Type 1} → statement M
 replace-spec =

@@ -11,8 +11,11 @@ key-length-requires c κs = drops-room (c .before .before .pre)
 value-length-requires : tie.Need-value-length-requires
 value-length-requires c κs = drops-room (c .before .before .before .before .pre)
 
+extent-requires : tie.Need-extent-requires
+extent-requires c κs = drops-room (c .before .before .before .before .before .before .pre)
+
 release-requires : tie.Need-release-requires
-release-requires c κs = drops-frees (c .before .before .before .before .before .before .pre)
+release-requires c κs = drops-frees (c .before .before .before .before .before .before .before .before .pre)
 
 add-rounded : tie.Need-add-rounded
 add-rounded c = search needs
@@ -23,9 +26,10 @@ rounded-requires c κs = search needs
 retire-requires : tie.Need-retire-requires
 retire-requires c κs =
     let freed = c .before .before .before .before in
-    let value = freed .before .before in
+    let place = freed .before .before in
+    let value = place .before .before in
     let key = value .before .before in
-    drops-retires (key .before .before .before .pre) (freed .release .ensures) (key .key-length .ensures .0) (value .value-length .ensures .0) (c .rounded .ensures)
+    drops-retires (key .before .before .before .pre) (freed .release .ensures) (key .key-length .ensures .0) (value .value-length .ensures .0) (place .extent .ensures .0) (c .rounded .ensures)
 
 records-requires : tie.Need-records-requires
 records-requires c κs = search needs
@@ -36,9 +40,10 @@ sub-set-records c =
     let retired = records .before .before .before .before in
     let rounded = retired .before in
     let freed = rounded .before .before .before .before in
-    let value = freed .before .before in
+    let place = freed .before .before in
+    let value = place .before .before in
     let key = value .before .before in
-    let some = drops-records (key .before .before .before .pre) (freed .release .ensures) (key .key-length .ensures .0) (value .value-length .ensures .0) (rounded .rounded .ensures) (retired .retire .ensures) in
+    let some = drops-records (key .before .before .before .pre) (freed .release .ensures) (key .key-length .ensures .0) (value .value-length .ensures .0) (place .extent .ensures .0) (rounded .rounded .ensures) (retired .retire .ensures) in
     omega (arith, records .records .ensures .0, some)
 
 set-records-requires : tie.Need-set-records-requires
@@ -54,9 +59,10 @@ returns c =
     let retired = records .before .before .before .before in
     let rounded = retired .before in
     let freed = rounded .before .before .before .before in
-    let value = freed .before .before in
+    let place = freed .before .before in
+    let value = place .before .before in
     let key = value .before .before in
-    drop-law (freed .release .ensures) (key .key-length .ensures .0) (value .value-length .ensures .0) (rounded .rounded .ensures) (retired .retire .ensures) (records .records .ensures .0) (counted .set-records .ensures)
+    drop-law (freed .release .ensures) (key .key-length .ensures .0) (value .value-length .ensures .0) (place .extent .ensures .0) (rounded .rounded .ensures) (retired .retire .ensures) (records .records .ensures .0) (counted .set-records .ensures)
 
 pub drop-leaf-spec : {M : Type 1} → statement M
 drop-leaf-spec =
@@ -64,6 +70,7 @@ drop-leaf-spec =
     (tie.spec
     key-length-requires
     value-length-requires
+    extent-requires
     release-requires
     add-rounded
     rounded-requires

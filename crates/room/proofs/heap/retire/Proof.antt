@@ -18,7 +18,7 @@ same-length : tie.Need-same-length
 same-length c = search needs
 
 returns : tie.Need-returns
-returns c h o rest P own = retire-law P o _ rest own (c .before .before .before .before .dead-bytes .ensures .0) (c .before .before .set-dead-bytes .ensures)
+returns c h rest P own = retire-law P _ _ rest own (c .before .before .before .before .dead-bytes .ensures .0) (c .before .before .set-dead-bytes .ensures)
 
 pub retire-spec : {M : Type 1} → statement M
 retire-spec =
