@@ -47,6 +47,29 @@ pub fn measure(workload: &Workload, task: &Task) -> Measured {
     Measured { plain: median(plain_times), proved: median(proved_times), ratio: median(ratios) }
 }
 
+/// Two ways to do the same in rounds: each round measures both, in changing
+/// order. Gives the medians of both, and of the rounds' own ratios, the second
+/// to the first.
+pub fn alternate(mut first: impl FnMut() -> f64, mut second: impl FnMut() -> f64) -> [f64; 3] {
+    let (mut firsts, mut seconds, mut ratios) = (Vec::new(), Vec::new(), Vec::new());
+    for round in 0..UNCOUNTED_ROUNDS + ROUNDS {
+        let (first_time, second_time);
+        if round % 2 == 1 {
+            second_time = second();
+            first_time = first();
+        } else {
+            first_time = first();
+            second_time = second();
+        }
+        if round >= UNCOUNTED_ROUNDS {
+            firsts.push(first_time);
+            seconds.push(second_time);
+            ratios.push(second_time / first_time);
+        }
+    }
+    [firsts, seconds, ratios].map(median)
+}
+
 fn median(mut values: Vec<f64>) -> f64 {
     values.sort_by(f64::total_cmp);
     values[values.len() / 2]

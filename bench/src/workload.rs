@@ -81,15 +81,7 @@ pub const ABSENT_OF_WIDE: usize = 2;
 pub fn wide(children: usize) -> Workload {
     let (f, n) = (LONGEST_FRAME, MOST_SLOTS);
     let mut random = Random::new(SEED);
-    let spread = |place: usize| 1 + (place * 255 / children) as u8;
-    let mut records = Vec::new();
-    for first in 0..children {
-        for second in 0..children {
-            let key = [&[spread(first), spread(second)], &b"/setting"[..]].concat();
-            let length = random.below(LONGEST_NEW_VALUE);
-            records.push(Record { key, value: random.bytes(length) });
-        }
-    }
+    let mut records = records_of_tree(2, children, &mut random);
     random.shuffle(&mut records);
     let absent = records.split_off(records.len() - ABSENT_OF_WIDE);
     let mut frame = formatted(f, n);
@@ -98,7 +90,46 @@ pub fn wide(children: usize) -> Workload {
     Workload { frame, n, tasks }
 }
 
+/// Records whose keys part at each of the first bytes, into so many children.
+fn records_of_tree(levels: u32, children: usize, random: &mut Random) -> Vec<Record> {
+    let spread = |place: usize| 1 + (place * 255 / children) as u8;
+    (0..children.pow(levels))
+        .map(|leaf| {
+            let places = (0..levels).rev().map(|level| leaf / children.pow(level) % children);
+            let way: Vec<u8> = places.map(spread).collect();
+            let length = random.below(LONGEST_NEW_VALUE);
+            Record { key: [&way[..], b"/setting"].concat(), value: random.bytes(length) }
+        })
+        .collect()
+}
+
+/// Children of every node of the trees that the look-up proper is measured on:
+/// nodes of kind Node16.
+pub const SOUGHT: [usize; 3] = [16, 12, 8];
+
+/// A tree of three levels with so many children at each node: its frame and its
+/// keys.
+pub fn sought(children: usize) -> (Vec<u8>, Vec<Record>) {
+    let records = records_of_tree(3, children, &mut Random::new(SEED));
+    let mut frame = formatted(LONGEST_FRAME, MOST_SLOTS);
+    assert_eq!(puts_until_no_room(&mut frame, &records), None, "the longest frame has room");
+    (frame, records)
+}
+
+/// A full frame of the longest length and its keys, which are text.
+pub fn sought_text() -> (Vec<u8>, Vec<Record>) {
+    let (records, _, frame) = filled(LONGEST_FRAME, MOST_SLOTS, Fill::Full);
+    (frame, records)
+}
+
 pub fn workload(f: usize, n: usize, fill: Fill) -> Workload {
+    let (records, absent, frame) = filled(f, n, fill);
+    let tasks = tasks(&frame, n, &records, &absent);
+    Workload { frame, n, tasks }
+}
+
+/// Records that are in the frame, some that are not, and the frame.
+fn filled(f: usize, n: usize, fill: Fill) -> (Vec<Record>, Vec<Record>, Vec<u8>) {
     let mut random = Random::new(SEED);
     let mut records = all_records(&mut random);
     let most = puts_until_no_room(&mut formatted(f, n), &records);
@@ -107,8 +138,7 @@ pub fn workload(f: usize, n: usize, fill: Fill) -> Workload {
     let mut frame = formatted(f, n);
     let refused = puts_until_no_room(&mut frame, &records);
     assert_eq!(refused, None, "fewer records than a full frame's have room");
-    let tasks = tasks(&frame, n, &records, &absent);
-    Workload { frame, n, tasks }
+    (records, absent, frame)
 }
 
 fn formatted(f: usize, n: usize) -> Vec<u8> {
