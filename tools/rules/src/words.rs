@@ -123,13 +123,13 @@ pub fn told(frame: &[u8], rule: Rule, place: &Place) -> String {
 
 /// Why the lengths are refused, of bytes whose lengths do not agree.
 pub fn told_lengths(frame: &[u8]) -> String {
-    if frame_length_allowed(frame.len()) {
-        let stored = get32(frame, AT_F);
-        format!(
-            "F is the slice's length: bytes 4 to 7: F is {stored}, the slice has {}",
-            frame.len()
-        )
-    } else {
-        format!("F is a multiple of 8 from 1,024 to 524,288: the slice has {}", frame.len())
+    let limits = "F is a multiple of 8 from 1,024 to 524,288";
+    match frame.len() {
+        more if more > LONGEST_FRAME => format!("{limits}: there are more bytes"),
+        length if !frame_length_allowed(length) => format!("{limits}: there are {length} bytes"),
+        length => {
+            let stored = get32(frame, AT_F);
+            format!("F is the frame's length: bytes 4 to 7: F is {stored}, and there are {length} bytes")
+        }
     }
 }

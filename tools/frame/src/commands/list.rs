@@ -1,0 +1,48 @@
+//! `frame list`: names in byte order.
+
+use crate::args::Given;
+use crate::ended::Ended;
+use crate::image;
+use crate::names::{self, Asked, Entry};
+use crate::output;
+use crate::text;
+
+/// Ends a raw name: no key holds it.
+const END: u8 = 0;
+
+pub fn run(given: &Given) -> Result<(), Ended> {
+    let path = given.path(0);
+    let delimiter = match given.bytes_option("--delimiter")?.as_deref() {
+        None => None,
+        Some([byte]) => Some(*byte),
+        Some(_) => return Err(given.wrong("--delimiter is one byte")),
+    };
+    let prefix = given.bytes_operand(1)?.unwrap_or_default();
+    let asked = Asked { prefix, delimiter, after: given.bytes_option("--after")? };
+    let frame = image::open(path)?;
+    let refused = |refusal: frame_store::Refusal| {
+        Ended::at(path, format!("list refused (answer {}): {refusal}", refusal.number()))
+    };
+    let mut listed = Vec::new();
+    for entry in names::entries(&frame, &asked).map_err(refused)? {
+        if given.flag("--long") {
+            let place = match &entry {
+                Entry::Name(key) => frame.place(key).map_err(refused)?,
+                Entry::Group(_) => None,
+            };
+            let columns = match place {
+                Some(place) => format!("{:>5} {:>6}  ", place.len(), place.start),
+                None => format!("{:>5} {:>6}  ", "-", "-"),
+            };
+            listed.extend(columns.bytes());
+        }
+        if given.flag("--raw") {
+            listed.extend(entry.text());
+            listed.push(END);
+        } else {
+            listed.extend(text::shown(entry.text(), b"").bytes());
+            listed.push(b'\n');
+        }
+    }
+    output::write(&listed)
+}
