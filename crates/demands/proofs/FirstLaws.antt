@@ -11,10 +11,11 @@ use borrow.Author.Tests.{eq-eqb}
 use Rattle.model.specs.Strings.{pick, hasZero}
 use Rattle.model.specs.Edition.{edition1}
 use Rattle.model.specs.Frame.{Good}
+use Rattle.model.specs.Order.{InOrder}
 use Rattle.model.specs.Promise.{LengthOk, Told}
 use Rattle.model.proofs.StringLaws.{bool-cases, eqb-cases, ltb-cases, clash}
 use Rattle.model.proofs.Edition1.{zero-free, positive-at}
-use Rattle.demands.specs.Words.{Ground, OneOf, FirstOf, wrongLength, notGood, keyLength, keyZero}
+use Rattle.demands.specs.Words.{Ground, OneOf, InTurn, numbersOf, FirstOf, wrongLength, notGood, keyLength, keyZero}
 
 -- ---- the first that applies, decided one after another
 
@@ -51,7 +52,7 @@ distinct-head n ns t = bool-cases (fresh n ns) (λ u. u) (λ u. clash (let z = r
 distinct-tail : (n : ℕ) (ns : List ℕ) → distinct (n ∷ ns) ≡ true → distinct ns ≡ true
 distinct-tail n ns t = bool-cases (fresh n ns) (λ u. rw u at t) (λ u. clash (let z = rw u at t in cc))
 
-pub first : (gs : List Ground) (answers : List ℕ) (n : ℕ) → distinct (numbers gs answers) ≡ true → Given gs answers n → FirstOf gs answers n
+pub first : (gs : List Ground) (answers : List ℕ) (n : ℕ) → distinct (numbers gs answers) ≡ true → Given gs answers n → InTurn gs answers n
 first [] answers n t h = h
 first (g ∷ gs) answers n t (inl h) = ((λ e. h .0, λ a. h .1), λ x. absurd (x (h .0)))
 first (g ∷ gs) answers n t (inr h) = (
@@ -61,9 +62,9 @@ first (g ∷ gs) answers n t (inr h) = (
 
 -- ---- 1 and 2: what the number says of the frame
 
-pub frame-first : (f : List ℕ) (gs : List Ground) (answers : List ℕ) (n : ℕ) → distinct (1 ∷ 2 ∷ numbers gs answers) ≡ true → Told edition1 f n
+pub frame-first : (f : List ℕ) (gs : List Ground) (answers : List ℕ) (n : ℕ) → InOrder (1 ∷ 2 ∷ numbersOf gs) → distinct (1 ∷ 2 ∷ numbers gs answers) ≡ true → Told edition1 f n
     → (Good edition1 f → Given gs answers n) → FirstOf (wrongLength f ∷ notGood f ∷ gs) answers n
-frame-first f gs answers n t told h = ((one, told .length1), λ fits. ((two, is2 fits), λ good. first gs answers n t2 (h (told .good (λ e. fits (one e)) (λ e. good (two e))))))
+frame-first f gs answers n o t told h = (o, ((one, told .length1), λ fits. ((two, is2 fits), λ good. first gs answers n t2 (h (told .good (λ e. fits (one e)) (λ e. good (two e)))))))
   where
     t1 : distinct (2 ∷ numbers gs answers) ≡ true
     t1 = distinct-tail 1 (2 ∷ numbers gs answers) t

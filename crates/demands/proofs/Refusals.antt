@@ -78,33 +78,33 @@ write-given a f k v n s P answers bk bv w x y e ends =
 pub demand1 : Demand1
 demand1 = record {
   format = λ f len cap n f' p. (
-    ((λ e ok. (let z = p .done0 ok .0 in omega arith), λ x. p .limits1 x .0), λ ok. eqb-cases n 0 (λ t q. inl q) (λ t q. absurd (ok (λ x. q (p .done0 x .0))))),
+    (refl, ((λ e ok. (let z = p .done0 ok .0 in omega arith), λ x. p .limits1 x .0), λ ok. eqb-cases n 0 (λ t q. inl q) (λ t q. absurd (ok (λ x. q (p .done0 x .0)))))),
     λ r. eqb-cases n 0 (λ t q. absurd (refused-not0 n r q)) (λ t q. p .limits1 (λ x. q (p .done0 x .0)) .1),
   );
-  check = λ f n p. frame-first f [] (0 ∷ []) n refl (p .told) (λ g. inl (p .good0 g));
+  check = λ f n p. frame-first f [] (0 ∷ []) n refl refl (p .told) (λ g. inl (p .good0 g));
   lookUp = λ f k g p. (
-    frame-first f (keyLength k ∷ keyZero k ∷ []) (0 ∷ 8 ∷ []) (g .number) refl (p .told) (look-given f k g p),
+    frame-first f (keyLength k ∷ keyZero k ∷ []) (0 ∷ 8 ∷ []) (g .number) refl refl (p .told) (look-given f k g p),
     λ r. let z = p .zeros (refused-not0 (g .number) r) in let u = p .unvisited (refused-not0 (g .number) r) (refused-not8 (g .number) r) in
         λ i. record { number = g .number; place = z .0 i; long = z .1 i; slots = u i },
   );
   value = λ f k at part h. let p = h .looked in let g = h .look in (
-    frame-first f (keyLength k ∷ keyZero k ∷ []) (0 ∷ 8 ∷ []) (g .number) refl (p .told) (look-given f k g p),
+    frame-first f (keyLength k ∷ keyZero k ∷ []) (0 ∷ 8 ∷ []) (g .number) refl refl (p .told) (look-given f k g p),
     λ r. let z = p .zeros (refused-not0 (g .number) r) in (h .starts ∙ z .0, h .holds ∙ rw (z .1)),
   );
   put = λ f k v n f' bk bv p. (
-    frame-first f (keyLength k ∷ keyZero k ∷ valueLong v ∷ putFull f k v ∷ []) (0 ∷ 11 ∷ []) n refl (p .told)
+    frame-first f (keyLength k ∷ keyZero k ∷ valueLong v ∷ putFull f k v ∷ []) (0 ∷ 11 ∷ []) n refl refl (p .told)
         (λ g. write-given new f k v n (g .0) (λ z. PutFull edition1 z k v) (0 ∷ 11 ∷ []) bk bv (g .1) (inr (inl refl)) (inl refl) (p .answer (g .0) (g .1))
         (new-ends lawful1 (g .0) k v (stands-good edition1 f (g .0) (g .1)))),
     λ r. p .kept (unchanging n r),
   );
   replace = λ f k v n f' bk bv p. (
-    frame-first f (keyLength k ∷ keyZero k ∷ valueLong v ∷ replaceFull f k v ∷ []) (9 ∷ 8 ∷ []) n refl (p .told)
+    frame-first f (keyLength k ∷ keyZero k ∷ valueLong v ∷ replaceFull f k v ∷ []) (9 ∷ 8 ∷ []) n refl refl (p .told)
         (λ g. write-given replacing f k v n (g .0) (λ z. ReplaceFull edition1 z k v) (9 ∷ 8 ∷ []) bk bv (g .1) (inr (inl refl)) (inl refl) (p .answer (g .0) (g .1))
         (replace-ends lawful1 (g .0) k v (stands-good edition1 f (g .0) (g .1)))),
     λ r. p .kept (unchanging n r),
   );
   erase = λ f k n f' b p. (
-    frame-first f (keyLength k ∷ keyZero k ∷ eraseFull f k ∷ []) (0 ∷ 8 ∷ []) n refl (p .told)
+    frame-first f (keyLength k ∷ keyZero k ∷ eraseFull f k ∷ []) (0 ∷ 8 ∷ []) n refl refl (p .told)
         (λ g. let s = g .0 in let e = p .answer s (g .1) in let d = callErase edition1 s k in
         key-given k n (eraseFull f k ∷ []) (0 ∷ 8 ∷ [])
         (λ x. e ∙ ap (λ (z : Done). z .answer) (faulty (edition1 .keyFault k) s d x))
@@ -113,7 +113,7 @@ demand1 = record {
     λ r. p .kept (unchanging n r),
   );
   pack = λ f o n o' p. (
-    frame-first f (outputLength f o ∷ []) (0 ∷ []) n refl (p .told)
+    frame-first f (outputLength f o ∷ []) (0 ∷ []) n refl refl (p .told)
         (λ g. eqb-cases (length o) (length f)
         (λ t q. inr (λ x. x q, inl (p .packed0 (g .0) (g .1) q .0)))
         (λ t q. inl (q, p .output7 g q))),

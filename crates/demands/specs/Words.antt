@@ -15,6 +15,7 @@ use Rattle.model.specs.Records.{Record, recordsOf, lookup}
 use Rattle.model.specs.State.{State, freshSlots, freshBytes, putChange, eraseChange}
 use Rattle.model.specs.Frame.{Stands, Good}
 use Rattle.model.specs.Order.{isRefusal}
+use Rattle.model.specs.Order.{InOrder}
 use Rattle.model.specs.Promise.{LengthOk, FormatOk}
 use Rattle.model.specs.Call.{Call, put, replace, erase}
 
@@ -36,11 +37,20 @@ abbrev pub OneOf : ℕ → List ℕ → Type 0
 OneOf n [] = ⊥
 OneOf n (m ∷ ms) = (n ≡ m) ⊎ OneOf n ms
 
--- "The first refusal that applies in the order .. is given; 0, 8 and 9 only if none applies": grounds in their order, and the answers that
--- the call has besides. The first ground's number is given exactly if it applies; if it does not, the others decide in the same way.
+-- The first ground's number is given exactly if it applies; if it does not, the others decide in the same way, and if none applies, it is
+-- one of the answers that the call has besides.
+abbrev pub InTurn : List Ground → List ℕ → ℕ → Type 0
+InTurn [] answers n = OneOf n answers
+InTurn (g ∷ gs) answers n = ((n ≡ g .number) ↔ g .applies) × ((g .applies → ⊥) → InTurn gs answers n)
+
+abbrev pub numbersOf : List Ground → List ℕ
+numbersOf [] = []
+numbersOf (g ∷ gs) = g .number ∷ numbersOf gs
+
+-- "The first refusal that applies in the order .. is given; 0, 8 and 9 only if none applies": a call's grounds, taken from the one order of
+-- all refusals (model: Order), and its answers
 abbrev pub FirstOf : List Ground → List ℕ → ℕ → Type 0
-FirstOf [] answers n = OneOf n answers
-FirstOf (g ∷ gs) answers n = ((n ≡ g .number) ↔ g .applies) × ((g .applies → ⊥) → FirstOf gs answers n)
+FirstOf gs answers n = InOrder (numbersOf gs) × InTurn gs answers n
 
 -- "F or N against the limits (D + 8 above F among them), or the slice length"
 abbrev pub wrongLimits : List ℕ → ℕ → ℕ → Ground
