@@ -9,8 +9,9 @@
  * Every number that a call can give:
  *
  *   0  FRAME_DONE          done; for put, the key was new
- *   9  FRAME_REPLACED      put: done, the key was there and has the new value now
- *   8  FRAME_ABSENT        look-up, erase: no such key; nothing changed
+ *   9  FRAME_REPLACED      replace: done, the key has the new value now
+ *   8  FRAME_ABSENT        look-up, replace, erase: no such key; nothing changed
+ *  11  FRAME_PRESENT       put: the key is there already, with the value that it had; nothing changed
  *   1  FRAME_BAD_LENGTH    format: F or N against the limits, or frame_len is not F; else: frame_len is no F that a frame can have,
  *                          or is not the F that the frame holds
  *   2  FRAME_NOT_GOOD      the bytes are not a good frame
@@ -20,7 +21,8 @@
  *   7  FRAME_OUT_LENGTH    pack: the output is not as long as the frame
  *   6  FRAME_NO_ROOM       not enough slots or bytes are left for what the call needs
  *
- * 1 to 7 are refusals: nothing was changed, not one byte. If several apply, the first in the order 1, 2, 3, 4, 5, 7, 6 is given.
+ * 1 to 7 are refusals: nothing was changed, not one byte. If several apply, the first in the order 1, 2, 3, 4, 5, 7, 6 is given;
+ * 0, 8, 9 and 11 only if none applies.
  *
  * Every call but format begins with a check of the whole frame, so any bytes may be lent: what is not a good frame is answered 2.
  * The check looks at how a frame is built, not at what the records say: bytes that were changed on the way can be a good frame with
@@ -36,7 +38,7 @@
  * What the caller answers for, because no call can test it:
  *   - each pointer leads to as many bytes (for place_and_len and counts: numbers) as the length after it says, and is not NULL even
  *     if that length is 0;
- *   - what is lent for writing (frame in format, put and erase; place_and_len; out; counts) overlaps nothing else that is lent to the
+ *   - what is lent for writing (frame in format, put, replace and erase; place_and_len; out; counts) overlaps nothing else that is lent to the
  *     same call: key and value do not lie in the frame that is written, and out is not the frame;
  *   - nobody else writes to lent bytes during the call, nor reads those that the call writes.
  */
@@ -63,7 +65,8 @@ enum {
     FRAME_NO_ROOM = 6,
     FRAME_OUT_LENGTH = 7,
     FRAME_ABSENT = 8,
-    FRAME_REPLACED = 9
+    FRAME_REPLACED = 9,
+    FRAME_PRESENT = 11
 };
 
 /* Makes an empty frame of f bytes with n slots out of whatever stands there. frame_len is f. Gives 0 or 1. */
@@ -76,7 +79,7 @@ uint32_t frame_check(const uint8_t *frame, frame_length frame_len);
  * Finds a record. Gives 0, 8, or a refusal of 1 to 4. Reads only.
  * place_and_len has room for two numbers, and two is 2: then place_and_len[0] is where the value begins, counted in bytes from the
  * frame's start, and place_and_len[1] is its length; 8 sets both to 0. If the call is refused, or two is not 2, nothing is written
- * there. The value is frame + place_and_len[0]; it stands there until the next put or erase.
+ * there. The value is frame + place_and_len[0]; it stands there until the next put, replace or erase.
  */
 uint32_t frame_look_up(const uint8_t *frame, frame_length frame_len, const uint8_t *key, frame_length key_len,
                        uint64_t *place_and_len, frame_length two);
@@ -99,12 +102,19 @@ static inline uint32_t frame_find(const uint8_t *frame, frame_length frame_len, 
 }
 
 /*
- * Puts a record, new or in place of the one with this key. Gives 0, 9, or a refusal of 1 to 6. Neither key nor value may lie in the
- * frame: a value that was found in it is copied out before it is put under another key. A value of another length needs room beside
- * the old one, even if it is shorter; the old one's bytes are free only after a pack.
+ * Puts a new record. Gives 0, 11 if the key is there already, or a refusal of 1 to 6; 11 changes nothing, needs no room and so is never
+ * a 6. Neither key nor value may lie in the frame: a value that was found in it is copied out before it is put under another key.
  */
 uint32_t frame_put(uint8_t *frame, frame_length frame_len, const uint8_t *key, frame_length key_len, const uint8_t *value,
                    frame_length value_len);
+
+/*
+ * Gives the record with this key another value. Gives 9, 8 if there is no such key, or a refusal of 1 to 6; 8 changes nothing and is
+ * never a 6. Key and value as for put. A value of another length needs room beside the old one, even if it is shorter; the old one's
+ * bytes are free only after a pack. To set a value whether the key is there or not, put, and replace if that gives 11.
+ */
+uint32_t frame_replace(uint8_t *frame, frame_length frame_len, const uint8_t *key, frame_length key_len, const uint8_t *value,
+                       frame_length value_len);
 
 /* Takes a record out. Gives 0, 8, or a refusal of 1 to 4 or 6: an erase can need room, for a smaller node or a longer prefix. */
 uint32_t frame_erase(uint8_t *frame, frame_length frame_len, const uint8_t *key, frame_length key_len);

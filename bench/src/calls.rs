@@ -1,4 +1,4 @@
-//! The six calls of both stores behind one type of function, so that they are
+//! The calls of both stores behind one type of function, so that they are
 //! measured in the same way.
 //!
 //! Trusted here: the C declarations of the exported calls. The bindings link
@@ -7,20 +7,28 @@
 use crate::plain;
 use frame_store as _;
 
-/// A public call of document 01.
+/// A public call.
 #[derive(Clone, Copy, PartialEq, Eq, Debug)]
 pub enum Call {
     Format,
     Check,
     LookUp,
     Put,
+    Replace,
     Erase,
     Pack,
 }
 
 impl Call {
-    pub const ALL: [Call; 6] =
-        [Call::Format, Call::Check, Call::LookUp, Call::Put, Call::Erase, Call::Pack];
+    pub const ALL: [Call; 7] = [
+        Call::Format,
+        Call::Check,
+        Call::LookUp,
+        Call::Put,
+        Call::Replace,
+        Call::Erase,
+        Call::Pack,
+    ];
 
     pub fn name(self) -> &'static str {
         match self {
@@ -28,6 +36,7 @@ impl Call {
             Call::Check => "check",
             Call::LookUp => "look-up",
             Call::Put => "put",
+            Call::Replace => "replace",
             Call::Erase => "erase",
             Call::Pack => "pack",
         }
@@ -35,7 +44,7 @@ impl Call {
 
     /// Whether the frame has to be restored before the call can be repeated.
     pub fn changes_frame(self) -> bool {
-        matches!(self, Call::Put | Call::Erase)
+        matches!(self, Call::Put | Call::Replace | Call::Erase)
     }
 }
 
@@ -65,6 +74,7 @@ pub fn plain(call: Call) -> Function {
             number
         },
         Call::Put => |lent| plain::put(lent.frame, lent.key, lent.value),
+        Call::Replace => |lent| plain::replace(lent.frame, lent.key, lent.value),
         Call::Erase => |lent| plain::erase(lent.frame, lent.key),
         Call::Pack => |lent| plain::pack(lent.frame, lent.out),
     }
@@ -92,6 +102,16 @@ pub fn proved(call: Call) -> Function {
         },
         Call::Put => |lent| unsafe {
             exported::frame_put(
+                lent.frame.as_mut_ptr(),
+                lent.frame.len(),
+                lent.key.as_ptr(),
+                lent.key.len(),
+                lent.value.as_ptr(),
+                lent.value.len(),
+            )
+        },
+        Call::Replace => |lent| unsafe {
+            exported::frame_replace(
                 lent.frame.as_mut_ptr(),
                 lent.frame.len(),
                 lent.key.as_ptr(),
@@ -129,6 +149,14 @@ mod exported {
             numbers: usize,
         ) -> u32;
         pub fn frame_put(
+            frame: *mut u8,
+            length: usize,
+            key: *const u8,
+            key_length: usize,
+            value: *const u8,
+            value_length: usize,
+        ) -> u32;
+        pub fn frame_replace(
             frame: *mut u8,
             length: usize,
             key: *const u8,

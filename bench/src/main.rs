@@ -38,7 +38,7 @@ fn wide_times() {
 
 fn times_head(what: &str) {
     println!(
-        "{:<18} {:>7} {:<6} {:>6} {:>10} {:>10} {:>6} {:>10} {:>11}",
+        "{:<22} {:>7} {:<6} {:>6} {:>10} {:>10} {:>6} {:>10} {:>11}",
         "call", "F", what, "slots", "ns plain", "ns proved", "ratio", "plain/slot", "proved/slot"
     );
 }
@@ -48,7 +48,7 @@ fn times_of(workload: &Workload, what: &str) {
     for task in &workload.tasks {
         let measured = measure(workload, task);
         println!(
-            "{:<18} {:>7} {:<6} {:>6} {:>10.0} {:>10.0} {:>6.2} {:>10.1} {:>11.1}",
+            "{:<22} {:>7} {:<6} {:>6} {:>10.0} {:>10.0} {:>6.2} {:>10.1} {:>11.1}",
             task.name,
             workload.frame.len(),
             what,

@@ -1,6 +1,7 @@
-//! The plain store: document 01 in Rust without proofs, written for speed.
+//! The plain store: documents 01 and 02 in Rust without proofs, written for
+//! speed.
 //!
-//! The six public calls over a lent frame. Each call on an existing frame
+//! The public calls over a lent frame. Each call on an existing frame
 //! begins with the whole check (refusals 1 and 2) and then works in place,
 //! without a heap.
 
@@ -10,7 +11,7 @@ pub mod layout;
 mod pack;
 mod walk;
 
-pub use change::{erase, put};
+pub use change::{erase, put, replace};
 pub use check::check;
 pub use pack::pack;
 

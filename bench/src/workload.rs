@@ -190,8 +190,8 @@ fn tasks(frame: &[u8], n: usize, present: &[Record], absent: &[Record]) -> Vec<T
         ("look-up, present", Call::LookUp, DONE, keys(present)),
         ("look-up, absent", Call::LookUp, ABSENT, keys(absent)),
         ("put, new", Call::Put, DONE, with(absent, same)),
-        ("put, same length", Call::Put, REPLACED, with(present, same_length)),
-        ("put, other length", Call::Put, REPLACED, with(present, other_length)),
+        ("replace, same length", Call::Replace, REPLACED, with(present, same_length)),
+        ("replace, other length", Call::Replace, REPLACED, with(present, other_length)),
         ("erase", Call::Erase, DONE, keys(present)),
         ("pack", Call::Pack, DONE, nothing()),
     ];

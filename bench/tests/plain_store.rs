@@ -22,6 +22,9 @@ impl Calls for Plain {
     fn put(&self, frame: &mut [u8], key: &[u8], value: &[u8]) -> u32 {
         plain::put(frame, key, value)
     }
+    fn replace(&self, frame: &mut [u8], key: &[u8], value: &[u8]) -> u32 {
+        plain::replace(frame, key, value)
+    }
     fn erase(&self, frame: &mut [u8], key: &[u8]) -> u32 {
         plain::erase(frame, key)
     }

@@ -44,6 +44,7 @@ fn gives_the_numbers_it_tells(workload: &Workload, what: &str) {
             Call::Check => check(&frame),
             Call::LookUp => store::look_up(&frame, &input.key).0,
             Call::Put => store::put(&mut frame, &input.key, &input.value),
+            Call::Replace => store::replace(&mut frame, &input.key, &input.value),
             Call::Erase => store::erase(&mut frame, &input.key),
             Call::Pack => store::pack(&frame, &mut vec![0; f]),
         };

@@ -1,5 +1,5 @@
 /*
- * A frame of 1,024 bytes with 8 slots: three settings put, one read, one erased, the rest packed, and how full the frame is before and
+ * A frame of 1,024 bytes with 8 slots: three settings put, one replaced, one read, one erased, the rest packed, and how full the frame is before and
  * after that. README.md says how to build it.
  */
 #include <stdio.h>
@@ -18,6 +18,11 @@ static const uint8_t *bytes(const char *text) { return (const uint8_t *)text; }
 static void put(const char *key, const char *value) {
     uint32_t given = frame_put(frame, F, bytes(key), strlen(key), bytes(value), strlen(value));
     printf("put %s=%s: %u\n", key, value, (unsigned)given);
+}
+
+static void replace(const char *key, const char *value) {
+    uint32_t given = frame_replace(frame, F, bytes(key), strlen(key), bytes(value), strlen(value));
+    printf("replace %s=%s: %u\n", key, value, (unsigned)given);
 }
 
 static void show(const uint8_t *from, const char *key) {
@@ -46,7 +51,9 @@ int main(void) {
     put("line.rate", "100");
     put("line.mode", "vdsl");
     put("host", "modem");
-    put("line.mode", "adsl");
+    put("line.mode", "adsl"); /* it is there: nothing changes */
+    show(frame, "line.mode");
+    replace("line.mode", "adsl");
     show(frame, "line.mode");
     printf("erase host: %u\n", (unsigned)frame_erase(frame, F, bytes("host"), 4));
     show(frame, "host");

@@ -111,13 +111,18 @@ static uint32_t compact(void) {
     return given;
 }
 
-/* One attempt at a change: no value is an erase. */
+/* One attempt at a change: no value is an erase; a value is put, or replaces the one that is there. */
 static uint32_t attempt(const char *key, const char *value) {
-    const uint8_t *k = (const uint8_t *)key;
+    const uint8_t *k = (const uint8_t *)key, *v = (const uint8_t *)value;
+    uint32_t given;
     if (value == NULL) {
         return frame_erase(frame, F, k, strlen(key));
     }
-    return frame_put(frame, F, k, strlen(key), (const uint8_t *)value, strlen(value));
+    given = frame_put(frame, F, k, strlen(key), v, strlen(value));
+    if (given == FRAME_PRESENT) {
+        given = frame_replace(frame, F, k, strlen(key), v, strlen(value));
+    }
+    return given;
 }
 
 /* What is dead may be what is lacking: after a 6 the frame is packed and the change is tried once more. */

@@ -1,4 +1,4 @@
-//! Put and erase, in place in a good frame.
+//! Put, replacement and erase, in place in a good frame.
 //!
 //! Each case names the bodies it needs and compares them with the room left
 //! before it writes anything. What a call frees goes on its list last.
@@ -12,16 +12,13 @@ use super::{format, refusal};
 const MOST_CARRIED: usize = MOST_CHILDREN[NODE48];
 
 pub fn put(frame: &mut [u8], key: &[u8], value: &[u8]) -> u32 {
-    match refusal(frame, key) {
+    match refusal_with_value(frame, key, value) {
         DONE => {}
         refused => return refused,
     }
-    if value.len() > LONGEST_VALUE {
-        return VALUE_LENGTH;
-    }
     let end = walk(frame, key).end;
-    if let Some(leaf) = present(frame, &end, key) {
-        return replace_value(frame, &end, &leaf, key, value);
+    if present(frame, &end, key).is_some() {
+        return PRESENT;
     }
     let added = match end.kind {
         EMPTY_ROOT => replace_empty_root(frame, &end, key, value),
@@ -35,6 +32,26 @@ pub fn put(frame: &mut [u8], key: &[u8], value: &[u8]) -> u32 {
             add32(frame, AT_R, 1);
             DONE
         }
+    }
+}
+
+pub fn replace(frame: &mut [u8], key: &[u8], value: &[u8]) -> u32 {
+    match refusal_with_value(frame, key, value) {
+        DONE => {}
+        refused => return refused,
+    }
+    let end = walk(frame, key).end;
+    match present(frame, &end, key) {
+        None => ABSENT,
+        Some(leaf) => replace_value(frame, &end, &leaf, key, value),
+    }
+}
+
+/// Refusals 1 to 5, in their order.
+fn refusal_with_value(frame: &[u8], key: &[u8], value: &[u8]) -> u32 {
+    match refusal(frame, key) {
+        DONE if value.len() > LONGEST_VALUE => VALUE_LENGTH,
+        told => told,
     }
 }
 
@@ -61,7 +78,7 @@ pub fn erase(frame: &mut [u8], key: &[u8]) -> u32 {
     DONE
 }
 
-// The cases of put.
+// Replacement, and the cases of put.
 
 fn replace_value(frame: &mut [u8], end: &Step, leaf: &LeafFields, key: &[u8], value: &[u8]) -> u32 {
     if leaf.value_length == value.len() {

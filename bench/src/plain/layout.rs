@@ -99,6 +99,7 @@ pub mod number {
     pub const OUTPUT_LENGTH: u32 = 7;
     pub const ABSENT: u32 = 8;
     pub const REPLACED: u32 = 9;
+    pub const PRESENT: u32 = 11;
 }
 
 #[inline(always)]

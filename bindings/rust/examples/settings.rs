@@ -1,4 +1,4 @@
-//! Settings of a modem in a frame of 1,024 bytes: put, read, erased, packed, and read again from the packed bytes.
+//! Settings of a modem in a frame of 1,024 bytes: put, replaced, read, erased, packed, and read again from the packed bytes.
 #![forbid(unsafe_code)]
 
 use frame_store::{Frame, Refusal, View};
@@ -10,6 +10,7 @@ fn main() -> Result<(), Refusal> {
         println!("put {key}={value}: {:?}", frame.put(key.as_bytes(), value.as_bytes())?);
     }
     println!("put line.mode=adsl: {:?}", frame.put(b"line.mode", b"adsl")?);
+    println!("replace line.mode=adsl: {:?}", frame.replace(b"line.mode", b"adsl")?);
     show(frame.view(), "line.mode")?;
     println!("erase host: {:?}", frame.erase(b"host")?);
     show(frame.view(), "host")?;

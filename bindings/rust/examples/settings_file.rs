@@ -15,7 +15,7 @@
 //! It ends with 0; 1: no such key; 2: refused, nothing was saved; 3: no generation stands; 4: the file cannot be read or written.
 #![forbid(unsafe_code)]
 
-use frame_store::{check, Erase, Frame, Refusal};
+use frame_store::{check, Erase, Frame, Put, Refusal};
 use std::fs::{File, OpenOptions};
 use std::io::{self, Read, Seek, SeekFrom, Write};
 use std::process::ExitCode;
@@ -145,8 +145,12 @@ impl Settings {
         }
     }
 
+    /// New, or in the place of what is there: a put alone does not replace.
     fn set(&mut self, key: &[u8], value: &[u8]) -> Result<(), Ended> {
-        let (frame, _) = self.change(|frame| frame.put(key, value))?;
+        let (frame, _) = self.change(|frame| match frame.put(key, value)? {
+            Put::New => Ok(()),
+            Put::Present => frame.replace(key, value).map(|_| ()),
+        })?;
         self.save(frame)
     }
 

@@ -33,6 +33,14 @@ mod c {
             value: *const u8,
             value_len: Length,
         ) -> u32;
+        pub fn frame_replace(
+            frame: *mut u8,
+            frame_len: Length,
+            key: *const u8,
+            key_len: Length,
+            value: *const u8,
+            value_len: Length,
+        ) -> u32;
         pub fn frame_erase(
             frame: *mut u8,
             frame_len: Length,
@@ -77,6 +85,13 @@ pub fn put(frame: &mut [u8], key: &[u8], value: &[u8]) -> u32 {
     let (key_len, value_len) = (length(key.len()), length(value.len()));
     let lent = frame.as_mut_ptr();
     unsafe { c::frame_put(lent, frame_len, key.as_ptr(), key_len, value.as_ptr(), value_len) }
+}
+
+pub fn replace(frame: &mut [u8], key: &[u8], value: &[u8]) -> u32 {
+    let frame_len = length(frame.len());
+    let (key_len, value_len) = (length(key.len()), length(value.len()));
+    let lent = frame.as_mut_ptr();
+    unsafe { c::frame_replace(lent, frame_len, key.as_ptr(), key_len, value.as_ptr(), value_len) }
 }
 
 pub fn erase(frame: &mut [u8], key: &[u8]) -> u32 {

@@ -1,16 +1,17 @@
-//! A settings store in one lent frame of bytes: named records that are put, looked up, erased and packed by proved calls.
+//! A settings store in one lent frame of bytes: named records that are put, replaced, looked up, erased and packed by proved calls.
 //!
 //! A frame has F bytes, a multiple of 8 from 1,024 to 524,288, and N slots, an even number from 8 to 10,240; 64 + 4 N + 8 is at
 //! most F. A key has 1 to 112 bytes, none of them 0. A value has 0 to 65,535 bytes. Nothing is allocated, and everything that is
 //! kept stands in the frame: store its bytes anywhere, and [`Frame::open`] them again later.
 //!
 //! ```
-//! use frame_store::{Erase, Frame, Put, Refusal};
+//! use frame_store::{Erase, Frame, Put, Refusal, Replace};
 //!
 //! let mut bytes = [0; 1024];
 //! let mut frame = Frame::format(&mut bytes, 8)?;
 //! assert_eq!(frame.put(b"line.rate", b"100")?, Put::New);
-//! assert_eq!(frame.put(b"line.rate", b"250")?, Put::Replaced);
+//! assert_eq!(frame.put(b"line.rate", b"250")?, Put::Present, "and the value stays");
+//! assert_eq!(frame.replace(b"line.rate", b"250")?, Replace::Done);
 //! assert_eq!(frame.look_up(b"line.rate")?, Some(&b"250"[..]));
 //! assert_eq!(frame.erase(b"line.mode")?, Erase::Absent);
 //! assert_eq!(frame.put(b"", b"100"), Err(Refusal::KeyLength));
@@ -105,8 +106,17 @@ impl core::error::Error for Refusal {}
 pub enum Put {
     /// 0: the key was new.
     New,
-    /// 9: the key was there, and has the new value now.
-    Replaced,
+    /// 11: the key is there already, with the value that it had. Nothing was changed.
+    Present,
+}
+
+/// What a replacement did.
+#[derive(Clone, Copy, PartialEq, Eq, Hash, Debug)]
+pub enum Replace {
+    /// 9: the key has the new value now.
+    Done,
+    /// 8: there is no such key. Nothing was changed.
+    Absent,
 }
 
 /// What an erase did.
@@ -114,7 +124,7 @@ pub enum Put {
 pub enum Erase {
     /// 0: the record is gone.
     Done,
-    /// 8: there was no such key.
+    /// 8: there is no such key. Nothing was changed.
     Absent,
 }
 
@@ -202,6 +212,7 @@ const NODE256: usize = 6;
 const DONE: u32 = 0;
 const ABSENT: u32 = 8;
 const REPLACED: u32 = 9;
+const PRESENT: u32 = 11;
 
 /// A frame in borrowed bytes, to read.
 #[derive(Clone, Copy)]
@@ -303,12 +314,21 @@ impl<B: AsRef<[u8]> + AsMut<[u8]>> Frame<B> {
         Frame { bytes }
     }
 
-    /// Puts a record, new or in place of the one with this key. With a value of another length the old one's bytes are not free
-    /// before the frame is packed.
+    /// Puts a new record. If the key is there already, nothing is changed: [`Frame::replace`] gives it another value.
     pub fn put(&mut self, key: &[u8], value: &[u8]) -> Result<Put, Refusal> {
         match calls::put(self.bytes.as_mut(), key, value) {
             DONE => Ok(Put::New),
-            REPLACED => Ok(Put::Replaced),
+            PRESENT => Ok(Put::Present),
+            refused => Err(Refusal::of_number(refused)),
+        }
+    }
+
+    /// Gives the record with this key another value. If it is of another length, the old one's bytes are not free before the frame
+    /// is packed. To set a value whether the key is there or not, put, and replace if it is [`Put::Present`].
+    pub fn replace(&mut self, key: &[u8], value: &[u8]) -> Result<Replace, Refusal> {
+        match calls::replace(self.bytes.as_mut(), key, value) {
+            REPLACED => Ok(Replace::Done),
+            ABSENT => Ok(Replace::Absent),
             refused => Err(Refusal::of_number(refused)),
         }
     }

@@ -1,7 +1,7 @@
 //! Every answer of every call, through the safe calls.
 #![forbid(unsafe_code)]
 
-use frame_store::{check, Erase, Frame, Info, Lack, Put, Refusal, View};
+use frame_store::{check, Erase, Frame, Info, Lack, Put, Refusal, Replace, View};
 
 const F: usize = 1_024;
 const N: usize = 8;
@@ -28,12 +28,16 @@ fn format_and_open() {
 }
 
 #[test]
-fn put_look_up_and_erase() -> Result<(), Refusal> {
+fn put_replace_look_up_and_erase() -> Result<(), Refusal> {
     let mut bytes = [0; F];
     let mut frame = empty(&mut bytes);
     assert_eq!(frame.put(b"a", b"1")?, Put::New);
     assert_eq!(frame.put(b"ab", b"")?, Put::New);
-    assert_eq!(frame.put(b"a", b"11")?, Put::Replaced);
+    let before = frame.bytes().to_vec();
+    assert_eq!(frame.put(b"a", b"11")?, Put::Present);
+    assert_eq!(frame.replace(b"b", b"2")?, Replace::Absent);
+    assert_eq!(frame.bytes(), before, "neither changes a byte");
+    assert_eq!(frame.replace(b"a", b"11")?, Replace::Done);
     assert_eq!(frame.look_up(b"a")?, Some(&b"11"[..]));
     assert_eq!(frame.look_up(b"ab")?, Some(&b""[..]));
     assert_eq!(frame.look_up(b"b")?, None);
@@ -61,7 +65,7 @@ fn a_frame_stands_in_whatever_lends_bytes() -> Result<(), Refusal> {
     let mut array = Frame::format([0; F], N)?;
     array.put(b"a", b"1")?;
     let copied = array;
-    array.put(b"a", b"2")?;
+    array.replace(b"a", b"2")?;
     let packed = copied.pack(vec![0; F])?;
     let mut moved = Device { settings: packed.pack(vec![0; F].into_boxed_slice())? };
     moved.settings.put(b"b", b"3")?;
@@ -81,6 +85,7 @@ fn bytes_that_were_not_looked_at_are_refused_by_each_call() {
     for (bytes, refusal) in [([7; F], Refusal::Length), (no_good_frame(), Refusal::Frame)] {
         let mut frame = Frame::over(bytes);
         assert_eq!(frame.put(b"a", b"1"), Err(refusal));
+        assert_eq!(frame.replace(b"a", b"1"), Err(refusal));
         assert_eq!(frame.erase(b"a"), Err(refusal));
         assert_eq!(frame.look_up(b"a"), Err(refusal));
         assert_eq!(View::over(&bytes).place(b"a"), Err(refusal));
@@ -107,7 +112,14 @@ fn refusals_change_nothing() {
     assert_eq!(frame.put(&[b'k'; 113], b"v"), Err(Refusal::KeyLength));
     assert_eq!(frame.put(b"k\0", b"v"), Err(Refusal::KeyZero));
     assert_eq!(frame.put(b"v", &[0; 65_536]), Err(Refusal::ValueLength));
+    assert_eq!(frame.put(b"k", &[0; 65_536]), Err(Refusal::ValueLength), "5 before 11");
     assert_eq!(frame.put(b"v", b"v"), Err(Refusal::Room));
+    assert_eq!(frame.put(b"k", b"v"), Ok(Put::Present), "11 needs no room");
+    assert_eq!(frame.replace(b"", b"v"), Err(Refusal::KeyLength));
+    assert_eq!(frame.replace(b"k\0", b"v"), Err(Refusal::KeyZero));
+    assert_eq!(frame.replace(b"v", &[0; 65_536]), Err(Refusal::ValueLength), "5 before 8");
+    assert_eq!(frame.replace(b"v", b"v"), Ok(Replace::Absent), "8 needs no room");
+    assert_eq!(frame.replace(b"k", b"v"), Err(Refusal::Room));
     assert_eq!(frame.look_up(b""), Err(Refusal::KeyLength));
     assert_eq!(frame.place(b"\0"), Err(Refusal::KeyZero));
     assert_eq!(frame.erase(b""), Err(Refusal::KeyLength));
@@ -126,7 +138,7 @@ fn two_orders_pack_to_one_image() -> Result<(), Refusal> {
     }
     for (key, value) in records.into_iter().rev() {
         other.put(key, b"before")?;
-        other.put(key, value)?;
+        other.replace(key, value)?;
     }
     let (mut left, mut right) = ([1; F], [2; F]);
     let packed = one.pack(&mut left)?;
@@ -148,9 +160,9 @@ fn info_tells_what_is_left_and_what_packing_gives_back() -> Result<(), Refusal> 
         freed: [0; 8],
     };
     assert_eq!(frame.info()?, empty);
-    for (key, value) in [(b"a", &b"1"[..]), (b"b", b"2"), (b"a", b"longer than eight")] {
-        frame.put(key, value)?;
-    }
+    frame.put(b"a", b"1")?;
+    frame.put(b"b", b"2")?;
+    frame.replace(b"a", b"longer than eight")?;
     frame.erase(b"b")?;
     let info = frame.info()?;
     assert_eq!((info.records, info.dead_bytes), (1, 16));
@@ -196,9 +208,10 @@ fn info_tells_what_a_call_lacked() -> Result<(), Refusal> {
 fn lengths_are_unsigned() -> Result<(), Refusal> {
     let mut bytes = vec![0; 524_288];
     let mut frame = Frame::format(&mut bytes, 10_240)?;
+    frame.put(b"fw", b"")?;
     for length in [32_767, 32_768, 65_535] {
         let value = vec![9; length];
-        frame.put(b"fw", &value)?;
+        frame.replace(b"fw", &value)?;
         assert_eq!(frame.look_up(b"fw")?, Some(&value[..]));
     }
     Ok(())

@@ -145,11 +145,19 @@ impl List {
     }
 
     pub fn put_of(&mut self, frame: Bytes, key: &[u8], value: Value) {
+        self.write_of("frame_put", frame, key, value);
+    }
+
+    pub fn replace_of(&mut self, frame: Bytes, key: &[u8], value: Value) {
+        self.write_of("frame_replace", frame, key, value);
+    }
+
+    fn write_of(&mut self, call: &str, frame: Bytes, key: &[u8], value: Value) {
         let key = self.key(key);
         let lent = Bytes { at: VALUE_AT + self.odd[3], length: value.length };
         self.random(lent, value.seed);
         let (frame, key, value) = (List::lent(frame), List::lent(key), List::lent(lent));
-        self.line(format_args!("call frame_put {frame} {key} {value}"));
+        self.line(format_args!("call {call} {frame} {key} {value}"));
     }
 
     pub fn erase_of(&mut self, frame: Bytes, key: &[u8]) {
@@ -189,6 +197,16 @@ impl List {
         self.put_of(self.frame, key, value);
     }
 
+    pub fn replace(&mut self, key: &[u8], value: Value) {
+        self.replace_of(self.frame, key, value);
+    }
+
+    /// New, or in the place of what is there: one of the two does it.
+    pub fn put_or_replace(&mut self, key: &[u8], value: Value) {
+        self.put(key, value);
+        self.replace(key, value);
+    }
+
     pub fn erase(&mut self, key: &[u8]) {
         self.erase_of(self.frame, key);
     }
@@ -208,6 +226,7 @@ impl List {
         self.look_up(key);
         self.pack();
         self.put(key, value);
+        self.replace(key, value);
         self.erase(key);
         self.restore();
     }

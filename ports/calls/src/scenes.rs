@@ -57,7 +57,7 @@ fn small_value(random: &mut Random) -> Value {
     Value { length, seed: random.seed() }
 }
 
-/// Puts and erases at random, more of the ones or of the others in turn, with look-ups, checks and packings between them.
+/// Puts, replacements and erases at random, more to put or more to erase in turn, with look-ups, checks and packings between them.
 fn history(list: &mut List, random: &mut Random, keys: &Keys, steps: usize) {
     let wide = matches!(keys, Keys::Wide);
     for step in 0..steps {
@@ -68,7 +68,11 @@ fn history(list: &mut List, random: &mut Random, keys: &Keys, steps: usize) {
         };
         if random.below(10) < if shrinking { 2 } else { 8 } {
             let value = if wide { NONE } else { small_value(random) };
-            list.put(&key, value);
+            match random.below(3) {
+                0 => list.put(&key, value),
+                1 => list.replace(&key, value),
+                _ => list.put_or_replace(&key, value),
+            }
         } else {
             list.erase(&key);
         }
@@ -127,6 +131,7 @@ fn refusals(list: &mut List) {
         list.info_of(long(length), INFO_NUMBERS);
         list.look_up_of(long(length), b"", LOOK_UP_NUMBERS);
         list.put_of(long(length), b"", Value { length: LONGEST_VALUE + 1, seed: 5 });
+        list.replace_of(long(length), b"", Value { length: LONGEST_VALUE + 1, seed: 5 });
         list.erase_of(long(length), b"a\0");
         let out = list.out(8);
         list.pack_of(long(length), out);
@@ -140,6 +145,7 @@ fn refusals(list: &mut List) {
     }
     for length in [LONGEST_VALUE + 1, LONGEST_VALUE, 32_768, 32_767, 1_000] {
         list.put(b"b", Value { length, seed: 11 });
+        list.replace(b"a", Value { length, seed: 11 });
     }
     for numbers in [0, 1, 2, 3, 4] {
         list.look_up_of(frame, b"a", numbers);
@@ -228,15 +234,15 @@ fn long_values(list: &mut List) {
         list.format(16);
         for (place, length) in LENGTHS.into_iter().enumerate() {
             let key = vec![b'k'; if place % 2 == 0 { 1 } else { LONGEST_KEY }];
-            list.put(&key, Value { length, seed: 17 + length as u32 });
+            list.put_or_replace(&key, Value { length, seed: 17 + length as u32 });
             list.look_up(&key);
         }
         list.check();
         list.pack();
         list.take_packed();
-        list.put(b"k", Value { length: 32_768, seed: 19 });
+        list.put_or_replace(b"k", Value { length: 32_768, seed: 19 });
         list.erase(&[b'k'; LONGEST_KEY]);
-        list.put(b"k", Value { length: 32_768, seed: 23 });
+        list.put_or_replace(b"k", Value { length: 32_768, seed: 23 });
         list.look_up(b"k");
         list.erase(b"k");
     }
@@ -352,7 +358,7 @@ pub fn deepest(list: &mut List) {
         let mut aside = vec![DOWN; LONGEST_KEY - 1];
         aside.push(children);
         list.put(&aside, NONE);
-        list.put(&[DOWN; LONGEST_KEY], Value { length: 1, seed: 47 });
+        list.replace(&[DOWN; LONGEST_KEY], Value { length: 1, seed: 47 });
         list.erase(&aside);
         list.erase(&[DOWN; LONGEST_KEY]);
         list.erase(&[DOWN; LONGEST_KEY]);
@@ -377,7 +383,8 @@ pub fn times(list: &mut List) {
         list.check();
         list.info();
         list.look_up(b"line.rate");
-        list.put(b"line.rate", Value { length: 8, seed: 61 });
+        list.put(b"line.rates", Value { length: 8, seed: 61 });
+        list.replace(b"line.rate", Value { length: 8, seed: 61 });
         list.erase(b"line.rate");
         list.restore();
         list.pack();
