@@ -1,11 +1,11 @@
-//! The Rust bindings, behind the same seven calls.
+//! The Rust bindings, behind the same calls.
 //!
 //! Believed here: how an answer of the bindings is read as a number.
 
 use crate::compare::Calls;
-use crate::layout::number::{ABSENT, DONE, LENGTHS, REPLACED};
+use crate::layout::number::{ABSENT, DONE, LENGTHS, PRESENT, REPLACED};
 use crate::layout::INFO_NUMBERS;
-use frame_store::{check, Erase, Frame, Info, Put, Refusal, View};
+use frame_store::{check, Erase, Frame, Info, Put, Refusal, Replace, View};
 
 pub struct Bindings;
 
@@ -43,7 +43,14 @@ impl Calls for Bindings {
     fn put(&self, frame: &mut [u8], key: &[u8], value: &[u8]) -> u32 {
         number(Frame::over(frame).put(key, value).map(|done| match done {
             Put::New => DONE,
-            Put::Replaced => REPLACED,
+            Put::Present => PRESENT,
+        }))
+    }
+
+    fn replace(&self, frame: &mut [u8], key: &[u8], value: &[u8]) -> u32 {
+        number(Frame::over(frame).replace(key, value).map(|done| match done {
+            Replace::Done => REPLACED,
+            Replace::Absent => ABSENT,
         }))
     }
 

@@ -1,4 +1,4 @@
-//! The comparer: any seven calls, held to what document 01 settles.
+//! The comparer: any store's calls, held to what documents 01 and 02 settle.
 //!
 //! Believed here: for each call, the number, the place or part given, and the
 //! whole effect. The frame after must be good, its model must equal the one
@@ -17,13 +17,15 @@ use crate::touched;
 use std::fmt;
 use std::hint::black_box;
 
-/// The six calls of document 01 and info, as they are exported.
+/// The six calls of document 01, info, and those of document 02, as they are
+/// exported.
 pub trait Calls {
     fn format(&self, frame: &mut [u8], f: usize, n: usize) -> u32;
     fn check(&self, frame: &[u8]) -> u32;
     /// The number, the place and the length.
     fn look_up(&self, frame: &[u8], key: &[u8]) -> (u32, u64, u64);
     fn put(&self, frame: &mut [u8], key: &[u8], value: &[u8]) -> u32;
+    fn replace(&self, frame: &mut [u8], key: &[u8], value: &[u8]) -> u32;
     fn erase(&self, frame: &mut [u8], key: &[u8]) -> u32;
     fn pack(&self, frame: &[u8], out: &mut [u8]) -> u32;
     /// The number, and what is told; all 0 of a refusal.
@@ -46,6 +48,9 @@ impl Calls for Second {
     fn put(&self, frame: &mut [u8], key: &[u8], value: &[u8]) -> u32 {
         store::put(frame, key, value)
     }
+    fn replace(&self, frame: &mut [u8], key: &[u8], value: &[u8]) -> u32 {
+        store::replace(frame, key, value)
+    }
     fn erase(&self, frame: &mut [u8], key: &[u8]) -> u32 {
         store::erase(frame, key)
     }
@@ -57,7 +62,7 @@ impl Calls for Second {
     }
 }
 
-/// A call that did not do what document 01 settles, and how to replay it.
+/// A call that did not do what the documents settle, and how to replay it.
 #[derive(Debug)]
 pub struct Difference(String);
 
@@ -267,33 +272,70 @@ impl<'a> Comparer<'a> {
 
     /// Gives the number; the frame held is then the one after the call.
     pub fn put(&mut self, held: &mut Held, key: &[u8], value: &[u8]) -> Compared<u32> {
+        self.record(Call::Put, held, key, value)
+    }
+
+    /// Gives the number; the frame held is then the one after the call.
+    pub fn replace(&mut self, held: &mut Held, key: &[u8], value: &[u8]) -> Compared<u32> {
+        self.record(Call::Replace, held, key, value)
+    }
+
+    /// A put, and a replacement if it is told that the key is present.
+    pub fn put_or_replace(&mut self, held: &mut Held, key: &[u8], value: &[u8]) -> Compared<u32> {
+        match self.put(held, key, value)? {
+            PRESENT => self.replace(held, key, value),
+            given => Ok(given),
+        }
+    }
+
+    /// A put or a replacement.
+    fn record(&mut self, of: Call, held: &mut Held, key: &[u8], value: &[u8]) -> Compared<u32> {
         self.step += 1;
-        let call = format!("put of {} with {} bytes", shown(key), value.len());
+        let replacing = of == Call::Replace;
+        let name = if replacing { "replacement" } else { "put" };
+        let call = format!("{name} of {} with {} bytes", shown(key), value.len());
         let mut frame = self.lend(&held.bytes);
         let (mut lent_key, mut lent_value) = (self.lend(key), self.lend(value));
-        let given = self.calls.put(frame.part_mut(), lent_key.part(), lent_value.part());
+        let (part, lent) = (frame.part_mut(), (lent_key.part(), lent_value.part()));
+        let given = if replacing {
+            self.calls.replace(part, lent.0, lent.1)
+        } else {
+            self.calls.put(part, lent.0, lent.1)
+        };
         self.margins(&call, &mut [&mut frame, &mut lent_key, &mut lent_value])?;
         self.unchanged(&call, "key", &mut lent_key, key)?;
         self.unchanged(&call, "value", &mut lent_value, value)?;
         let mut predicted = held.known.clone();
         let number = match &mut predicted {
             Err(refused) => {
-                self.tally.add(Entry::Number(Call::Put, *refused));
+                self.tally.add(Entry::Number(of, *refused));
                 *refused
             }
             Ok(state) => {
-                let told = state.put(key, value);
-                self.tally.count(Call::Put, &told);
+                let mut other = state.clone();
+                let (told, other) = if replacing {
+                    (state.replace(key, value), other.put(key, value))
+                } else {
+                    (state.put(key, value), other.replace(key, value))
+                };
+                self.tally.count(of, &told);
+                if matches!(told.number, PRESENT | ABSENT) && other.number == NO_ROOM {
+                    self.tally.add(Entry::NoneNeeded(of));
+                }
                 told.number
             }
         };
         self.same_number(&call, given, number)?;
         let (DONE | REPLACED, Ok(state)) = (number, predicted) else {
-            self.unchanged(&call, "refused frame", &mut frame, &held.bytes)?;
+            self.unchanged(&call, "frame left alone", &mut frame, &held.bytes)?;
             return Ok(number);
         };
         let was = held.reading();
-        let touched = touched::by_put(&held.bytes, &was, key, value);
+        let touched = if replacing {
+            touched::by_replace(&held.bytes, &was, key, value)
+        } else {
+            touched::by_put(&held.bytes, key)
+        };
         self.stepped(&call, held, &was, touched, frame.seen(), state)?;
         Ok(number)
     }
@@ -335,7 +377,7 @@ impl<'a> Comparer<'a> {
         Ok(number)
     }
 
-    /// The frame after a put or an erase that was done.
+    /// The frame after a put, a replacement or an erase that was done.
     fn stepped(
         &self,
         call: &str,

@@ -1,4 +1,4 @@
-//! The exported C functions, behind the same seven calls.
+//! The exported C functions, behind the same calls.
 //!
 //! Believed here: the C declarations. The bindings link the archive that has
 //! them.
@@ -21,6 +21,14 @@ mod c {
             two: usize,
         ) -> u32;
         pub fn frame_put(
+            frame: *mut u8,
+            frame_len: usize,
+            key: *const u8,
+            key_len: usize,
+            value: *const u8,
+            value_len: usize,
+        ) -> u32;
+        pub fn frame_replace(
             frame: *mut u8,
             frame_len: usize,
             key: *const u8,
@@ -59,6 +67,19 @@ impl Calls for Exported {
     fn put(&self, frame: &mut [u8], key: &[u8], value: &[u8]) -> u32 {
         unsafe {
             c::frame_put(
+                frame.as_mut_ptr(),
+                frame.len(),
+                key.as_ptr(),
+                key.len(),
+                value.as_ptr(),
+                value.len(),
+            )
+        }
+    }
+
+    fn replace(&self, frame: &mut [u8], key: &[u8], value: &[u8]) -> u32 {
+        unsafe {
+            c::frame_replace(
                 frame.as_mut_ptr(),
                 frame.len(),
                 key.as_ptr(),

@@ -52,7 +52,8 @@ impl Alphabet {
 
 const REFUSED_KEYS: [&[u8]; 4] = [b"", b"a\0b", &[b'p'; 113], &[0; 200]];
 
-/// Puts, erases, look-ups, checks and packs over one frame after another.
+/// Puts, replacements, erases, look-ups, checks and packs over one frame after
+/// another.
 pub fn histories(comparer: &mut Comparer, seed: u64, rounds: u64) -> Compared<()> {
     for round in 0..rounds {
         comparer.begin(format!("history of seed {seed}, round {round}"));
@@ -94,7 +95,11 @@ fn history(
         let put_chance = if growing { 8 } else { 2 };
         if random.below(10) < put_chance {
             let value = if wide { vec![] } else { small_value(random) };
-            comparer.put(held, &key, &value)?;
+            match random.below(4) {
+                0 => comparer.put(held, &key, &value)?,
+                1 => comparer.replace(held, &key, &value)?,
+                _ => comparer.put_or_replace(held, &key, &value)?,
+            };
         } else if random.one_in(3) {
             comparer.erase(held, &key)?;
         } else if let Some(there) = some_key(random, held.state()) {
@@ -122,7 +127,18 @@ fn some_key(random: &mut Random, state: &State) -> Option<Vec<u8>> {
 fn make(comparer: &mut Comparer, held: &mut Held, change: &Change) -> Compared<u32> {
     match change {
         Change::Put { key, value } => comparer.put(held, key, value),
+        Change::Replace { key, value } => comparer.replace(held, key, value),
         Change::Erase { key } => comparer.erase(held, key),
+    }
+}
+
+/// The call that the frame has no use for: a put of a present key, or a
+/// replacement of an absent one.
+fn make_in_vain(comparer: &mut Comparer, held: &mut Held, change: &Change) -> Compared<()> {
+    match change {
+        Change::Put { key, value } => comparer.replace(held, key, value).map(|_| ()),
+        Change::Replace { key, value } => comparer.put(held, key, value).map(|_| ()),
+        Change::Erase { .. } => Ok(()),
     }
 }
 
@@ -149,6 +165,7 @@ pub fn crafted_frames(comparer: &mut Comparer, seed: u64, rounds: u64) -> Compar
         let (_, mut roomy) = build(random, &tree, &lists, dead, ROOMY);
         let told = match &change {
             Change::Put { key, value } => roomy.put(key, value),
+            Change::Replace { key, value } => roomy.replace(key, value),
             Change::Erase { key } => roomy.erase(key),
         };
         let (_, room) = told.case.expect("an aimed change is neither refused nor absent");
@@ -166,6 +183,7 @@ pub fn crafted_frames(comparer: &mut Comparer, seed: u64, rounds: u64) -> Compar
         for spare in spares {
             let mut held = crafted(comparer, random, &tree, &lists, dead, spare)?;
             comparer.check(&held)?;
+            make_in_vain(comparer, &mut held, &change)?;
             make(comparer, &mut held, &change)?;
             comparer.look_up(&held, change.key())?;
         }
@@ -226,7 +244,7 @@ pub fn large_frames(comparer: &mut Comparer, seed: u64, rounds: u64) -> Compared
         for length in [32_767, 32_768, 65_535, 65_536, 1, 65_535, 65_534, 65_535, 65_535] {
             let key = aimed(random, &held.state().tree).key().to_vec();
             let value = vec![random.byte(); length];
-            comparer.put(&mut held, &key, &value)?;
+            comparer.put_or_replace(&mut held, &key, &value)?;
             comparer.look_up(&held, &key)?;
         }
         for _ in 0..30 {
@@ -245,6 +263,7 @@ fn all_calls(comparer: &mut Comparer, random: &mut Random, held: &Held) -> Compa
     comparer.info(held)?;
     comparer.look_up(held, b"a")?;
     comparer.put(&mut held.clone(), b"a", b"value")?;
+    comparer.replace(&mut held.clone(), b"a", b"value")?;
     comparer.erase(&mut held.clone(), b"a")?;
     let out = random.bytes(held.bytes().len());
     comparer.pack(held, &out)?;

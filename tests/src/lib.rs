@@ -4,7 +4,7 @@
 //! `layout` and `check`, which have a package of their own (`tools/rules`), and
 //! `store` are the second store. `slotless` and `image` are two further
 //! readings of document 01, and the store is held to both.
-//! `compare` holds any seven calls to all of them; `run` is what the gate runs.
+//! `compare` holds any store's calls to all of them; `run` is what the gate runs.
 
 pub use frame_rules::{check, layout};
 

@@ -43,16 +43,16 @@ fn reach(comparer: &mut Comparer, random: &mut Random, records: &Records) -> Com
     let mut strangers = Vec::new();
     for (key, value) in order {
         if random.one_in(4) {
-            comparer.put(&mut held, key, b"another")?;
+            comparer.put_or_replace(&mut held, key, b"another")?;
         }
         if random.one_in(4) {
             let stranger = [&key[..], &[random.key_byte()]].concat();
             if !records.contains_key(&stranger) {
-                comparer.put(&mut held, &stranger, b"stranger")?;
+                comparer.put_or_replace(&mut held, &stranger, b"stranger")?;
                 strangers.push(stranger);
             }
         }
-        comparer.put(&mut held, key, value)?;
+        comparer.put_or_replace(&mut held, key, value)?;
     }
     for stranger in strangers {
         comparer.erase(&mut held, &stranger)?;

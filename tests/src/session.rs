@@ -4,7 +4,8 @@
 //! standard input". It is read here over a whole input and not in pieces.
 
 use crate::compare::Calls;
-use crate::layout::{get32, number::DONE, number::LENGTHS, AT_B, AT_R, AT_U};
+use crate::layout::number::{DONE, LENGTHS, PRESENT};
+use crate::layout::{get32, AT_B, AT_R, AT_U};
 use crate::random::Random;
 
 pub const GREETING: &[u8] = b"frame session 1\n";
@@ -49,7 +50,7 @@ impl Session<'_> {
                 Some(self.format(f, n).to_string().into_bytes())
             }
             [b"p", key, value] => {
-                let given = self.calls.put(self.frame.as_mut()?, key, value);
+                let given = put_or_replace(self.calls, self.frame.as_mut()?, key, value);
                 Some(given.to_string().into_bytes())
             }
             [b"g", key] => Some(look_up(self.calls, self.frame.as_ref()?, key)),
@@ -72,6 +73,14 @@ impl Session<'_> {
             self.frame = Some(frame);
         }
         given
+    }
+}
+
+/// The session asks for the replacement that a plain put does not make.
+fn put_or_replace(calls: &dyn Calls, frame: &mut [u8], key: &[u8], value: &[u8]) -> u32 {
+    match calls.put(frame, key, value) {
+        PRESENT => calls.replace(frame, key, value),
+        given => given,
     }
 }
 

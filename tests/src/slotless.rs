@@ -1,6 +1,6 @@
 //! The slotless model: what each call gives, without slots, places or bytes.
 //!
-//! Believed here: how the tree changes with a put and an erase, and that a
+//! Believed here: how the tree changes with a put, a replacement and an erase, and that a
 //! call needs and frees, of each kind, exactly the bodies by which the tree
 //! after differs from the tree before. The model holds the tree, U, B, R, X
 //! and the eight list lengths, and predicts them with the number for each
@@ -58,8 +58,8 @@ pub enum Case {
     PutAdds(Kind),
     PutGrows(Kind),
     PutCutsPrefix { before: bool, after: bool },
-    PutSameLength,
-    PutOtherLength { same_rounded: bool },
+    ReplaceSameLength,
+    ReplaceOtherLength { same_rounded: bool },
     EraseOnlyRecord,
     EraseRemoves(Kind),
     EraseShrinks(Kind),
@@ -163,13 +163,34 @@ impl State {
     }
 
     pub fn put(&mut self, key: &[u8], value: &[u8]) -> Told {
-        if let Some(refused) = key_refusal(key) {
+        if let Some(refused) = record_refusal(key, value) {
             return Told::only(refused);
         }
-        if value.len() > LONGEST_VALUE {
-            return Told::only(VALUE_LENGTH);
+        if self.find(key).is_ok() {
+            return Told::only(PRESENT);
         }
-        let found = self.find(key);
+        let (case, after) = self.with(key, value);
+        self.settle(case, after, extent_bytes(key.len(), value.len()), 0, DONE)
+    }
+
+    pub fn replace(&mut self, key: &[u8], value: &[u8]) -> Told {
+        if let Some(refused) = record_refusal(key, value) {
+            return Told::only(refused);
+        }
+        let old = match self.find(key) {
+            Err(end) => return Told { number: ABSENT, case: None, end: Some(end) },
+            Ok(old) => old,
+        };
+        let (case, after) = self.with(key, value);
+        let (new_extent, retired) = match case {
+            Case::ReplaceSameLength => (0, 0),
+            _ => (extent_bytes(key.len(), value.len()), extent_bytes(key.len(), old.len())),
+        };
+        self.settle(case, after, new_extent, retired, REPLACED)
+    }
+
+    /// The tree with this record, whatever value the key had.
+    fn with(&self, key: &[u8], value: &[u8]) -> (Case, Option<Rc<Tree>>) {
         let mut after = self.tree.clone();
         let case = match &mut after {
             None => {
@@ -178,14 +199,7 @@ impl State {
             }
             Some(tree) => insert(Rc::make_mut(tree), &walked(key), 0, key, value),
         };
-        let extent = extent_bytes(key.len(), value.len());
-        let (new_extent, retired) = match (&found, case) {
-            (_, Case::PutSameLength) => (0, 0),
-            (Ok(old), _) => (extent, extent_bytes(key.len(), old.len())),
-            (Err(_), _) => (extent, 0),
-        };
-        let given = if found.is_ok() { REPLACED } else { DONE };
-        self.settle(case, after, new_extent, retired, given)
+        (case, after)
     }
 
     pub fn erase(&mut self, key: &[u8]) -> Told {
@@ -256,6 +270,11 @@ impl State {
     }
 }
 
+/// The refusal that a put or a replacement earns by its key and its value.
+fn record_refusal(key: &[u8], value: &[u8]) -> Option<u32> {
+    key_refusal(key).or((value.len() > LONGEST_VALUE).then_some(VALUE_LENGTH))
+}
+
 /// How many live bodies there are of each kind.
 pub fn bodies(tree: &Option<Rc<Tree>>) -> ByKind {
     let mut counts = ByKind::default();
@@ -316,11 +335,11 @@ fn insert(tree: &mut Tree, string: &[u8], depth: usize, key: &[u8], value: &[u8]
     match tree {
         Tree::Leaf { key: there, value: old } if **there == *key => {
             let case = if old.len() == value.len() {
-                Case::PutSameLength
+                Case::ReplaceSameLength
             } else {
                 let new = extent_bytes(key.len(), value.len());
                 let same_rounded = new == extent_bytes(key.len(), old.len());
-                Case::PutOtherLength { same_rounded }
+                Case::ReplaceOtherLength { same_rounded }
             };
             *old = value.into();
             case

@@ -1,6 +1,7 @@
 //! The second store, over the bytes of a lent frame.
 //!
-//! Believed here: format, look-up, put, erase and pack of document 01, and info.
+//! Believed here: format, look-up, put, erase and pack of document 01, and info;
+//! of document 02 the replacement.
 //! Clear before fast: every call checks the whole frame, works out all it needs,
 //! compares that with the room left, and only then writes.
 
@@ -55,19 +56,17 @@ fn find(frame: &[u8], key: &[u8]) -> Result<LeafFields, u32> {
     present(frame, &steps, key).ok_or(ABSENT)
 }
 
+/// A record whose key is new; a present key is told, and nothing is needed.
 pub fn put(frame: &mut [u8], key: &[u8], value: &[u8]) -> u32 {
     put_or_refuse(frame, key, value).unwrap_or_else(|refused| refused)
 }
 
 fn put_or_refuse(frame: &mut [u8], key: &[u8], value: &[u8]) -> Result<u32, u32> {
-    refusal(frame, key)?;
-    if value.len() > LONGEST_VALUE {
-        return Err(VALUE_LENGTH);
-    }
+    record_refusal(frame, key, value)?;
     let string = walked(key);
     let steps = walk(frame, &string);
-    if let Some(leaf) = present(frame, &steps, key) {
-        return put_present(frame, last(&steps), &leaf, key, value);
+    if present(frame, &steps, key).is_some() {
+        return Ok(PRESENT);
     }
     let end = last(&steps);
     let record = NewRecord { key, value, rest: &string[end.depth..] };
@@ -186,21 +185,23 @@ fn add_to_inner(frame: &mut [u8], end: &Step, record: &NewRecord) -> Result<(), 
     Ok(())
 }
 
-fn put_present(
-    frame: &mut [u8],
-    step: &Step,
-    leaf: &LeafFields,
-    key: &[u8],
-    value: &[u8],
-) -> Result<u32, u32> {
+/// Another value for a present key; an absent one is told, and nothing is needed.
+pub fn replace(frame: &mut [u8], key: &[u8], value: &[u8]) -> u32 {
+    replace_or_refuse(frame, key, value).unwrap_or_else(|refused| refused)
+}
+
+fn replace_or_refuse(frame: &mut [u8], key: &[u8], value: &[u8]) -> Result<u32, u32> {
+    record_refusal(frame, key, value)?;
+    let steps = walk(frame, &walked(key));
+    let leaf = present(frame, &steps, key).ok_or(ABSENT)?;
     if leaf.value_length == value.len() {
         frame[leaf.extent + leaf.key_length..][..value.len()].copy_from_slice(value);
         return Ok(REPLACED);
     }
     room(frame, &[], extent_bytes(key.len(), value.len()))?;
     let extent = write_extent(frame, key, value);
-    write_leaf(frame, step.slot, extent, key.len(), value.len());
-    retire(frame, leaf);
+    write_leaf(frame, last(&steps).slot, extent, key.len(), value.len());
+    retire(frame, &leaf);
     Ok(REPLACED)
 }
 
@@ -393,6 +394,15 @@ fn refusal(frame: &[u8], key: &[u8]) -> Result<(), u32> {
         DONE => key_refusal(key).map_or(Ok(()), Err),
         refused => Err(refused),
     }
+}
+
+/// Of a put or a replacement, whether the key is there or not.
+fn record_refusal(frame: &[u8], key: &[u8], value: &[u8]) -> Result<(), u32> {
+    refusal(frame, key)?;
+    if value.len() > LONGEST_VALUE {
+        return Err(VALUE_LENGTH);
+    }
+    Ok(())
 }
 
 /// Bodies come from their lists first; an extent always comes from B.

@@ -1,6 +1,6 @@
 //! Which cases a run has reached.
 //!
-//! Believed here: the list of everything a put, an erase and the other calls
+//! Believed here: the list of everything a put, a replacement, an erase and the other calls
 //! can come to. A run that never reaches an entry of it proves nothing about
 //! that entry, and fails.
 
@@ -14,6 +14,7 @@ pub enum Call {
     Check,
     LookUp,
     Put,
+    Replace,
     Erase,
     Pack,
     Info,
@@ -42,6 +43,9 @@ pub enum Entry {
     FromList(Call, Kind),
     Fresh(Call, Kind),
     Absent(Call, End),
+    /// A put finds its key present where a replacement would have no room, or a
+    /// replacement finds it absent where a put would have none.
+    NoneNeeded(Call),
     /// An info tells that this kind's list is not empty.
     Listed(Kind),
 }
@@ -100,9 +104,9 @@ impl Tally {
 pub fn cases() -> Vec<Case> {
     let mut all = vec![
         Case::PutInEmptyFrame,
-        Case::PutSameLength,
-        Case::PutOtherLength { same_rounded: true },
-        Case::PutOtherLength { same_rounded: false },
+        Case::ReplaceSameLength,
+        Case::ReplaceOtherLength { same_rounded: true },
+        Case::ReplaceOtherLength { same_rounded: false },
         Case::EraseOnlyRecord,
     ];
     for kind in Kind::INNER {
@@ -133,8 +137,8 @@ fn needs_bodies(case: Case) -> bool {
         Case::EraseCollapses { survivor, prefix_above } => {
             survivor == Survivor::Inner && !prefix_above
         }
-        Case::PutSameLength
-        | Case::PutOtherLength { .. }
+        Case::ReplaceSameLength
+        | Case::ReplaceOtherLength { .. }
         | Case::EraseOnlyRecord
         | Case::EraseRemoves(_) => false,
     }
@@ -152,7 +156,7 @@ pub fn expected() -> Vec<Entry> {
                 Outcome::NoSlotsNorBytes,
             ]);
         }
-        if needs_bodies(case) || matches!(case, Case::PutOtherLength { .. }) {
+        if needs_bodies(case) || matches!(case, Case::ReplaceOtherLength { .. }) {
             outcomes.extend([Outcome::DoneWithLastBytes, Outcome::NoBytes]);
         }
         all.extend(outcomes.into_iter().map(|outcome| Entry::Ended(case, outcome)));
@@ -163,17 +167,31 @@ pub fn expected() -> Vec<Entry> {
     for (call, kind) in put.chain(erase.into_iter().map(|kind| (Call::Erase, kind))) {
         all.extend([Entry::FromList(call, kind), Entry::Fresh(call, kind)]);
     }
-    for call in [Call::LookUp, Call::Erase] {
+    for call in [Call::LookUp, Call::Replace, Call::Erase] {
         let ends = [End::EmptyFrame, End::AnotherLeaf, End::NoSuchByte, End::PrefixDiffers];
         all.extend(ends.map(|end| Entry::Absent(call, end)));
     }
-    let numbers: [(Call, &[u32]); 7] = [
+    all.extend([Call::Put, Call::Replace].map(Entry::NoneNeeded));
+    let numbers: [(Call, &[u32]); 8] = [
         (Call::Format, &[DONE, LENGTHS]),
         (Call::Check, &[DONE, LENGTHS, NOT_GOOD]),
         (Call::LookUp, &[DONE, ABSENT, LENGTHS, NOT_GOOD, KEY_LENGTH, KEY_HOLDS_ZERO]),
         (
             Call::Put,
-            &[DONE, REPLACED, LENGTHS, NOT_GOOD, KEY_LENGTH, KEY_HOLDS_ZERO, VALUE_LENGTH, NO_ROOM],
+            &[DONE, PRESENT, LENGTHS, NOT_GOOD, KEY_LENGTH, KEY_HOLDS_ZERO, VALUE_LENGTH, NO_ROOM],
+        ),
+        (
+            Call::Replace,
+            &[
+                REPLACED,
+                ABSENT,
+                LENGTHS,
+                NOT_GOOD,
+                KEY_LENGTH,
+                KEY_HOLDS_ZERO,
+                VALUE_LENGTH,
+                NO_ROOM,
+            ],
         ),
         (Call::Erase, &[DONE, ABSENT, LENGTHS, NOT_GOOD, KEY_LENGTH, KEY_HOLDS_ZERO, NO_ROOM]),
         (Call::Pack, &[DONE, LENGTHS, NOT_GOOD, OUTPUT_LENGTH]),

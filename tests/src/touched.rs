@@ -1,4 +1,4 @@
-//! Which bytes a put or an erase may change.
+//! Which bytes a put, a replacement or an erase may change.
 //!
 //! Believed here: "What each call has to settle". From the frame before, the
 //! step names the bodies it rewrites, the slots it frees, the kinds it needs,
@@ -24,8 +24,8 @@ pub struct Touched {
     extents: Vec<Range<usize>>,
 }
 
-/// For a put that is not refused.
-pub fn by_put(before: &[u8], reading: &Reading, key: &[u8], value: &[u8]) -> Touched {
+/// For a put that is done: the key is new.
+pub fn by_put(before: &[u8], key: &[u8]) -> Touched {
     let string = walked(key);
     let steps = store::walk(before, &string);
     let Step { link, slot, kind, depth } = steps[steps.len() - 1];
@@ -37,14 +37,6 @@ pub fn by_put(before: &[u8], reading: &Reading, key: &[u8], value: &[u8]) -> Tou
             relinked: Some(link),
             ..Touched::default()
         },
-        Kind::Leaf if store::leaf_walked(before, slot) == string => {
-            let same_length = store::leaf_fields(before, slot).value_length == value.len();
-            Touched {
-                rewritten: if same_length { vec![] } else { vec![slot] },
-                extents: vec![reading.extents[&slot].clone()],
-                ..Touched::default()
-            }
-        }
         Kind::Leaf => {
             let share_bytes = store::leaf_walked(before, slot)[depth] == rest[0];
             let needed = if share_bytes {
@@ -81,6 +73,18 @@ pub fn by_put(before: &[u8], reading: &Reading, key: &[u8], value: &[u8]) -> Tou
             relinked: Some(link),
             ..Touched::default()
         },
+    }
+}
+
+/// For a replacement that is done: the key is present.
+pub fn by_replace(before: &[u8], reading: &Reading, key: &[u8], value: &[u8]) -> Touched {
+    let steps = store::walk(before, &walked(key));
+    let Step { slot, .. } = steps[steps.len() - 1];
+    let same_length = store::leaf_fields(before, slot).value_length == value.len();
+    Touched {
+        rewritten: if same_length { vec![] } else { vec![slot] },
+        extents: vec![reading.extents[&slot].clone()],
+        ..Touched::default()
     }
 }
 

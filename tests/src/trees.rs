@@ -116,23 +116,38 @@ pub fn small_value(random: &mut Random) -> Vec<u8> {
 #[derive(Clone, Debug)]
 pub enum Change {
     Put { key: Vec<u8>, value: Vec<u8> },
+    Replace { key: Vec<u8>, value: Vec<u8> },
     Erase { key: Vec<u8> },
 }
 
 impl Change {
     pub fn key(&self) -> &[u8] {
         match self {
-            Change::Put { key, .. } | Change::Erase { key } => key,
+            Change::Put { key, .. } | Change::Replace { key, .. } | Change::Erase { key } => key,
         }
     }
 }
 
-/// A change that meets a node of some kind in the tree.
+/// A change that meets a node of some kind in the tree: a put of a new key, or
+/// a replacement or an erase of one that is there.
 pub fn aimed(random: &mut Random, tree: &Option<Rc<Tree>>) -> Change {
     let Some(tree) = tree else {
         let key = extended(random, Vec::new());
         return Change::Put { key, value: small_value(random) };
     };
+    match at_some_node(random, tree) {
+        Change::Put { key, value } if holds(tree, &key) => Change::Replace { key, value },
+        change => change,
+    }
+}
+
+fn holds(tree: &Tree, key: &[u8]) -> bool {
+    let mut held = false;
+    tree.each(&mut |node| held |= leaf_key(node).is_some_and(|there| **there == *key));
+    held
+}
+
+fn at_some_node(random: &mut Random, tree: &Rc<Tree>) -> Change {
     let mut nodes = Vec::new();
     with_paths(tree, &mut Vec::new(), &mut nodes);
     if random.one_in(5) {
@@ -223,13 +238,13 @@ fn at_leaf(random: &mut Random, path: &[u8], key: &[u8], value: &[u8]) -> Change
     let string = walked(key);
     match random.below(6) {
         0 => Change::Erase { key: key.to_vec() },
-        1 => Change::Put { key: key.to_vec(), value: random.bytes(value.len()) },
+        1 => Change::Replace { key: key.to_vec(), value: random.bytes(value.len()) },
         2 => {
             // Another length, most often with the same rounded size.
             let length = if value.is_empty() { 1 } else { value.len() - 1 };
-            Change::Put { key: key.to_vec(), value: random.bytes(length) }
+            Change::Replace { key: key.to_vec(), value: random.bytes(length) }
         }
-        3 => Change::Put { key: key.to_vec(), value: small_value(random) },
+        3 => Change::Replace { key: key.to_vec(), value: small_value(random) },
         _ if path.len() == string.len() => Change::Erase { key: key.to_vec() },
         _ => {
             let shared = random.from_to(path.len(), key.len());

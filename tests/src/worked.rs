@@ -1,7 +1,9 @@
-//! The worked frames W1 to W11 and everything under "Run and compared".
+//! The worked frames W1 to W11, everything under "Run and compared", and worked
+//! cases of document 02.
 //!
-//! Believed here: the figures document 01 prints. They are literal, and do
-//! not come from any reading in this crate.
+//! Believed here: the figures document 01 prints, and what document 02 says of
+//! cases that can be told beforehand. They are literal, and do not come from
+//! any reading in this crate.
 
 use crate::compare::{Compared, Comparer, Held};
 use crate::layout::*;
@@ -45,6 +47,17 @@ fn put(
     figures: Figures,
 ) -> Compared<()> {
     let number = comparer.put(held, key, value)?;
+    figures.hold(comparer, held, number)
+}
+
+fn replace(
+    comparer: &mut Comparer,
+    held: &mut Held,
+    key: &[u8],
+    value: &[u8],
+    figures: Figures,
+) -> Compared<()> {
+    let number = comparer.replace(held, key, value)?;
     figures.hold(comparer, held, number)
 }
 
@@ -133,7 +146,7 @@ pub fn lengths_at_the_limits(comparer: &mut Comparer) -> Compared<()> {
     // Read back, replaced and packed at full length.
     for length in [32_768, 65_535, 32_767] {
         let figures = Figures { name: "a replaced value", number: 9, fields: &[] };
-        put(comparer, &mut held, b"value of 1", &vec![3; length], figures)?;
+        replace(comparer, &mut held, b"value of 1", &vec![3; length], figures)?;
         comparer.look_up(&held, b"value of 1")?;
     }
     let packed = comparer.pack(&held, &vec![2; LARGE.0])?.expect("a good frame packs");
@@ -185,6 +198,56 @@ pub fn growth_and_shrinking(comparer: &mut Comparer) -> Compared<()> {
     Ok(())
 }
 
+/// what a put and a replacement answer, and that neither asks for room if
+/// it has nothing to do.
+pub fn puts_and_replacements(comparer: &mut Comparer) -> Compared<()> {
+    comparer.begin("puts and replacements".to_string());
+    let long_value = vec![1; LONGEST_VALUE + 1];
+    let mut w2 = formatted(comparer, SMALL, 0)?;
+    let figures = Figures { name: "W2", number: 0, fields: &[(AT_B, 128), (AT_X, 0)] };
+    put(comparer, &mut w2, b"a", b"1", figures)?;
+    let as_before = &[(AT_U, 2), (AT_B, 128), (AT_R, 1), (AT_X, 0)];
+    let figures = |name, number| Figures { name, number, fields: as_before };
+    put(comparer, &mut w2, b"a", b"2", figures("a put of a present key", 11))?;
+    put(comparer, &mut w2, b"a", b"longer", figures("a longer put of a present key", 11))?;
+    put(comparer, &mut w2, b"a", &long_value, figures("5 before 11", 5))?;
+    replace(comparer, &mut w2, b"b", b"2", figures("a replacement of an absent key", 8))?;
+    replace(comparer, &mut w2, b"b", &long_value, figures("5 before 8", 5))?;
+    replace(comparer, &mut w2, b"", b"2", figures("a replacement without a key", 3))?;
+    replace(comparer, &mut w2, b"b\0", b"2", figures("a replacement of a key with 0", 4))?;
+    replace(comparer, &mut w2, b"a", b"2", figures("the same length", 9))?;
+    let figures = Figures {
+        name: "another length, though the size is the same",
+        number: 9,
+        fields: &[(AT_U, 2), (AT_B, 136), (AT_R, 1), (AT_X, 8)],
+    };
+    replace(comparer, &mut w2, b"a", b"23", figures)?;
+
+    let mut w7 = formatted(comparer, SMALL, 0)?;
+    for (key, value) in
+        [(&b"a"[..], b"1"), (b"b", b"2"), (b"ab", b"3"), (b"ac", b"4"), (b"ad", b"5")]
+    {
+        let figures = Figures { name: "W7", number: 0, fields: &[] };
+        put(comparer, &mut w7, key, value, figures)?;
+    }
+    let as_before = &[(AT_U, 8), (AT_B, 272), (AT_R, 5), (AT_X, 0)];
+    let figures = |name, number| Figures { name, number, fields: as_before };
+    put(comparer, &mut w7, b"ae", b"6", figures("W8", 6))?;
+    put(comparer, &mut w7, b"a", b"9", figures("no slot left, key present", 11))?;
+    replace(comparer, &mut w7, b"ae", b"6", figures("no slot left, key absent", 8))?;
+
+    let mut full = formatted(comparer, SMALL, 0)?;
+    let fill = vec![5; 1_024 - 104 - 16 - 1];
+    let figures = Figures { name: "full to the byte", number: 0, fields: &[(AT_B, 1_024)] };
+    put(comparer, &mut full, b"a", &fill, figures)?;
+    let as_before = &[(AT_U, 2), (AT_B, 1_024), (AT_R, 1), (AT_X, 0)];
+    let figures = |name, number| Figures { name, number, fields: as_before };
+    put(comparer, &mut full, b"a", &[5; 900], figures("no byte left, key present", 11))?;
+    replace(comparer, &mut full, b"b", b"2", figures("no byte left, key absent", 8))?;
+    replace(comparer, &mut full, b"a", b"2", figures("a shorter value, no byte left", 6))?;
+    replace(comparer, &mut full, b"a", &[6; 903], figures("the same length, no byte left", 9))
+}
+
 /// F and N around their limits, and slices of another length.
 pub fn format_limits(comparer: &mut Comparer) -> Compared<()> {
     comparer.begin("format around the limits".to_string());
@@ -223,12 +286,13 @@ pub fn order_of_refusals(comparer: &mut Comparer) -> Compared<()> {
     let mut wrong_length = not_good.clone();
     wrong_length.truncate(1_016);
     let long_value = vec![1; LONGEST_VALUE + 1];
-    let keys: [&[u8]; 5] = [b"", &[b'k'; 113], &[0; 113], b"a\0", b"b"];
+    let keys: [&[u8]; 6] = [b"", &[b'k'; 113], &[0; 113], b"a\0", b"b", b"a"];
     for bytes in [full.bytes().to_vec(), not_good, wrong_length] {
         let mut held = Held::new(bytes);
         for key in keys {
             for value in [&b""[..], b"v", &fill, &long_value] {
                 comparer.put(&mut held, key, value)?;
+                comparer.replace(&mut held, key, value)?;
             }
             comparer.look_up(&held, key)?;
             comparer.erase(&mut held, key)?;

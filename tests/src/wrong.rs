@@ -2,7 +2,7 @@
 //!
 //! Believed here: that the comparer tells them apart. Each wrong store is the
 //! second store with one fault; the comparison must catch every one of them,
-//! and must let pass the store that differs only where document 01 allows it.
+//! and must let pass the store that differs only where the documents allow it.
 
 use crate::check::{self, Rule};
 use crate::compare::{Calls, Second};
@@ -25,6 +25,7 @@ pub struct Altered {
     check: Box<Check>,
     look_up: Box<LookUp>,
     put: Box<Put>,
+    replace: Box<Put>,
     erase: Box<Erase>,
     pack: Box<Pack>,
     info: Box<Info>,
@@ -38,6 +39,7 @@ impl Altered {
             check: Box::new(|frame| Second.check(frame)),
             look_up: Box::new(|frame, key| Second.look_up(frame, key)),
             put: Box::new(|frame, key, value| Second.put(frame, key, value)),
+            replace: Box::new(|frame, key, value| Second.replace(frame, key, value)),
             erase: Box::new(|frame, key| Second.erase(frame, key)),
             pack: Box::new(|frame, out| Second.pack(frame, out)),
             info: Box::new(|frame| Second.info(frame)),
@@ -57,6 +59,9 @@ impl Calls for Altered {
     }
     fn put(&self, frame: &mut [u8], key: &[u8], value: &[u8]) -> u32 {
         (self.put)(frame, key, value)
+    }
+    fn replace(&self, frame: &mut [u8], key: &[u8], value: &[u8]) -> u32 {
+        (self.replace)(frame, key, value)
     }
     fn erase(&self, frame: &mut [u8], key: &[u8]) -> u32 {
         (self.erase)(frame, key)
@@ -86,6 +91,10 @@ fn with_look_up(
 
 fn with_put(name: &str, put: impl Fn(&mut [u8], &[u8], &[u8]) -> u32 + 'static) -> Altered {
     Altered { put: Box::new(put), ..Altered::named(name) }
+}
+
+fn with_replace(name: &str, replace: impl Fn(&mut [u8], &[u8], &[u8]) -> u32 + 'static) -> Altered {
+    Altered { replace: Box::new(replace), ..Altered::named(name) }
 }
 
 fn with_erase(name: &str, erase: impl Fn(&mut [u8], &[u8]) -> u32 + 'static) -> Altered {
@@ -251,11 +260,19 @@ fn end_of_way(frame: &[u8], key: &[u8]) -> Option<Step> {
     legal.then(|| *store::walk(frame, &walked(key)).last().expect("at least the root"))
 }
 
+/// What a put was before document 02.
+fn put_or_replace(frame: &mut [u8], key: &[u8], value: &[u8]) -> u32 {
+    match Second.put(frame, key, value) {
+        PRESENT => Second.replace(frame, key, value),
+        given => given,
+    }
+}
+
 pub fn puts() -> Vec<Altered> {
     vec![
         with_put("a put that answers 6 to everything", |frame, key, value| {
             match Second.put(&mut frame.to_vec(), key, value) {
-                DONE | REPLACED => NO_ROOM,
+                DONE => NO_ROOM,
                 given => given,
             }
         }),
@@ -284,39 +301,50 @@ pub fn puts() -> Vec<Altered> {
         }),
         with_put("a put that takes 32,768 bytes for a negative length", |frame, key, value| {
             let given = Second.put(&mut frame.to_vec(), key, value);
-            if value.len() > 32_767 && (given == DONE || given == REPLACED) {
+            if value.len() > 32_767 && given == DONE {
                 return VALUE_LENGTH;
             }
             Second.put(frame, key, value)
         }),
-        with_put("a put that says 0 for a key that was there", |frame, key, value| {
-            match Second.put(frame, key, value) {
-                REPLACED => DONE,
+        with_put("a put that replaces all the same", put_or_replace),
+        with_put("a put that says 11 and writes", |frame, key, value| {
+            match put_or_replace(frame, key, value) {
+                REPLACED => PRESENT,
                 given => given,
             }
         }),
-        with_put("a put that keeps the extent if rounded sizes agree", |frame, key, value| {
-            if let Some(Step { kind: Kind::Leaf, slot, .. }) = end_of_way(frame, key) {
-                let leaf = store::leaf_fields(frame, slot);
-                let size = extent_bytes(leaf.key_length, leaf.value_length);
-                let same_key = frame[leaf.extent..][..leaf.key_length] == *key;
-                if same_key && extent_bytes(key.len(), value.len()) == size {
-                    frame[leaf.extent + key.len()..][..value.len()].copy_from_slice(value);
-                    store::write_leaf(frame, slot, leaf.extent, key.len(), value.len());
-                    return REPLACED;
-                }
-            }
-            Second.put(frame, key, value)
-        }),
-        with_put("a put that retires the length and not the size", |frame, key, value| {
-            let before = check::check(frame) == DONE;
-            let dead = if before { get32(frame, AT_X) } else { 0 };
+        with_put("a put that says 11 and takes a value of the same length", |frame, key, value| {
             let given = Second.put(frame, key, value);
-            if given == REPLACED && get32(frame, AT_X) > dead {
-                set32(frame, AT_X, get32(frame, AT_X) - 1);
+            if given == PRESENT && Second.look_up(frame, key).2 == value.len() as u64 {
+                Second.replace(frame, key, value);
             }
             given
         }),
+        with_put("a put that asks for room before it says 11", |frame, key, value| {
+            match put_or_replace(&mut frame.to_vec(), key, value) {
+                NO_ROOM => NO_ROOM,
+                _ => Second.put(frame, key, value),
+            }
+        }),
+        with_put("a put that says 9 for a key that was there", |frame, key, value| {
+            match Second.put(frame, key, value) {
+                PRESENT => REPLACED,
+                given => given,
+            }
+        }),
+        with_put("a put that says 0 for a key that was there", |frame, key, value| {
+            match Second.put(frame, key, value) {
+                PRESENT => DONE,
+                given => given,
+            }
+        }),
+        with_put(
+            "a put that says 11 before it looks at the value",
+            |frame, key, value| match Second.put(frame, key, value) {
+                VALUE_LENGTH if Second.look_up(frame, key).0 == DONE => PRESENT,
+                given => given,
+            },
+        ),
         with_put("a put that clears all from B on", |frame, key, value| {
             let given = Second.put(frame, key, value);
             if given == DONE {
@@ -414,19 +442,6 @@ pub fn puts() -> Vec<Altered> {
             }
             given
         }),
-        with_put("a put that takes a new extent for the same length", |frame, key, value| {
-            let found = Second.look_up(frame, key);
-            let size = extent_bytes(key.len(), value.len());
-            let same = found.0 == DONE && found.2 == value.len() as u64;
-            if same && get32(frame, AT_B) + size <= frame.len() {
-                let step = end_of_way(frame, key).expect("the key is there");
-                let extent = store::write_extent(frame, key, value);
-                store::write_leaf(frame, step.slot, extent, key.len(), value.len());
-                set32(frame, AT_X, get32(frame, AT_X) + size);
-                return REPLACED;
-            }
-            Second.put(frame, key, value)
-        }),
         with_put("a put that clears the padding of other extents", |frame, key, value| {
             let given = Second.put(frame, key, value);
             if given == DONE {
@@ -448,8 +463,93 @@ pub fn puts() -> Vec<Altered> {
             }
             given
         }),
-        with_put("a put that changes the value it is lent", |frame, key, value| {
-            let given = Second.put(frame, key, value);
+    ]
+}
+
+pub fn replaces() -> Vec<Altered> {
+    vec![
+        with_replace("a replacement that puts a key that is absent", put_or_replace),
+        with_replace("a replacement that says 8 and puts the key", |frame, key, value| {
+            let given = Second.replace(frame, key, value);
+            if given == ABSENT {
+                Second.put(frame, key, value);
+            }
+            given
+        }),
+        with_replace("a replacement that asks for room before it says 8", |frame, key, value| {
+            match put_or_replace(&mut frame.to_vec(), key, value) {
+                NO_ROOM => NO_ROOM,
+                _ => Second.replace(frame, key, value),
+            }
+        }),
+        with_replace("a replacement that says 0", |frame, key, value| {
+            match Second.replace(frame, key, value) {
+                REPLACED => DONE,
+                given => given,
+            }
+        }),
+        with_replace("a replacement that only says 9", |frame, key, value| {
+            Second.replace(&mut frame.to_vec(), key, value)
+        }),
+        with_replace(
+            "a replacement that says 8 before it looks at the value",
+            |frame, key, value| match Second.replace(frame, key, value) {
+                VALUE_LENGTH if Second.look_up(frame, key).0 == ABSENT => ABSENT,
+                given => given,
+            },
+        ),
+        with_replace("a replacement that says 8 where there is no room", |frame, key, value| {
+            match Second.replace(frame, key, value) {
+                NO_ROOM => ABSENT,
+                given => given,
+            }
+        }),
+        with_replace(
+            "a replacement that keeps the extent if rounded sizes agree",
+            |frame, key, value| {
+                if let Some(Step { kind: Kind::Leaf, slot, .. }) = end_of_way(frame, key) {
+                    let leaf = store::leaf_fields(frame, slot);
+                    let size = extent_bytes(leaf.key_length, leaf.value_length);
+                    let same_key = frame[leaf.extent..][..leaf.key_length] == *key;
+                    if same_key && extent_bytes(key.len(), value.len()) == size {
+                        frame[leaf.extent + key.len()..][..value.len()].copy_from_slice(value);
+                        store::write_leaf(frame, slot, leaf.extent, key.len(), value.len());
+                        return REPLACED;
+                    }
+                }
+                Second.replace(frame, key, value)
+            },
+        ),
+        with_replace(
+            "a replacement that retires the length and not the size",
+            |frame, key, value| {
+                let before = check::check(frame) == DONE;
+                let dead = if before { get32(frame, AT_X) } else { 0 };
+                let given = Second.replace(frame, key, value);
+                if given == REPLACED && get32(frame, AT_X) > dead {
+                    set32(frame, AT_X, get32(frame, AT_X) - 1);
+                }
+                given
+            },
+        ),
+        with_replace(
+            "a replacement that takes a new extent for the same length",
+            |frame, key, value| {
+                let found = Second.look_up(frame, key);
+                let size = extent_bytes(key.len(), value.len());
+                let same = found.0 == DONE && found.2 == value.len() as u64;
+                if same && get32(frame, AT_B) + size <= frame.len() {
+                    let step = end_of_way(frame, key).expect("the key is there");
+                    let extent = store::write_extent(frame, key, value);
+                    store::write_leaf(frame, step.slot, extent, key.len(), value.len());
+                    set32(frame, AT_X, get32(frame, AT_X) + size);
+                    return REPLACED;
+                }
+                Second.replace(frame, key, value)
+            },
+        ),
+        with_replace("a replacement that changes the value it is lent", |frame, key, value| {
+            let given = Second.replace(frame, key, value);
             if given == REPLACED && !value.is_empty() {
                 // As a C function could: the comparer looks at memory anew.
                 let first = value.as_ptr().cast_mut();
@@ -742,14 +842,22 @@ fn pack_keeping_node16(frame: &[u8], slot: usize, out: &mut [u8]) -> usize {
 
 const GARBAGE: u8 = 0xDD;
 
-/// Differs from the second store in every way that document 01 leaves open.
+/// Differs from the second store in every way that the documents leave open.
 pub fn right_but_different() -> Altered {
     Altered {
         put: Box::new(|frame, key, value| {
             let before = frame.to_vec();
             let given = Second.put(frame, key, value);
-            if given == DONE || given == REPLACED {
+            if given == DONE {
                 lower_keeps_the_body(&before, frame, key);
+                use_freedoms(&before, frame);
+            }
+            given
+        }),
+        replace: Box::new(|frame, key, value| {
+            let before = frame.to_vec();
+            let given = Second.replace(frame, key, value);
+            if given == REPLACED {
                 use_freedoms(&before, frame);
             }
             given

@@ -108,11 +108,11 @@ fn frames_for_dotted_settings() {
         for turn in 0..count * CHANGES {
             let (key, _) = &all[turn % count];
             let value = value(&mut random);
-            let mut given = Exported.put(&mut frame, key, &value);
+            let mut given = Exported.replace(&mut frame, key, &value);
             if given == NO_ROOM {
                 frame = packed(&frame);
                 packings += 1;
-                given = Exported.put(&mut frame, key, &value);
+                given = Exported.replace(&mut frame, key, &value);
             }
             assert_eq!(given, REPLACED, "{count} settings, change {turn}");
         }

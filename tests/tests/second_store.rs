@@ -30,6 +30,11 @@ fn growth_and_shrinking_hold() {
 }
 
 #[test]
+fn puts_and_replacements_hold() {
+    passes(worked::puts_and_replacements(&mut Comparer::new(&Second)));
+}
+
+#[test]
 fn format_limits_hold() {
     passes(worked::format_limits(&mut Comparer::new(&Second)));
 }
@@ -92,7 +97,7 @@ fn two_orders_pack_to_one_image() {
         assert_eq!(store::format(&mut frame, 32_768, 600), 0);
         for key in order {
             assert_eq!(store::put(&mut frame, key, b"first"), 0);
-            assert_eq!(store::put(&mut frame, key, &key.repeat(3)), 9);
+            assert_eq!(store::replace(&mut frame, key, &key.repeat(3)), 9);
         }
         assert_eq!(store::records(&frame), records);
         let mut out = vec![1; 32_768];

@@ -1,7 +1,8 @@
-//! W1 to W11 and the lengths and children that document 01 lists under "Run
-//! and compared", told step by step: the number given and U, B, R and X after
-//! it. The exported calls and the second store are held to the stored lines,
-//! and these to the figures that document 01 prints.
+//! W1 to W11, the lengths and children that document 01 lists under "Run and
+//! compared", and puts and replacements of document 02, told step by step: the
+//! number given and U, B, R and X after it. The exported calls and the second
+//! store are held to the stored lines, and these to the figures that document
+//! 01 prints.
 
 use second_store::compare::{Calls, Second};
 use second_store::exported::Exported;
@@ -36,6 +37,18 @@ const PRINTED: [&str; 16] = [
     "key of 113: 3 ",
 ];
 
+/// What document 02 says of a put and a replacement: a step, and its number.
+const TOLD_BY_Q5: [&str; 8] = [
+    "Q-5 put a=2: 11 ",
+    "Q-5 replace b=2: 8 ",
+    "Q-5 replace a=2: 9 ",
+    "Q-5 put a of 65536: 5 ",
+    "Q-5 replace b of 65536: 5 ",
+    "Q-5 replace a of 895: 6 ",
+    "Q-5 put a of 895: 11 ",
+    "Q-5 replace b of 895: 8 ",
+];
+
 /// Children and the kind they are kept in, on the way up and down.
 const UP: [(u8, usize); 6] = [(4, 4), (5, 5), (16, 5), (17, 6), (48, 6), (49, 7)];
 const DOWN: [(u8, usize); 6] = [(38, 7), (37, 6), (13, 6), (12, 5), (4, 5), (3, 4)];
@@ -66,6 +79,11 @@ impl Told<'_> {
 
     fn put(&mut self, step: &str, frame: &mut [u8], key: &[u8], value: &[u8]) {
         let given = self.calls.put(frame, key, value);
+        self.line(step, given, frame);
+    }
+
+    fn replace(&mut self, step: &str, frame: &mut [u8], key: &[u8], value: &[u8]) {
+        let given = self.calls.replace(frame, key, value);
         self.line(step, given, frame);
     }
 
@@ -140,18 +158,40 @@ impl Told<'_> {
     }
 }
 
+/// Q-5.
+impl Told<'_> {
+    fn puts_and_replacements(&mut self) {
+        let mut frame = self.format("Q-5 format", SMALL);
+        self.put("Q-5 put a=1", &mut frame, b"a", b"1");
+        self.put("Q-5 put a=2", &mut frame, b"a", b"2");
+        self.replace("Q-5 replace b=2", &mut frame, b"b", b"2");
+        self.replace("Q-5 replace a=2", &mut frame, b"a", b"2");
+        self.look_up(&frame, b"a", b"2");
+        self.replace("Q-5 replace a=23", &mut frame, b"a", b"23");
+        self.look_up(&frame, b"a", b"23");
+        self.put("Q-5 put a of 65536", &mut frame, b"a", &[b'v'; LONG]);
+        self.replace("Q-5 replace b of 65536", &mut frame, b"b", &[b'v'; LONG]);
+        self.replace("Q-5 replace a of 880", &mut frame, b"a", &[b'v'; 880]);
+        self.replace("Q-5 replace a of 895", &mut frame, b"a", &[b'v'; 895]);
+        self.put("Q-5 put a of 895", &mut frame, b"a", &[b'v'; 895]);
+        self.replace("Q-5 replace b of 895", &mut frame, b"b", &[b'v'; 895]);
+        self.put("Q-5 put b of 895", &mut frame, b"b", &[b'v'; 895]);
+    }
+}
+
 fn told(calls: &dyn Calls) -> String {
     let mut told = Told { calls, text: String::new() };
     told.worked();
     told.lengths();
     told.growth_and_shrinking();
+    told.puts_and_replacements();
     told.text
 }
 
 #[test]
 fn the_stored_lines_have_the_printed_figures() {
     let lines: Vec<&str> = STORED.lines().collect();
-    for printed in PRINTED {
+    for printed in PRINTED.into_iter().chain(TOLD_BY_Q5) {
         assert!(lines.iter().any(|line| line.starts_with(printed)), "no line {printed}");
     }
     let top = lines.iter().position(|line| line.starts_with("children 49: "));

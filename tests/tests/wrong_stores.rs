@@ -1,5 +1,5 @@
 //! The comparison catches every deliberately wrong store, and lets pass one
-//! that differs only where document 01 leaves it free.
+//! that differs only where the documents leave it free.
 
 use second_store::run::{all_stages, Effort};
 use second_store::wrong::{self, Altered};
@@ -38,7 +38,12 @@ fn wrong_look_ups_are_caught() {
 
 #[test]
 fn wrong_puts_are_caught() {
-    all_caught(wrong::puts(), 23);
+    all_caught(wrong::puts(), 25);
+}
+
+#[test]
+fn wrong_replacements_are_caught() {
+    all_caught(wrong::replaces(), 11);
 }
 
 #[test]

@@ -1,4 +1,4 @@
-//! The numbers of document 01, by name.
+//! The numbers of documents 01 and 02, by name.
 //!
 //! Believed here: the header table, the slot entry, the table of kinds with
 //! its field places, the limits, and the numbers a call can give. Nothing in
@@ -70,6 +70,8 @@ pub mod number {
     pub const OUTPUT_LENGTH: u32 = 7;
     pub const ABSENT: u32 = 8;
     pub const REPLACED: u32 = 9;
+    /// A plain put finds its key present, and changes nothing (document 02, Q-5).
+    pub const PRESENT: u32 = 11;
 }
 
 #[derive(Clone, Copy, PartialEq, Eq, PartialOrd, Ord, Debug)]
