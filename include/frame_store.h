@@ -36,9 +36,9 @@
  * nothing leads to them. They are gone from the packed image; until it is used, and the frame overwritten, a secret is still there.
  *
  * What the caller answers for, because no call can test it:
- *   - each pointer leads to as many bytes (for place_and_len and counts: numbers) as the length after it says, and is not NULL even
+ *   - each pointer leads to as many bytes (for found and counts: numbers) as the length after it says, and is not NULL even
  *     if that length is 0;
- *   - what is lent for writing (frame in format, put, replace and erase; place_and_len; out; counts) overlaps nothing else that is lent to the
+ *   - what is lent for writing (frame in format, put, replace and erase; found; out; counts) overlaps nothing else that is lent to the
  *     same call: key and value do not lie in the frame that is written, and out is not the frame;
  *   - nobody else writes to lent bytes during the call, nor reads those that the call writes.
  */
@@ -77,26 +77,29 @@ uint32_t frame_check(const uint8_t *frame, frame_length frame_len);
 
 /*
  * Finds a record. Gives 0, 8, or a refusal of 1 to 4. Reads only.
- * place_and_len has room for two numbers, and two is 2: then place_and_len[0] is where the value begins, counted in bytes from the
- * frame's start, and place_and_len[1] is its length; 8 sets both to 0. If the call is refused, or two is not 2, nothing is written
- * there. The value is frame + place_and_len[0]; it stands there until the next put, replace or erase.
+ * found has room for three numbers, and three is 3: then found[0] is where the value begins, counted in bytes from the frame's start,
+ * and found[1] is its length, both 0 with 8; found[2] is how many slots were visited after the check of the frame, the last one
+ * included, with 0 and with 8. That is at most the key's length and 2, in every good frame. If the call is refused, or three is not 3,
+ * nothing is written there. The value is frame + found[0]; it stands there until the next put, replace or erase.
  */
 uint32_t frame_look_up(const uint8_t *frame, frame_length frame_len, const uint8_t *key, frame_length key_len,
-                       uint64_t *place_and_len, frame_length two);
+                       uint64_t *found, frame_length three);
 
-/* The same, with no count to get wrong: 8 sets place and length to 0, and a refused call leaves them as they are. */
+/* The same, with no count to get wrong: 8 sets place and length to 0, and a refused call leaves all three as they are. */
 struct frame_found {
     uint64_t place;
     uint64_t length;
+    uint64_t slots; /* visited, the last one included */
 };
 
 static inline uint32_t frame_find(const uint8_t *frame, frame_length frame_len, const uint8_t *key, frame_length key_len,
                                   struct frame_found *found) {
-    uint64_t place_and_len[2] = {0, 0};
-    uint32_t given = frame_look_up(frame, frame_len, key, key_len, place_and_len, 2);
+    uint64_t told[3] = {0, 0, 0};
+    uint32_t given = frame_look_up(frame, frame_len, key, key_len, told, 3);
     if (given == 0 || given == 8) {
-        found->place = place_and_len[0];
-        found->length = place_and_len[1];
+        found->place = told[0];
+        found->length = told[1];
+        found->slots = told[2];
     }
     return given;
 }

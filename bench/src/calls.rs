@@ -57,8 +57,8 @@ pub struct Lent<'a> {
     pub value: &'a [u8],
     /// The slot capacity for format.
     pub n: usize,
-    /// Place and length that look-up gives.
-    pub found: [u64; 2],
+    /// Place, length and slots that look-up gives.
+    pub found: [u64; 3],
 }
 
 /// Makes the call and gives its number.
@@ -69,8 +69,8 @@ pub fn plain(call: Call) -> Function {
         Call::Format => |lent| plain::format(lent.frame, lent.frame.len(), lent.n),
         Call::Check => |lent| plain::check(lent.frame),
         Call::LookUp => |lent| {
-            let (number, place, length) = plain::look_up(lent.frame, lent.key);
-            lent.found = [place, length];
+            let (number, found) = plain::look_up(lent.frame, lent.key);
+            lent.found = found;
             number
         },
         Call::Put => |lent| plain::put(lent.frame, lent.key, lent.value),

@@ -89,5 +89,5 @@ fn stacks() {
 /// The deepest key, except for put, which adds a new one beside it.
 fn lent<'a>(tree: &'a DeepTree, call: Call, frame: &'a mut [u8], out: &'a mut [u8]) -> Lent<'a> {
     let key = if call == Call::Put { &tree.absent } else { &tree.present };
-    Lent { frame, out, key, value: b"", n: MOST_SLOTS, found: [0; 2] }
+    Lent { frame, out, key, value: b"", n: MOST_SLOTS, found: [0; 3] }
 }

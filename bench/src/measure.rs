@@ -119,7 +119,7 @@ impl<'a> Sampler<'a> {
                 key: &input.key,
                 value: &input.value,
                 n: self.workload.n,
-                found: [0; 2],
+                found: [0; 3],
             };
             as_expected &= function(black_box(&mut lent)) == *number;
             black_box(&mut lent);

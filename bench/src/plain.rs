@@ -42,16 +42,17 @@ pub fn format(frame: &mut [u8], f: usize, n: usize) -> u32 {
     DONE
 }
 
-/// The number, and the place and length of the value.
-pub fn look_up(frame: &[u8], key: &[u8]) -> (u32, u64, u64) {
+/// The number; the place and length of the value, and the slots visited.
+pub fn look_up(frame: &[u8], key: &[u8]) -> (u32, [u64; 3]) {
     match refusal(frame, key) {
         DONE => {}
-        refused => return (refused, 0, 0),
+        refused => return (refused, [0; 3]),
     }
-    let end = walk::walk(frame, key).end;
-    match walk::present(frame, &end, key) {
-        None => (ABSENT, 0, 0),
-        Some(leaf) => (DONE, (leaf.extent + key.len()) as u64, leaf.value_length as u64),
+    let way = walk::walk(frame, key);
+    let slots = way.slots as u64;
+    match walk::present(frame, &way.end, key) {
+        None => (ABSENT, [0, 0, slots]),
+        Some(leaf) => (DONE, [(leaf.extent + key.len()) as u64, leaf.value_length as u64, slots]),
     }
 }
 

@@ -220,7 +220,7 @@ fn keep_giving(frame: &[u8], n: usize, call: Call, number: u32, inputs: &mut Vec
             key: &input.key,
             value: &input.value,
             n,
-            found: [0; 2],
+            found: [0; 3],
         });
         kept += usize::from(given == number);
         given == number

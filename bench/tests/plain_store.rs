@@ -16,8 +16,9 @@ impl Calls for Plain {
     fn check(&self, frame: &[u8]) -> u32 {
         plain::check(frame)
     }
-    fn look_up(&self, frame: &[u8], key: &[u8]) -> (u32, u64, u64) {
-        plain::look_up(frame, key)
+    fn look_up(&self, frame: &[u8], key: &[u8]) -> store::Found {
+        let (number, [place, length, slots]) = plain::look_up(frame, key);
+        store::Found { number, place, length, slots }
     }
     fn put(&self, frame: &mut [u8], key: &[u8], value: &[u8]) -> u32 {
         plain::put(frame, key, value)

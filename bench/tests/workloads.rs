@@ -28,7 +28,7 @@ fn deep_trees_are_as_deep_as_allowed() {
         let state = decode::state(&tree.frame, &reading);
         let root = state.tree.expect("there are records");
         assert_eq!(slots_deep(&root), 113, "{}", tree.name);
-        assert_eq!(store::look_up(&tree.frame, &tree.present).0, DONE, "{}", tree.name);
+        assert_eq!(store::look_up(&tree.frame, &tree.present).number, DONE, "{}", tree.name);
         assert_eq!(store::put(&mut tree.frame.clone(), &tree.absent, b""), DONE, "{}", tree.name);
     }
 }
@@ -42,7 +42,7 @@ fn gives_the_numbers_it_tells(workload: &Workload, what: &str) {
         let number = match task.call {
             Call::Format => store::format(&mut frame, f, workload.n),
             Call::Check => check(&frame),
-            Call::LookUp => store::look_up(&frame, &input.key).0,
+            Call::LookUp => store::look_up(&frame, &input.key).number,
             Call::Put => store::put(&mut frame, &input.key, &input.value),
             Call::Replace => store::replace(&mut frame, &input.key, &input.value),
             Call::Erase => store::erase(&mut frame, &input.key),

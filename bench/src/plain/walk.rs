@@ -20,6 +20,8 @@ pub struct Way {
     pub end: Step,
     pub parent: Step,
     pub above: Step,
+    /// How many slots were visited, the end's included.
+    pub slots: usize,
 }
 
 /// The fields of a live Leaf.
@@ -40,7 +42,7 @@ pub fn walked_byte(key: &[u8], depth: usize) -> u8 {
 #[inline(always)]
 pub fn walk(frame: &[u8], key: &[u8]) -> Way {
     let root = step(frame, AT_ROOT, get16(frame, AT_ROOT), 0);
-    let mut way = Way { end: root, parent: root, above: root };
+    let mut way = Way { end: root, parent: root, above: root, slots: 1 };
     loop {
         let Step { kind, body, depth, .. } = way.end;
         let (field, deeper) = match kind {
@@ -58,7 +60,7 @@ pub fn walk(frame: &[u8], key: &[u8]) -> Way {
             },
         };
         let next = step(frame, field, get32(frame, field), deeper);
-        way = Way { end: next, parent: way.end, above: way.parent };
+        way = Way { end: next, parent: way.end, above: way.parent, slots: way.slots + 1 };
     }
 }
 

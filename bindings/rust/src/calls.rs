@@ -22,8 +22,8 @@ mod c {
             frame_len: Length,
             key: *const u8,
             key_len: Length,
-            place_and_len: *mut u64,
-            two: Length,
+            found: *mut u64,
+            three: Length,
         ) -> u32;
         pub fn frame_put(
             frame: *mut u8,
@@ -70,14 +70,14 @@ pub fn check(frame: &[u8]) -> u32 {
     unsafe { c::frame_check(frame.as_ptr(), length(frame.len())) }
 }
 
-pub fn look_up(frame: &[u8], key: &[u8]) -> (u32, [u64; 2]) {
-    let mut place_and_len = [0; 2];
+pub fn look_up(frame: &[u8], key: &[u8]) -> (u32, [u64; 3]) {
+    let mut found = [0; 3];
     let (frame_len, key_len) = (length(frame.len()), length(key.len()));
-    let two = length(place_and_len.len());
-    let lent = place_and_len.as_mut_ptr();
+    let three = length(found.len());
+    let lent = found.as_mut_ptr();
     let number =
-        unsafe { c::frame_look_up(frame.as_ptr(), frame_len, key.as_ptr(), key_len, lent, two) };
-    (number, place_and_len)
+        unsafe { c::frame_look_up(frame.as_ptr(), frame_len, key.as_ptr(), key_len, lent, three) };
+    (number, found)
 }
 
 pub fn put(frame: &mut [u8], key: &[u8], value: &[u8]) -> u32 {

@@ -214,6 +214,11 @@ const ABSENT: u32 = 8;
 const REPLACED: u32 = 9;
 const PRESENT: u32 = 11;
 
+/// A place, a length or a count of a frame.
+fn in_frame(number: u64) -> usize {
+    usize::try_from(number).expect("a frame has at most 524,288 bytes")
+}
+
 /// A frame in borrowed bytes, to read.
 #[derive(Clone, Copy)]
 pub struct View<'a> {
@@ -240,12 +245,17 @@ impl<'a> View<'a> {
     /// Where the value of a key stands, counted from the frame's start.
     pub fn place(self, key: &[u8]) -> Result<Option<Range<usize>>, Refusal> {
         match calls::look_up(self.bytes, key) {
-            (DONE, [place, length]) => {
-                let place = usize::try_from(place).expect("a place in a frame");
-                let length = usize::try_from(length).expect("a length in a frame");
-                Ok(Some(place..place + length))
-            }
+            (DONE, [place, length, _]) => Ok(Some(in_frame(place)..in_frame(place + length))),
             (ABSENT, _) => Ok(None),
+            (refused, _) => Err(Refusal::of_number(refused)),
+        }
+    }
+
+    /// How many slots a look-up of this key visits after the check of the frame, the last one included, whether the key is there or
+    /// not: at most the key's length and 2, in every good frame.
+    pub fn visits(self, key: &[u8]) -> Result<usize, Refusal> {
+        match calls::look_up(self.bytes, key) {
+            (DONE | ABSENT, [_, _, slots]) => Ok(in_frame(slots)),
             (refused, _) => Err(Refusal::of_number(refused)),
         }
     }
@@ -263,10 +273,8 @@ impl<'a> View<'a> {
     pub fn info(self) -> Result<Info, Refusal> {
         match calls::info(self.bytes) {
             (DONE, counts) => {
-                let counts =
-                    counts.map(|count| usize::try_from(count).expect("a count of a frame"));
                 let [bytes, slots, slots_given, bytes_given, records, dead_bytes, freed @ ..] =
-                    counts;
+                    counts.map(in_frame);
                 Ok(Info { bytes, slots, slots_given, bytes_given, records, dead_bytes, freed })
             }
             (refused, _) => Err(Refusal::of_number(refused)),
@@ -356,6 +364,11 @@ impl<B: AsRef<[u8]> + AsMut<[u8]>> Frame<B> {
     /// Where the value of a key stands, counted from the frame's start.
     pub fn place(&self, key: &[u8]) -> Result<Option<Range<usize>>, Refusal> {
         self.view().place(key)
+    }
+
+    /// How many slots a look-up of this key visits; see [`View::visits`].
+    pub fn visits(&self, key: &[u8]) -> Result<usize, Refusal> {
+        self.view().visits(key)
     }
 
     /// Writes the packed image of the records to `out`; see [`View::pack`]. This frame stays as it is.

@@ -54,6 +54,22 @@ fn put_replace_look_up_and_erase() -> Result<(), Refusal> {
     Ok(())
 }
 
+#[test]
+fn visits_are_the_slots_on_the_way() -> Result<(), Refusal> {
+    let mut frame = Frame::format([0; F], N)?;
+    assert_eq!(frame.visits(b"a")?, 1, "the EmptyRoot");
+    frame.put(b"a", b"1")?;
+    assert_eq!((frame.visits(b"a")?, frame.visits(b"b")?), (1, 1), "the Leaf");
+    frame.put(b"b", b"2")?;
+    assert_eq!((frame.visits(b"a")?, frame.visits(b"c")?), (2, 1));
+    frame.put(b"ab", b"3")?;
+    assert_eq!(frame.visits(b"a")?, 3, "no look-up of one byte visits more");
+    assert_eq!((frame.visits(b"ac")?, frame.visits(b"abc")?), (2, 3));
+    assert_eq!(frame.visits(b""), Err(Refusal::KeyLength));
+    assert_eq!(frame.view().visits(b"\0"), Err(Refusal::KeyZero));
+    Ok(())
+}
+
 /// A frame beside its bytes, which a device keeps as long as it runs.
 #[derive(Debug)]
 struct Device {
@@ -89,6 +105,7 @@ fn bytes_that_were_not_looked_at_are_refused_by_each_call() {
         assert_eq!(frame.erase(b"a"), Err(refusal));
         assert_eq!(frame.look_up(b"a"), Err(refusal));
         assert_eq!(View::over(&bytes).place(b"a"), Err(refusal));
+        assert_eq!(frame.visits(b"a"), Err(refusal));
         assert_eq!(frame.pack([0; F]).err(), Some(refusal));
         assert_eq!(frame.info(), Err(refusal));
         assert_eq!(frame.into_bytes(), bytes);

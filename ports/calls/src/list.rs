@@ -14,7 +14,7 @@ pub const LONGEST_FRAME: usize = 524_288;
 pub const LONGEST_VALUE: usize = 65_535;
 pub const LONGEST_KEY: usize = 112;
 /// A look-up writes its numbers only if it is lent so many.
-pub const LOOK_UP_NUMBERS: usize = 2;
+pub const LOOK_UP_NUMBERS: usize = 3;
 /// So does an info.
 pub const INFO_NUMBERS: usize = 14;
 
