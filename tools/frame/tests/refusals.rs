@@ -72,6 +72,8 @@ fn a_refused_line_leaves_the_image() {
     refused(&folder, &["import", "i", "lines"], "line 1: the backslash at place 1");
     folder.write("lines", "a=1\n=\n");
     refused(&folder, &["size", "lines"], "line 2: in the largest frame: put refused (answer 3)");
+    folder.write("lines", "a=1\na=2\n");
+    refused(&folder, &["size", "lines"], "line 2: the key is there (answer 11)");
     refused(&folder, &["size", "nothing"], "nothing: ");
     refused(&folder, &["size", "/dev/zero"], "/dev/zero: it has more than");
 }

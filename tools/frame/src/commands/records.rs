@@ -79,16 +79,14 @@ pub fn size(given: &Given) -> Result<(), Ended> {
     let mut progress = Progress::of(records.len());
     for (at, record) in records.into_iter().enumerate() {
         let put = Change::Put(record);
-        match put.make(&mut frame) {
-            Ok(_) => progress.step(),
-            Err(refusal) => {
-                let why = put.refused(&frame, refusal);
-                return Err(Ended::at(
-                    path,
-                    format!("line {}: in the largest frame: {why}", at + 1),
-                ));
-            }
+        let why = match put.make(&mut frame) {
+            Ok(done) => done.without_effect().map(str::to_string),
+            Err(refusal) => Some(format!("in the largest frame: {}", put.refused(&frame, refusal))),
+        };
+        if let Some(why) = why {
+            return Err(Ended::at(path, format!("line {}: {why}", at + 1)));
         }
+        progress.step();
     }
     drop(progress);
     let refused = |refusal: Refusal| Ended::at(path, refusal);
