@@ -165,6 +165,11 @@ impl<'a> Comparer<'a> {
         Comparer { calls, tally: Tally::default(), stage: String::new(), step: 0 }
     }
 
+    /// The calls themselves, for what is told of them without any prediction.
+    pub fn calls(&self) -> &'a dyn Calls {
+        self.calls
+    }
+
     /// Steps are counted from here; a difference names the stage and the step.
     pub fn begin(&mut self, stage: String) {
         self.stage = stage;

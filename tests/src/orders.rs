@@ -1,13 +1,22 @@
-//! One set of records, reached in many ways.
+//! One set of records reached in many ways, and calls made in any order.
 //!
 //! Believed here: "For a set of records, F and N": the packed image depends
 //! on nothing else. Whatever the order of the calls, and whatever was put and
 //! erased on the way, equal records pack to equal bytes, and other records to
-//! other bytes.
+//! other bytes. And Q-14: two sequences over one good frame with the same
+//! changes, those on one key in the same order, give the same answers and pack
+//! to the same bytes if none is refused.
 
-use crate::compare::{Compared, Comparer, Held};
+use crate::compare::{Calls, Compared, Comparer, Held};
+use crate::crafted::{build, Spare};
+use crate::layout::number::{ABSENT, DONE, PRESENT, REPLACED};
+use crate::layout::Kind;
 use crate::random::Random;
+use crate::slotless::ByKind;
 use crate::store::Records;
+use crate::tally::Entry;
+use crate::trees::{aimed, random_tree, small_value, Change};
+use std::collections::BTreeMap;
 
 const F: usize = 32_768;
 const N: usize = 600;
@@ -83,4 +92,110 @@ pub fn same_records(comparer: &mut Comparer, seed: u64, rounds: u64) -> Compared
         }
     }
     Ok(())
+}
+
+/// Of ten pairs of sequences, so many have to be without a refusal.
+const STAY_OF_TEN: u64 = 8;
+
+/// Nothing is predicted here: the calls are held to one another.
+pub fn any_order(comparer: &mut Comparer, seed: u64, rounds: u64) -> Compared<()> {
+    let mut stay = 0;
+    for round in 0..rounds {
+        comparer.begin(format!("any order, seed {seed}, round {round}"));
+        let mut random = Random::new(seed.wrapping_mul(32_452_843).wrapping_add(round));
+        let (frame, changes) = some_changes(&mut random);
+        let shuffled = shuffled_by_key(&mut random, &changes);
+        let calls = comparer.calls();
+        let (one, other) = (made(calls, &frame, &changes), made(calls, &frame, &shuffled));
+        let answers = || one.answers.values().chain(other.answers.values()).flatten();
+        let answered = |number: &u32| matches!(*number, DONE | ABSENT | REPLACED | PRESENT);
+        let refused = !answers().all(answered);
+        comparer.tally.add(Entry::Shuffled { refused });
+        if refused {
+            continue;
+        }
+        stay += 1;
+        answers().for_each(|number| comparer.tally.add(Entry::ShuffledAnswer(*number)));
+        if one.answers != other.answers {
+            let mut keys = one.answers.keys();
+            let key = keys.find(|key| one.answers[*key] != other.answers[*key]);
+            let key = key.expect("an answer differs").escape_ascii();
+            return comparer.differs(format!("the calls on \"{key}\" answer by their order"));
+        }
+        if one.packed != other.packed {
+            return comparer.differs("the same calls in two orders pack to two images".to_string());
+        }
+        if one.frame != other.frame {
+            comparer.tally.add(Entry::ShuffledFramesDiffer);
+        }
+    }
+    if stay * 10 < rounds * STAY_OF_TEN {
+        return comparer.differs(format!("only {stay} of {rounds} pairs are without a refusal"));
+    }
+    Ok(())
+}
+
+/// A good frame, mostly with room for all, and changes on a few keys: some that
+/// it holds, some that part from them.
+fn some_changes(random: &mut Random) -> (Vec<u8>, Vec<Change>) {
+    let leaves = *random.pick(&[1, 3, 8, 20, 60]);
+    let tree = if random.one_in(10) { None } else { Some(random_tree(random, leaves)) };
+    let mut lists = ByKind::default();
+    for kind in Kind::ALL {
+        lists[kind.number()] = random.below(2);
+    }
+    let roomy = Spare { slots: 80, bytes: 10_240 };
+    let tight = Spare { slots: 8, bytes: 256 };
+    let spare = if random.one_in(12) { tight } else { roomy };
+    let (frame, _) = build(random, &tree, &lists, 0, spare);
+    let some_keys = random.from_to(2, 10);
+    let keys: Vec<Vec<u8>> = (0..some_keys).map(|_| aimed(random, &tree).key().to_vec()).collect();
+    let some_calls = random.from_to(4, 40);
+    let changes = (0..some_calls).map(|_| {
+        let key = random.pick(&keys).clone();
+        match random.below(5) {
+            0 | 1 => Change::Put { key, value: small_value(random) },
+            2 | 3 => Change::Replace { key, value: small_value(random) },
+            _ => Change::Erase { key },
+        }
+    });
+    let changes = changes.collect();
+    (frame, changes)
+}
+
+/// The same changes in another order; those on one key stand as they stood.
+fn shuffled_by_key(random: &mut Random, changes: &[Change]) -> Vec<Change> {
+    let mut left: BTreeMap<&[u8], Vec<&Change>> = BTreeMap::new();
+    for change in changes.iter().rev() {
+        left.entry(change.key()).or_default().push(change);
+    }
+    let mut turns: Vec<&[u8]> = changes.iter().map(Change::key).collect();
+    random.shuffle(&mut turns);
+    let next = |key| left.get_mut(key).and_then(Vec::pop).expect("a change on this key is left");
+    turns.into_iter().map(next).cloned().collect()
+}
+
+/// What a sequence came to.
+struct Made {
+    /// The numbers of the calls on each key, in their order.
+    answers: BTreeMap<Vec<u8>, Vec<u32>>,
+    frame: Vec<u8>,
+    packed: Vec<u8>,
+}
+
+fn made(calls: &dyn Calls, frame: &[u8], changes: &[Change]) -> Made {
+    let mut frame = frame.to_vec();
+    let mut answers: BTreeMap<Vec<u8>, Vec<u32>> = BTreeMap::new();
+    for change in changes {
+        let given = match change {
+            Change::Put { key, value } => calls.put(&mut frame, key, value),
+            Change::Replace { key, value } => calls.replace(&mut frame, key, value),
+            Change::Erase { key } => calls.erase(&mut frame, key),
+        };
+        answers.entry(change.key().to_vec()).or_default().push(given);
+    }
+    let mut packed = vec![0; frame.len()];
+    let given = calls.pack(&frame, &mut packed);
+    assert_eq!(given, DONE, "a frame after changes packs");
+    Made { answers, frame, packed }
 }

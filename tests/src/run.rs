@@ -45,6 +45,7 @@ pub fn all_stages(calls: &dyn Calls, effort: Effort) -> Compared<Tally> {
     history::arbitrary_bytes(&mut comparer, seed, rounds * 500)?;
     history::large_frames(&mut comparer, seed, rounds * 2)?;
     orders::same_records(&mut comparer, seed, rounds * 4)?;
+    orders::any_order(&mut comparer, seed, rounds * 400)?;
     Ok(std::mem::take(&mut comparer.tally))
 }
 

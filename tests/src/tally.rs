@@ -46,6 +46,15 @@ pub enum Entry {
     /// A put finds its key present where a replacement would have no room, or a
     /// replacement finds it absent where a put would have none.
     NoneNeeded(Call),
+    /// A sequence of changes and one with the same calls in another order: with
+    /// a refusal in either, and left out, or with none.
+    Shuffled {
+        refused: bool,
+    },
+    /// An answer in such a pair without a refusal.
+    ShuffledAnswer(u32),
+    /// The end frames of such a pair differ, though they pack alike.
+    ShuffledFramesDiffer,
     /// An info tells that this kind's list is not empty.
     Listed(Kind),
 }
@@ -172,6 +181,9 @@ pub fn expected() -> Vec<Entry> {
         all.extend(ends.map(|end| Entry::Absent(call, end)));
     }
     all.extend([Call::Put, Call::Replace].map(Entry::NoneNeeded));
+    all.extend([true, false].map(|refused| Entry::Shuffled { refused }));
+    all.extend([DONE, ABSENT, REPLACED, PRESENT].map(Entry::ShuffledAnswer));
+    all.push(Entry::ShuffledFramesDiffer);
     let numbers: [(Call, &[u32]); 8] = [
         (Call::Format, &[DONE, LENGTHS]),
         (Call::Check, &[DONE, LENGTHS, NOT_GOOD]),

@@ -840,6 +840,43 @@ fn pack_keeping_node16(frame: &[u8], slot: usize, out: &mut [u8]) -> usize {
     }
 }
 
+/// Stores whose answers or images hang on the order of calls on several keys.
+pub fn bound_to_an_order() -> Vec<Altered> {
+    vec![
+        with_pack("a pack that copies what is good already", |frame, out| {
+            let given = Second.pack(frame, out);
+            if given == DONE {
+                out.copy_from_slice(frame);
+            }
+            given
+        }),
+        with_put("a put that says 11 as long as R is odd", |frame, key, value| {
+            let odd = check::check(frame) == DONE && get32(frame, AT_R) % 2 == 1;
+            match Second.put(&mut frame.to_vec(), key, value) {
+                DONE if odd => PRESENT,
+                _ => Second.put(frame, key, value),
+            }
+        }),
+        with_erase("an erase that takes the next record too", |frame, key| {
+            let given = Second.erase(frame, key);
+            if given == DONE {
+                let next = store::records(frame).into_keys().find(|there| there[..] > *key);
+                next.map(|next| Second.erase(frame, &next));
+            }
+            given
+        }),
+        with_replace("a replacement that keeps the longest value", |frame, key, value| {
+            let longest = store::records(frame).into_values().max_by_key(Vec::len);
+            match longest {
+                Some(longest) if longest.len() > value.len() => {
+                    Second.replace(frame, key, &longest)
+                }
+                _ => Second.replace(frame, key, value),
+            }
+        }),
+    ]
+}
+
 const GARBAGE: u8 = 0xDD;
 
 /// Differs from the second store in every way that the documents leave open.

@@ -1,6 +1,8 @@
 //! The comparison catches every deliberately wrong store, and lets pass one
 //! that differs only where the documents leave it free.
 
+use second_store::compare::Comparer;
+use second_store::orders;
 use second_store::run::{all_stages, Effort};
 use second_store::wrong::{self, Altered};
 
@@ -59,6 +61,17 @@ fn wrong_packs_are_caught() {
 #[test]
 fn wrong_infos_are_caught() {
     all_caught(wrong::infos(), 9);
+}
+
+/// Without any prediction, by two orders of the same calls.
+#[test]
+fn stores_bound_to_an_order_are_caught() {
+    let stores = wrong::bound_to_an_order();
+    assert!(stores.len() >= 4, "only {} wrong stores", stores.len());
+    for store in &stores {
+        let caught = orders::any_order(&mut Comparer::new(store), FIXED.seed, 400).is_err();
+        assert!(caught, "not caught: {}", store.name);
+    }
 }
 
 #[test]
