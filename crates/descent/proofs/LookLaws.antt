@@ -21,6 +21,7 @@ use Rattle.model.specs.Body.{LeafAt}
 use Rattle.model.specs.Frame.{Lay, LayKids, Root, bare, tree, art, artKids, Tree, Trees, RootAt, rootArt, Stands}
 use Rattle.model.specs.Frame.Lay.{leaf, prefix, node}
 use Rattle.model.specs.Frame.LayKids.{nil, kid}
+use Rattle.model.specs.Visits.{visitsIn}
 use Rattle.model.specs.Touch.{Part, hasByte, findLay, findLayKids, findAt}
 use Rattle.model.specs.Promise.{foundOf}
 use Rattle.model.proofs.StringLaws.{bool-cases, eqb-cases, same-refl, same-true, clash}
@@ -157,26 +158,26 @@ spot-none {k} {r} {s} S n = elim (ℕ-discrete (s .end) 1) [
 -- ---- what is given
 
 module _ {f k : List ℕ} {s : Spot} (D : (st : State) (W : Stands edition1 f st) → SpotAt k (W .root) s) where
-  pub looked-none : (s .end ≡ 2 → ⊥) → (st : State) (W : Stands edition1 f st) → Looked f k st (W .root) (record { found = false; place = 0; length = 0 })
+  pub looked-none : (s .end ≡ 2 → ⊥) → (st : State) (W : Stands edition1 f st) → Looked f k st (W .root) (record { found = false; place = 0; length = 0; slots = s .visited })
   looked-none n st W =
       let e = spot-none (D st W) n in
-      record { at = sym e; value = value-stands k W ∙ ap (valueIn f) e; inside = λ z. clash (cc); absent = λ z. (refl, refl) }
+      record { at = sym e; value = value-stands k W ∙ ap (valueIn f) e; inside = λ z. clash (cc); absent = λ z. (refl, refl); visited = D st W .visited }
 
   pub looked-some : (x n : ℕ) → s .end ≡ 2 → x ≡ le 4 f (s .here .place + leafExtent) → n ≡ le 2 f (s .here .place + leafValue)
-      → (st : State) (W : Stands edition1 f st) → Looked f k st (W .root) (record { found = true; place = x + length k; length = n })
+      → (st : State) (W : Stands edition1 f st) → Looked f k st (W .root) (record { found = true; place = x + length k; length = n; slots = s .visited })
   looked-some x n e p q st W =
       let F = found-leaf W (D st W) e in
       let a : x ≡ F .extent = p ∙ F .at .extent in
       let b : n ≡ length (F .value) = q ∙ F .at .valueLength in
       let c : findAt edition1 (W .root) k ≡ some (record { at = x + length k; long = n }) = rw (a, b) (F .look) in
-      record { at = sym c; value = value-stands k W ∙ ap (valueIn f) c; inside = λ z. omega (arith, F .at .room); absent = λ z. clash (cc) }
+      record { at = sym c; value = value-stands k W ∙ ap (valueIn f) c; inside = λ z. omega (arith, F .at .room); absent = λ z. clash (cc); visited = D st W .visited }
 
 -- the value as a part of the frame
 module _ {f k : List ℕ} {st : State} {r : Root} {v : Held} (L : Looked f k st r v) (start : ℕ × ℕ) where
-  pub value-part : v .found ≡ true → Handed f start (foundOf (findAt edition1 r k)) (shifted start (v .place)) (take (v .place + v .length - v .place) (drop (v .place) f))
+  pub value-part : v .found ≡ true → Handed f start (foundOf (findAt edition1 r k) (visitsIn edition1 (rootArt r) k)) (shifted start (v .place)) (take (v .place + v .length - v .place) (drop (v .place) f))
   value-part e =
       let n : v .place + v .length - v .place ≡ v .length = omega arith in
       rw (← L .at, e, n) (record { stands = refl; bytes = refl })
 
-  pub value-none : {here : ℕ × ℕ} {part : List ℕ} → v .found ≡ false → here ≡ shifted start 0 → part ≡ [] → Handed f start (foundOf (findAt edition1 r k)) here part
+  pub value-none : {here : ℕ × ℕ} {part : List ℕ} → v .found ≡ false → here ≡ shifted start 0 → part ≡ [] → Handed f start (foundOf (findAt edition1 r k) (visitsIn edition1 (rootArt r) k)) here part
   value-none e h p = rw (← L .at, e) (record { stands = h; bytes = p })

@@ -18,7 +18,7 @@ use Rattle.between.specs.Hole.{plug, Link}
 use Rattle.between.proofs.HoleLaws.{plug-none, path-none}
 use Rattle.between.proofs.LeadLaws.{leads-start}
 use Rattle.descent.specs.declared.spot.Spot.{Spot}
-use Rattle.descent.specs.Spot.{startAt, endAt, SpotAt, Standing, Going, Ended}
+use Rattle.descent.specs.Spot.{startAt, endAt, SpotAt, Standing, Going, Underway, Ended}
 use Rattle.descent.proofs.SeatLaws.{seat}
 
 -- ---- the root's body
@@ -79,8 +79,8 @@ module _ {f : List ℕ} (k : List ℕ) (W : Standing f) (s : ℕ) (e : s ≡ le 
   from-root : s ≡ rootSlot (W .stands .root)
   from-root = e ∙ its-slot W
 
-  pub start-going : (highOf f s ≡ 8 → ⊥) → Going f k (startAt s atRoot)
-  start-going n =
+  starting : (highOf f s ≡ 8 → ⊥) → Going f k (startAt s atRoot)
+  starting n =
       let t = its-seat W .full (rw (from-root) at n) in
       let l = t .0 in
       record {
@@ -105,16 +105,24 @@ module _ {f : List ℕ} (k : List ℕ) (W : Standing f) (s : ℕ) (e : s ≡ le 
         };
       }
 
+  pub start-going : (highOf f s ≡ 8 → ⊥) → Underway f k (startAt s atRoot)
+  unfolding starting
+  start-going n =
+      let G = starting n in
+      record { going = G; count = record { left = omega arith; few = omega arith; short = omega arith } }
+
   pub start-empty : (o : ℕ) → highOf f s ≡ 8 → o ≡ placeOf f s → (st : State) (T : Stands edition1 f st) → SpotAt k (T .root) (endAt (startAt s atRoot) 1 o 8 0)
   start-empty o h p st T =
       let q = from-root in
       let x = its-seat W .empty (rw q at h) in
       let y : bare (rootSlot (W .stands .root)) (placeOf f (rootSlot (W .stands .root))) ≡ bare s o = rw (sym q) (ap (bare s) (sym p)) in
-      record { empty = λ z. root-unique edition1 f st (W .st) T (W .stands) ∙ x ∙ y; inTree = λ z. absurd (z refl) }
+      let r = root-unique edition1 f st (W .st) T (W .stands) ∙ x ∙ y in
+      record { visited = rw r refl; empty = λ z. r; inTree = λ z. absurd (z refl) }
 
 -- ---- the end
 
 pub ended-spot : {f k : List ℕ} {s : Spot} → Ended f k s → (st : State) (T : Stands edition1 f st) → SpotAt k (T .root) s
 ended-spot {f} {k} {s} E st T =
     let r = E .tree .spot .range in
-    record { empty = λ z. absurd (omega arith); inTree = λ z. record { lay = E .tree .lay; is = root-unique edition1 f st (E .st) T (E .stands) ∙ E .tree .is; spot = E .tree .spot } }
+    let u = root-unique edition1 f st (E .st) T (E .stands) in
+    record { visited = rw u (E .visited); empty = λ z. absurd (omega arith); inTree = λ z. record { lay = E .tree .lay; is = u ∙ E .tree .is; spot = E .tree .spot } }

@@ -30,7 +30,7 @@ use Rattle.between.proofs.TreeLaws.{sum-none, leaf-sum, prefix-sum, node-sum, l
 use Rattle.between.proofs.HoleLaws.{plug-sum, plug-among, hole-out}
 use Rattle.between.proofs.KidsLaws.{look-split}
 use Rattle.descent.specs.declared.spot.Spot.{Spot}
-use Rattle.descent.specs.Spot.{Going, AtLeaf, AtPrefix, AtNode}
+use Rattle.descent.specs.Spot.{Going, Counted, AtLeaf, AtPrefix, AtNode}
 
 -- ---- bytes of the frame
 
@@ -134,8 +134,8 @@ module _ {f k : List ℕ} {s : Spot} (G : Going f k s) where
       let E = rw (G .way .slotIs) at (seated .entry) in
       (sym (E .kindIs) ∙ sym p, sym (E .placeIs) ∙ sym q)
 
-  pub leaf-here : (o : ℕ) → 1 ≡ highOf f (s .here .slot) → o ≡ placeOf f (s .here .slot) → AtLeaf f k s o
-  leaf-here o p q = go (G .way .sub) refl
+  pub leaf-here : Counted k s (G .lay) (G .way .sub) → (o : ℕ) → 1 ≡ highOf f (s .here .slot) → o ≡ placeOf f (s .here .slot) → AtLeaf f k s o
+  leaf-here C o p q = go (G .way .sub) refl
     where
       go : (t : Lay) → G .way .sub ≡ t → AtLeaf f k s o
       go (leaf s' o' e k' v') z =
@@ -145,7 +145,7 @@ module _ {f k : List ℕ} {s : Spot} (G : Going f k s) where
           let r : placeIn (leaf s' o' e k' v') + 16 ≤ length f = rw z at (seated .fits) in
           let T : Tree edition1 f (pathOf (G .way .steps)) (leaf s' o' e k' v') = rw z at (hole .2) in
           let L = leaf-parts edition1 f (pathOf (G .way .steps)) s' o' e k' v' T .1 in
-          record { going = G; extent = e; key = k'; value = v'; is = z ∙ cc; room = omega arith; at = rw (sym d) L; free = suits-leaf (G .way .steps) s' o' e k' v' (rw z at (hole .1)) }
+          record { going = G; count = C; extent = e; key = k'; value = v'; is = z ∙ cc; room = omega arith; at = rw (sym d) L; free = suits-leaf (G .way .steps) s' o' e k' v' (rw z at (hole .1)) }
       go (prefix s' o' b l) z = absurd (let e : 2 ≡ 1 = rw z at (same-entry 1 o p q .0) in omega arith)
       go (node s' o' kind ks) z =
           let e : kind ≡ 1 = rw z at (same-entry 1 o p q .0) in
@@ -153,8 +153,8 @@ module _ {f k : List ℕ} {s : Spot} (G : Going f k s) where
           let r = node-parts edition1 f (pathOf (G .way .steps)) s' o' kind ks T .1 .inner .range in
           absurd (omega arith)
 
-  pub prefix-here : (o : ℕ) → 2 ≡ highOf f (s .here .slot) → o ≡ placeOf f (s .here .slot) → AtPrefix f k s o
-  prefix-here o p q = go (G .way .sub) refl
+  pub prefix-here : Counted k s (G .lay) (G .way .sub) → (o : ℕ) → 2 ≡ highOf f (s .here .slot) → o ≡ placeOf f (s .here .slot) → AtPrefix f k s o
+  prefix-here C o p q = go (G .way .sub) refl
     where
       go : (t : Lay) → G .way .sub ≡ t → AtPrefix f k s o
       go (leaf s' o' e k' v') z = absurd (let e : 1 ≡ 2 = rw z at (same-entry 2 o p q .0) in omega arith)
@@ -166,7 +166,7 @@ module _ {f k : List ℕ} {s : Spot} (G : Going f k s) where
           let P = prefix-parts edition1 f path s' o' b l T in
           let W = inside1 (path ++ b) (below-inside lawful1 f (path ++ b) b l (G .stands .bytes) (P .2) (P .3)) .short in
           let n = G .way .deep in
-          record { going = G; bytes = b; below = l; is = z ∙ cc; at = rw (sym d) (prefix-parts edition1 f path s' o' b l T .1); low = going-entry .0; short = omega (arith, length-append path b) }
+          record { going = G; count = C; bytes = b; below = l; is = z ∙ cc; at = rw (sym d) (prefix-parts edition1 f path s' o' b l T .1); hangs = P .2; low = going-entry .0; short = omega (arith, length-append path b) }
       go (node s' o' kind ks) z =
           let e : kind ≡ 2 = rw z at (same-entry 2 o p q .0) in
           let T : Tree edition1 f (pathOf (G .way .steps)) (node s' o' kind ks) = rw z at (hole .2) in
@@ -185,8 +185,8 @@ module _ {f k : List ℕ} {s : Spot} (G : Going f k s) where
       let T = hole-out edition1 f (x ∷ G .way .steps) (S .child) (tree-at f (G .stands .root) (G .lay) (plug (x ∷ G .way .steps) (S .child)) (G .is) w (G .stands .rootAt)) in
       omega (arith, seat (x ∷ G .way .steps) (pathOf (x ∷ G .way .steps)) (S .child) H (T .2) .low, S .slot)
 
-  pub node-here : (kind o : ℕ) → kind ≡ highOf f (s .here .slot) → o ≡ placeOf f (s .here .slot) → (kind ≡ 1 → ⊥) → (kind ≡ 2 → ⊥) → AtNode f k s o kind
-  node-here kind o p q n1 n2 = go (G .way .sub) refl
+  pub node-here : Counted k s (G .lay) (G .way .sub) → (kind o : ℕ) → kind ≡ highOf f (s .here .slot) → o ≡ placeOf f (s .here .slot) → (kind ≡ 1 → ⊥) → (kind ≡ 2 → ⊥) → AtNode f k s o kind
+  node-here C kind o p q n1 n2 = go (G .way .sub) refl
     where
       go : (t : Lay) → G .way .sub ≡ t → AtNode f k s o kind
       go (leaf s' o' e k' v') z = absurd (n1 (sym (rw z at (same-entry kind o p q .0))))
@@ -203,6 +203,7 @@ module _ {f k : List ℕ} {s : Spot} (G : Going f k s) where
           let g = goes-on k path (G .way .rest) (W .chars) (G .way .leads .word) in
           record {
             going = G;
+            count = C;
             kids = ks;
             is = z ∙ cc;
             at = rw (sym d, sym y) (node-parts edition1 f path s' o' kind' ks T .1);

@@ -12,21 +12,25 @@ use Rattle.layout.specs.Place.{prefixChild}
 use Rattle.model.specs.Strings.{shared}
 use Rattle.model.specs.Edition.{edition1}
 use Rattle.model.specs.Body.{lookKid}
-use Rattle.model.specs.Frame.{Lay, LayKids, tree, slotOf, pairs, NodeOf}
+use Rattle.model.specs.Visits.{visits}
+use Rattle.model.specs.Frame.{Lay, LayKids, tree, slotOf, art, pairs, NodeOf}
 use Rattle.model.specs.Frame.Lay.{leaf, node}
 use Rattle.model.specs.Frame.LayKids.{kid}
+use Rattle.model.proofs.StringLaws.{shared-left}
 use Rattle.model.proofs.StringLaws.Meets.{whole, ends}
+use Rattle.model.proofs.ChainLaws.{below-hung}
 use Rattle.node.specs.Kids.{orZero, placeOf}
 use Rattle.inner.specs.Inner.{linkAt, placeAt}
 use Rattle.inner.proofs.InnerLaws.{inner-asc}
 use Rattle.between.specs.Hole.{Step, under, among, app, plug, pathOf, Link}
 use Rattle.between.specs.Lead.{Leads, NotUnder}
 use Rattle.between.proofs.HoleLaws.{plug-under, plug-among, path-under, path-among}
-use Rattle.between.proofs.KidsLaws.{look-split, app-place, app-places, app-left}
+use Rattle.between.proofs.KidsLaws.{look-none, look-split, app-place, app-places, app-left}
 use Rattle.between.proofs.LeadLaws.{leads-under, leads-among, leads-rest}
+use Rattle.descent.proofs.CountLaws.{count-past, count-parted, count-child, count-missing}
 use Rattle.descent.specs.declared.spot.Body.{Body}
 use Rattle.descent.specs.declared.spot.Spot.{Spot}
-use Rattle.descent.specs.Spot.{endAt, belowPrefix, overOf, belowNode, Topped, Holder, Over, Way, ThisKey, OtherKey, NoByte, PartPrefix, Going, AtLeaf, AtPrefix, AtNode, Stepped}
+use Rattle.descent.specs.Spot.{endAt, belowPrefix, overOf, belowNode, Topped, Holder, Over, Way, ThisKey, OtherKey, NoByte, PartPrefix, Going, Counted, AtLeaf, AtPrefix, AtNode, Stepped}
 
 -- ---- strings
 
@@ -48,31 +52,33 @@ pub way-end : {k : List ℕ} {l : Lay} {s : Spot} (W : Way k l s) (e o kind q : 
 way-end W e o kind q =
     record { steps = W .steps; sub = W .sub; rest = W .rest; whole = W .whole; leads = W .leads; deep = W .deep; slotIs = W .slotIs; linkIs = W .linkIs; over = W .over }
 
-module _ {f k : List ℕ} {s : Spot} (G : Going f k s) (e o kind q : ℕ) where
-  -- the end has its record, and no other end is claimed
-  stop : (2 ≤ e) × (e ≤ 5) → (e ≡ 2 → ThisKey k (endAt s e o kind q) (G .way .steps) (G .way .sub)) → (e ≡ 3 → OtherKey k (endAt s e o kind q) (G .way .steps) (G .way .sub))
+module _ {f k : List ℕ} {s : Spot} (G : Going f k s) (C : Counted k s (G .lay) (G .way .sub)) (e o kind q : ℕ) where
+  -- the end has its record, and no other end is claimed; one slot was left
+  stop : (2 ≤ e) × (e ≤ 5) → visits edition1 (art (G .way .sub)) (s .depth) k ≡ 1 → (e ≡ 2 → ThisKey k (endAt s e o kind q) (G .way .steps) (G .way .sub)) → (e ≡ 3 → OtherKey k (endAt s e o kind q) (G .way .steps) (G .way .sub))
       → (e ≡ 4 → NoByte k (endAt s e o kind q) (G .way .sub)) → (e ≡ 5 → PartPrefix k (endAt s e o kind q) (G .way .sub)) → Stepped f k s (endAt s e o kind q)
   unfolding way-end
-  stop r a b c d =
+  stop r one a b c d =
+      let v : s .visited + 1 ≡ visits edition1 (art (G .lay)) 0 k = rw one at (C .left) in
       record {
         goes = λ z. absurd (omega arith);
         ends = λ z. record {
           st = G .st;
           stands = G .stands;
           tree = record { lay = G .lay; is = G .is; spot = record { way = way-end (G .way) e o kind q; range = r; found = a; other = b; missing = c; parted = d } };
+          visited = rw (G .is) v;
         };
       }
 
 module _ {f k : List ℕ} {s : Spot} {o : ℕ} (A : AtLeaf f k s o) where
   pub leaf-found : A .key ≡ k → Stepped f k s (endAt s 2 o 1 0)
   leaf-found e =
-      stop (A .going) 2 o 1 0 (omega arith, omega arith)
+      stop (A .going) (A .count) 2 o 1 0 (omega arith, omega arith) (rw (A .is) refl)
       (λ z. record { extent = A .extent; value = A .value; is = A .is ∙ ap (λ x. leaf (s .here .slot) o (A .extent) x (A .value)) e; kind = refl; free = A .free })
       (λ z. absurd (omega arith)) (λ z. absurd (omega arith)) (λ z. absurd (omega arith))
 
   pub leaf-other : (q : ℕ) → (A .key ≡ k → ⊥) → q ≡ shared (drop (s .depth) (edition1 .walked k)) (drop (s .depth) (edition1 .walked (A .key))) → Stepped f k s (endAt s 3 o 1 q)
   leaf-other q n e =
-      stop (A .going) 3 o 1 q (omega arith, omega arith)
+      stop (A .going) (A .count) 3 o 1 q (omega arith, omega arith) (rw (A .is) refl)
       (λ z. absurd (omega arith))
       (λ z. record { extent = A .extent; key = A .key; value = A .value; is = A .is; kind = refl; free = A .free; differs = λ y. n (sym y); shares = e })
       (λ z. absurd (omega arith)) (λ z. absurd (omega arith))
@@ -86,7 +92,8 @@ link-under s o p xs = refl
 module _ {f k : List ℕ} {s : Spot} {o : ℕ} (A : AtPrefix f k s o) (q n : ℕ) (e : q ≡ shared (A .bytes) (drop (s .depth) (edition1 .walked k))) (m : n ≡ length (A .bytes)) where
   pub prefix-parted : q < n → Stepped f k s (endAt s 5 o 2 q)
   prefix-parted h =
-      stop (A .going) 5 o 2 q (omega arith, omega arith)
+      stop (A .going) (A .count) 5 o 2 q (omega arith, omega arith)
+      (rw (A .is) (count-parted edition1 (A .bytes) (s .depth) k (A .at .some) (A .at .most) (art (A .below)) (omega arith)))
       (λ z. absurd (omega arith)) (λ z. absurd (omega arith)) (λ z. absurd (omega arith))
       (λ z. record { bytes = A .bytes; below = A .below; is = A .is; kind = refl; short = A .short; shares = e; less = omega arith })
 
@@ -100,28 +107,33 @@ module _ {f k : List ℕ} {s : Spot} {o : ℕ} (A : AtPrefix f k s o) (q n : ℕ
       let L : Leads edition1 k (W .steps) (p ++ g .0) = rw (g .1) at (W .leads) in
       let sh = A .short in
       let some = A .at .some in
+      let past : visits edition1 (art (W .sub)) (s .depth) k ≡ suc (visits edition1 (art (A .below)) (s .depth + n) k)
+      = rw (A .is, m) (count-past edition1 p (s .depth) k some (A .at .most) (art (A .below)) (below-hung p (A .below) (A .hangs)) (omega (arith, shared-left p (drop (s .depth) (edition1 .walked k))))) in
       record {
         goes = λ z. (
           record {
-            st = A .going .st;
-            stands = A .going .stands;
-            lay = A .going .lay;
-            is = A .going .is;
-            way = record {
-              steps = under (s .here .slot) o p ∷ W .steps;
-              sub = A .below;
-              rest = g .0;
-              whole = W .whole ∙ ap (plug (W .steps)) (A .is) ∙ sym (plug-under (s .here .slot) o p (W .steps) (A .below));
-              leads = leads-under (s .here .slot) o p (W .steps) (g .0) L;
-              deep = omega (arith, W .deep, ap length (path-under (s .here .slot) o p (W .steps)), length-append (pathOf (W .steps)) p);
-              slotIs = sym d;
-              linkIs = link-under (s .here .slot) o p (W .steps);
-              over = record {
-                free = λ y. tt;
-                top = λ y. record { without = λ x. absurd (omega (arith, A .low)); capped = λ x. record { bytes = p; up = W .steps; is = refl; link = W .linkIs } };
-                held = λ y. absurd (omega arith);
+            going = record {
+              st = A .going .st;
+              stands = A .going .stands;
+              lay = A .going .lay;
+              is = A .going .is;
+              way = record {
+                steps = under (s .here .slot) o p ∷ W .steps;
+                sub = A .below;
+                rest = g .0;
+                whole = W .whole ∙ ap (plug (W .steps)) (A .is) ∙ sym (plug-under (s .here .slot) o p (W .steps) (A .below));
+                leads = leads-under (s .here .slot) o p (W .steps) (g .0) L;
+                deep = omega (arith, W .deep, ap length (path-under (s .here .slot) o p (W .steps)), length-append (pathOf (W .steps)) p);
+                slotIs = sym d;
+                linkIs = link-under (s .here .slot) o p (W .steps);
+                over = record {
+                  free = λ y. tt;
+                  top = λ y. record { without = λ x. absurd (omega (arith, A .low)); capped = λ x. record { bytes = p; up = W .steps; is = refl; link = W .linkIs } };
+                  held = λ y. absurd (omega arith);
+                };
               };
             };
+            count = record { left = omega (arith, past, A .count .left); few = omega (arith, A .count .few); short = omega arith };
           },
           omega arith,
           omega arith,
@@ -164,7 +176,8 @@ module _ {f k : List ℕ} {s : Spot} {o kind : ℕ} (A : AtNode f k s o kind) (b
   node-missing z =
       let q = its-byte in
       let h : lookKid b (pairs (A .kids)) ≡ none = or-none (lookKid b (pairs (A .kids))) (sym d ∙ z) (A .live b) in
-      stop (A .going) 4 o kind 0 (omega arith, omega arith)
+      stop (A .going) (A .count) 4 o kind 0 (omega arith, omega arith)
+      (rw (A .is) (ap suc (count-missing edition1 k (s .depth) b (sym e) (A .kids) (look-none b (A .kids) h))))
       (λ z. absurd (omega arith)) (λ z. absurd (omega arith))
       (λ z. record { kids = A .kids; is = A .is; short = A .short; byte = A .byte; after = A .after; next = its-rest; absent = rw q at h })
       (λ z. absurd (omega arith))
@@ -183,28 +196,34 @@ module _ {f k : List ℕ} {s : Spot} {o kind : ℕ} (A : AtNode f k s o kind) (b
       let at2 = at1 ∙ ap (λ i. linkAt o kind i (placeAt f o kind b) b) (app-place b (S .place) (S .child) 0 (S .before) (S .after) asc)
       ∙ ap (λ j. linkAt o kind (length (pairs (S .before))) j b) (app-places b (S .place) (S .child) f o kind (S .before) (S .after) (N .places)) in
       let sh = A .short in
+      let past : visits edition1 (art (W .sub)) (s .depth) k ≡ suc (visits edition1 (art (S .child)) (s .depth + 1) k)
+      = ap (λ t. visits edition1 (art t) (s .depth) k) (A .is ∙ ap (node sl o kind) (S .is))
+      ∙ ap suc (count-child edition1 k (s .depth) b (sym e) (S .place) (S .child) (S .before) (S .after) (app-left b (S .place) (S .child) 0 (S .before) (S .after) asc)) in
       record {
         goes = λ z. (
           record {
-            st = A .going .st;
-            stands = A .going .stands;
-            lay = A .going .lay;
-            is = A .going .is;
-            way = record {
-              steps = x ∷ W .steps;
-              sub = S .child;
-              rest = A .after;
-              whole = W .whole ∙ ap (plug (W .steps)) (A .is ∙ ap (node sl o kind) (S .is)) ∙ sym (plug-among sl o kind (S .before) b (S .place) (S .after) (W .steps) (S .child));
-              leads = leads-among sl o kind (S .before) b (S .place) (S .after) (W .steps) (A .after) (app-left b (S .place) (S .child) 0 (S .before) (S .after) asc) L;
-              deep = omega (arith, W .deep, ap length (path-among sl o kind (S .before) b (S .place) (S .after) (W .steps)), length-append (pathOf (W .steps)) (b ∷ []));
-              slotIs = S .slot;
-              linkIs = link-among sl o kind (S .before) b (S .place) (S .after) (W .steps) at at2;
-              over = record {
-                free = λ y. absurd (omega (arith, A .low));
-                top = λ y. absurd (omega (arith, A .low));
-                held = λ y. record { before = S .before; place = S .place; after = S .after; up = W .steps; is = refl; link = W .linkIs; top = over-top (W .steps) s (W .over) };
+            going = record {
+              st = A .going .st;
+              stands = A .going .stands;
+              lay = A .going .lay;
+              is = A .going .is;
+              way = record {
+                steps = x ∷ W .steps;
+                sub = S .child;
+                rest = A .after;
+                whole = W .whole ∙ ap (plug (W .steps)) (A .is ∙ ap (node sl o kind) (S .is)) ∙ sym (plug-among sl o kind (S .before) b (S .place) (S .after) (W .steps) (S .child));
+                leads = leads-among sl o kind (S .before) b (S .place) (S .after) (W .steps) (A .after) (app-left b (S .place) (S .child) 0 (S .before) (S .after) asc) L;
+                deep = omega (arith, W .deep, ap length (path-among sl o kind (S .before) b (S .place) (S .after) (W .steps)), length-append (pathOf (W .steps)) (b ∷ []));
+                slotIs = S .slot;
+                linkIs = link-among sl o kind (S .before) b (S .place) (S .after) (W .steps) at at2;
+                over = record {
+                  free = λ y. absurd (omega (arith, A .low));
+                  top = λ y. absurd (omega (arith, A .low));
+                  held = λ y. record { before = S .before; place = S .place; after = S .after; up = W .steps; is = refl; link = W .linkIs; top = over-top (W .steps) s (W .over) };
+                };
               };
             };
+            count = record { left = omega (arith, past, A .count .left); few = omega (arith, A .count .few); short = omega arith };
           },
           omega arith,
           omega arith,

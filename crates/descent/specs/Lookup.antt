@@ -1,4 +1,4 @@
--- What a look-up gives: the place and length of the key's value, which the state's value is; both 0 for an absent key. And the value itself,
+-- What a look-up gives: the place and length of the key's value, which the state's value is; both 0 for an absent key; and the slots visited. And the value itself,
 -- as that part of the frame.
 use Prim.Native.Nat.{ℕ, _+_, _≤_}
 use mathlib.Core.Path.{_≡_}
@@ -9,7 +9,8 @@ use lib.ListN.{length, take, drop}
 use Rattle.model.specs.Strings.{pick}
 use Rattle.model.specs.Edition.{edition1}
 use Rattle.model.specs.State.{State, findIn}
-use Rattle.model.specs.Frame.{Root}
+use Rattle.model.specs.Visits.{visitsIn}
+use Rattle.model.specs.Frame.{Root, rootArt}
 use Rattle.model.specs.Touch.{Part, findAt}
 use Rattle.model.specs.Promise.{Found}
 use Rattle.descent.specs.declared.lookup.Held.{Held}
@@ -28,6 +29,7 @@ pub record Looked (f k : List ℕ) (st : State) (r : Root) (v : Held) : Type 0 w
   pub value : findIn edition1 (st .tree) k ≡ valueIn f (partOf v)
   pub inside : v .found ≡ true → v .place + v .length ≤ length f
   pub absent : v .found ≡ false → (v .place ≡ 0) × (v .length ≡ 0)
+  pub visited : v .slots ≡ visitsIn edition1 (rootArt r) k
 
 -- n bytes on from a place in memory, which is a block and an offset in it (`ptr` of a reference)
 abbrev pub shifted : ℕ × ℕ → ℕ → ℕ × ℕ

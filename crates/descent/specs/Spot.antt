@@ -11,7 +11,8 @@ use Rattle.model.specs.Strings.{pick, shared}
 use Rattle.model.specs.Edition.{edition1}
 use Rattle.model.specs.State.{State}
 use Rattle.model.specs.Body.{PrefixAt, lookKid}
-use Rattle.model.specs.Frame.{Lay, LayKids, Root, bare, tree, slotOf, pairs, NodeOf, LeafOf, Stands}
+use Rattle.model.specs.Visits.{visits, visitsIn}
+use Rattle.model.specs.Frame.{Lay, LayKids, Below, Root, bare, tree, slotOf, art, rootArt, pairs, NodeOf, LeafOf, Stands}
 use Rattle.model.specs.Frame.Lay.{leaf, prefix, node}
 use Rattle.between.specs.Hole.{Step, under, among, plug, pathOf, Link}
 use Rattle.between.specs.Lead.{Leads, NotUnder}
@@ -24,7 +25,7 @@ abbrev pub noBody : Body
 noBody = record { slot = 0; place = 0; kind = 0; link = 0 }
 
 abbrev pub startAt : ℕ → ℕ → Spot
-startAt s l = record { end = 0; here = record { slot = s; place = 0; kind = 0; link = l }; depth = 0; shared = 0; node = noBody; byte = 0; above = noBody }
+startAt s l = record { end = 0; here = record { slot = s; place = 0; kind = 0; link = l }; depth = 0; shared = 0; visited = 0; node = noBody; byte = 0; above = noBody }
 
 abbrev pub endAt : Spot → ℕ → ℕ → ℕ → ℕ → Spot
 endAt s e o kind q = record {
@@ -32,6 +33,7 @@ endAt s e o kind q = record {
   here = record { slot = s .here .slot; place = o; kind = kind; link = s .here .link };
   depth = s .depth;
   shared = q;
+  visited = s .visited + 1;
   node = s .node;
   byte = s .byte;
   above = s .above;
@@ -43,6 +45,7 @@ belowPrefix s o n c = record {
   here = record { slot = c; place = 0; kind = 0; link = o + prefixChild };
   depth = s .depth + n;
   shared = 0;
+  visited = s .visited + 1;
   node = noBody;
   byte = 0;
   above = record { slot = s .here .slot; place = o; kind = Prefix; link = s .here .link };
@@ -57,6 +60,7 @@ belowNode s o kind b c l = record {
   here = record { slot = c; place = 0; kind = 0; link = l };
   depth = s .depth + 1;
   shared = 0;
+  visited = s .visited + 1;
   node = record { slot = s .here .slot; place = o; kind = kind; link = s .here .link };
   byte = b;
   above = overOf s;
@@ -168,6 +172,8 @@ pub record InTree (k : List ℕ) (r : Root) (s : Spot) : Type 0 where
 
 -- what the descent of key k through the root r ends with; 1: an empty frame
 pub record SpotAt (k : List ℕ) (r : Root) (s : Spot) : Type 0 where
+  -- a counter that is equal to the defined path's length
+  pub visited : s .visited ≡ visitsIn edition1 (rootArt r) k
   pub empty : s .end ≡ 1 → r ≡ bare (s .here .slot) (s .here .place)
   pub inTree : (s .end ≡ 1 → ⊥) → InTree k r s
 
@@ -186,8 +192,20 @@ pub record Going (f k : List ℕ) (s : Spot) : Type 0 where
   pub is : stands .root ≡ tree lay
   pub way : Way k lay s
 
+-- of the path through l, the slots up to s are counted, and the subtree t is left: what is left gives what the whole gives
+pub record Counted (k : List ℕ) (s : Spot) (l t : Lay) : Type 0 where
+  pub left : s .visited + visits edition1 (art t) (s .depth) k ≡ visits edition1 (art l) 0 k
+  pub few : s .visited ≤ s .depth
+  pub short : s .depth ≤ 113
+
+-- the descent goes on from s
+pub record Underway (f k : List ℕ) (s : Spot) : Type 0 where
+  pub going : Going f k s
+  pub count : Counted k s (going .lay) (going .way .sub)
+
 pub record AtLeaf (f k : List ℕ) (s : Spot) (o : ℕ) : Type 0 where
   pub going : Going f k s
+  pub count : Counted k s (going .lay) (going .way .sub)
   pub extent : ℕ
   pub key : List ℕ
   pub value : List ℕ
@@ -198,15 +216,18 @@ pub record AtLeaf (f k : List ℕ) (s : Spot) (o : ℕ) : Type 0 where
 
 pub record AtPrefix (f k : List ℕ) (s : Spot) (o : ℕ) : Type 0 where
   pub going : Going f k s
+  pub count : Counted k s (going .lay) (going .way .sub)
   pub bytes : List ℕ
   pub below : Lay
   pub is : going .way .sub ≡ prefix (s .here .slot) o bytes below
   pub at : PrefixAt f o bytes (slotOf below)
+  pub hangs : Below bytes below
   pub low : 1 ≤ s .here .slot
   pub short : s .depth + length bytes ≤ 112
 
 pub record AtNode (f k : List ℕ) (s : Spot) (o kind : ℕ) : Type 0 where
   pub going : Going f k s
+  pub count : Counted k s (going .lay) (going .way .sub)
   pub kids : LayKids
   pub is : going .way .sub ≡ node (s .here .slot) o kind kids
   pub at : NodeOf f o kind kids
@@ -222,8 +243,9 @@ pub record Ended (f k : List ℕ) (s : Spot) : Type 0 where
   pub st : State
   pub stands : Stands edition1 f st
   pub tree : InTree k (stands .root) s
+  pub visited : s .visited ≡ visitsIn edition1 (rootArt (stands .root)) k
 
 -- one step from s to r: deeper, or to the end
 pub record Stepped (f k : List ℕ) (s r : Spot) : Type 0 where
-  pub goes : r .end ≡ 0 → Going f k r × (s .depth < r .depth) × (r .depth ≤ 113)
+  pub goes : r .end ≡ 0 → Underway f k r × (s .depth < r .depth) × (r .depth ≤ 113)
   pub ends : (r .end ≡ 0 → ⊥) → Ended f k r

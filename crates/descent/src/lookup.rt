@@ -1,11 +1,12 @@
-// Look-up: the place and length of a key's value, and the value itself as that part of the frame.
+// Look-up: the place and length of a key's value with the slots visited, and the value itself as that part of the frame.
 use crate::spot::Spot;
 use crate::walk;
 use fields::body::Leaf;
 ghost use denote.Ref.{ptr};
 ghost use Rattle.model.specs.Edition.{edition1};
 ghost use Rattle.model.specs.State.{State};
-ghost use Rattle.model.specs.Frame.{Stands};
+ghost use Rattle.model.specs.Visits.{visitsIn};
+ghost use Rattle.model.specs.Frame.{Stands, rootArt};
 ghost use Rattle.model.specs.Touch.{findAt};
 ghost use Rattle.model.specs.Promise.{foundOf};
 ghost use Rattle.descent.specs.Spot.{Standing};
@@ -16,6 +17,8 @@ pub struct Held {
     // counted from the frame's start
     pub place: usize,
     pub length: usize,
+    // how many slots were visited
+    pub slots: usize,
 }
 
 // Where a key's value stands in a good frame.
@@ -29,6 +32,7 @@ pub fn find(f: &[u8], key: &[u8]) -> Held
             found: false,
             place: 0,
             length: 0,
+            slots: s.visited,
         };
     }
     let here = s.here;
@@ -39,13 +43,14 @@ pub fn find(f: &[u8], key: &[u8]) -> Held
         found: true,
         place: from,
         length: long,
+        slots: s.visited,
     }
 }
 
 // The value as a part of the frame; for an absent key the empty part at its start.
 pub fn value<'a>(f: &'a [u8], key: &[u8]) -> &'a [u8]
     requires { ⌜ Standing (now f) ⌝ }
-    ensures { λ r. ⌜ ((st : State) (W : Stands edition1 (now (f .entry)) st) → Handed (now (f .entry)) (ptr (f .entry)) (foundOf (findAt edition1 (W .root) (now (key .entry)))) (ptr r) (now r)) ⌝ }
+    ensures { λ r. ⌜ ((st : State) (W : Stands edition1 (now (f .entry)) st) → Handed (now (f .entry)) (ptr (f .entry)) (foundOf (findAt edition1 (W .root) (now (key .entry))) (visitsIn edition1 (rootArt (W .root)) (now (key .entry)))) (ptr r) (now r)) ⌝ }
 {
     let v = find(f, key);
     if v.found {

@@ -10,7 +10,7 @@ use layout::kind::Kind;
 ghost use Rattle.model.specs.Edition.{edition1};
 ghost use Rattle.model.specs.State.{State};
 ghost use Rattle.model.specs.Frame.{Stands};
-ghost use Rattle.descent.specs.Spot.{SpotAt, Standing, Going, AtLeaf, AtPrefix, AtNode, Stepped};
+ghost use Rattle.descent.specs.Spot.{SpotAt, Standing, Underway, AtLeaf, AtPrefix, AtNode, Stepped};
 
 // At a Leaf: "Trusting the path without comparing the whole key at the Leaf" is an error.
 fn at_leaf(f: &[u8], key: &[u8], s: Spot, place: usize) -> Spot
@@ -57,7 +57,7 @@ fn at_node(f: &[u8], key: &[u8], s: Spot, place: usize, kind: usize) -> Spot
 
 // One step: deeper, or to the end.
 fn step(f: &[u8], key: &[u8], s: Spot) -> Spot
-    requires { ⌜ Going (now f) (now key) s ⌝ }
+    requires { ⌜ Underway (now f) (now key) s ⌝ }
     ensures { λ r. ⌜ Stepped (now (f .entry)) (now (key .entry)) s r ⌝ }
 {
     let here = s.here;

@@ -1,15 +1,16 @@
 -- `descend`: the invariant is the way so far, the measure what is left of the 113 bytes that a path can have. Assumes nothing.
 use Prim.Native.Nat.{_-_}
-use mathlib.Core.Path.{sym, _∙_}
+use mathlib.Core.Path.{_≡_, sym, ap, _∙_}
 use native.Mathlib.Omega.{arith}
 use borrow.Author.Needs.{needs}
-use Rattle.descent.specs.Spot.{Going}
+use Rattle.descent.specs.declared.spot.Spot.{Spot}
+use Rattle.descent.specs.Spot.{Underway}
 use Rattle.descent.proofs.RootLaws.{header-room, root-entry, start-going, start-empty, ended-spot}
 use Rattle.descent.proofs.walk.descend.Statement.{statement}
 use Rattle.descent.proofs.walk.descend.Tie as tie
 
 abbrev Inv-loop : tie.InvT-loop
-Inv-loop f key slot s₀ s = Going f key s
+Inv-loop f key slot s₀ s = Underway f key s
 
 abbrev μ-loop : tie.MeasureT-loop
 μ-loop f key slot s₀ s = 113 - s .depth
@@ -24,7 +25,7 @@ start-requires : tie.Need-start-requires Inv-loop μ-loop
 start-requires c κs = search needs
 
 ended-requires : tie.Need-ended-requires Inv-loop μ-loop
-ended-requires c κs = search needs
+ended-requires c κs = let e : c .before .before .start .result .visited ≡ 0 = ap (λ (z : Spot). z .visited) (c .before .before .start .ensures) in omega arith
 
 returns : tie.Need-returns Inv-loop μ-loop
 returns c = let z = c .before .before .before .before .before .before .before .before in let r = c .before .before .before .before .before .root in let e = c .before .before .before .before .read in rw (c .ended .ensures, c .before .before .before .start .ensures) (start-empty (z .args .key .now) (z .pre) (r .result) (r .ensures .0) (e .result .place) (sym (e .ensures .0) ∙ c .before .if1 .taken) (e .ensures .1))
