@@ -5,6 +5,7 @@
 use crate::compare::Calls;
 use crate::layout::number::{ABSENT, DONE, LENGTHS, PRESENT, REPLACED};
 use crate::layout::INFO_NUMBERS;
+use crate::store::Found;
 use frame_store::{check, Erase, Frame, Info, Put, Refusal, Replace, View};
 
 pub struct Bindings;
@@ -27,17 +28,20 @@ impl Calls for Bindings {
         number(check(frame).map(|()| DONE))
     }
 
-    fn look_up(&self, frame: &[u8], key: &[u8]) -> (u32, u64, u64) {
+    fn look_up(&self, frame: &[u8], key: &[u8]) -> Found {
         let view = View::over(frame);
-        match view.place(key).and_then(|place| Ok((place, view.look_up(key)?))) {
-            Ok((Some(place), Some(value))) => {
+        let all = || Ok((view.place(key)?, view.look_up(key)?, view.visits(key)?));
+        let (number, part, slots) = match all() {
+            Ok((Some(place), Some(value), slots)) => {
                 assert_eq!(frame[place.clone()].as_ptr_range(), value.as_ptr_range());
-                (DONE, place.start as u64, place.len() as u64)
+                (DONE, place, slots)
             }
-            Ok((None, None)) => (ABSENT, 0, 0),
-            Ok(both) => panic!("one look-up finds the key, the other does not: {both:?}"),
-            Err(refused) => (refused.number(), 0, 0),
-        }
+            Ok((None, None, slots)) => (ABSENT, 0..0, slots),
+            Ok(all) => panic!("one look-up finds the key, the other does not: {all:?}"),
+            Err(refused) => (Refusal::number(refused), 0..0, 0),
+        };
+        let (place, length) = (part.start as u64, part.len() as u64);
+        Found { number, place, length, slots: slots as u64 }
     }
 
     fn put(&self, frame: &mut [u8], key: &[u8], value: &[u8]) -> u32 {

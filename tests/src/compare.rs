@@ -11,7 +11,7 @@ use crate::decode;
 use crate::image::image;
 use crate::layout::{key_refusal, number::*, Kind, INFO_NUMBERS};
 use crate::slotless::{bodies, State};
-use crate::store::{self, Records};
+use crate::store::{self, Found, Records};
 use crate::tally::{Call, Entry, Tally};
 use crate::touched;
 use std::fmt;
@@ -22,8 +22,8 @@ use std::hint::black_box;
 pub trait Calls {
     fn format(&self, frame: &mut [u8], f: usize, n: usize) -> u32;
     fn check(&self, frame: &[u8]) -> u32;
-    /// The number, the place and the length.
-    fn look_up(&self, frame: &[u8], key: &[u8]) -> (u32, u64, u64);
+    /// All but the number is 0 of a refusal.
+    fn look_up(&self, frame: &[u8], key: &[u8]) -> Found;
     fn put(&self, frame: &mut [u8], key: &[u8], value: &[u8]) -> u32;
     fn replace(&self, frame: &mut [u8], key: &[u8], value: &[u8]) -> u32;
     fn erase(&self, frame: &mut [u8], key: &[u8]) -> u32;
@@ -42,7 +42,7 @@ impl Calls for Second {
     fn check(&self, frame: &[u8]) -> u32 {
         check::check(frame)
     }
-    fn look_up(&self, frame: &[u8], key: &[u8]) -> (u32, u64, u64) {
+    fn look_up(&self, frame: &[u8], key: &[u8]) -> Found {
         store::look_up(frame, key)
     }
     fn put(&self, frame: &mut [u8], key: &[u8], value: &[u8]) -> u32 {
@@ -241,7 +241,8 @@ impl<'a> Comparer<'a> {
         self.same_number(&call, given, number)
     }
 
-    pub fn look_up(&mut self, held: &Held, key: &[u8]) -> Compared<()> {
+    /// Gives the slots that were visited.
+    pub fn look_up(&mut self, held: &Held, key: &[u8]) -> Compared<u64> {
         self.step += 1;
         let call = format!("look-up of {}", shown(key));
         let (mut frame, mut lent_key) = (self.lend(&held.bytes), self.lend(key));
@@ -263,16 +264,30 @@ impl<'a> Comparer<'a> {
         if let Some(Err(end)) = found {
             self.tally.add(Entry::Absent(Call::LookUp, end));
         }
+        let visits = match (refused, &held.known) {
+            (None, Ok(state)) => state.visits(key),
+            _ => 0,
+        };
         let expected = store::look_up(&held.bytes, key);
-        if expected.0 != number {
+        if (expected.number, expected.slots) != (number, visits as u64) {
             return self.differs(format!("{call}: the two readings of look-up differ"));
+        }
+        // "at most the key's length plus 2 for every good frame"
+        let most = key.len() + 2;
+        self.demand(visits <= most, || format!("{call} visits {visits} slots"))?;
+        if let Some(found) = &found {
+            let present = found.is_ok();
+            if visits == if present { most } else { most - 1 } {
+                self.tally.add(Entry::MostSlots { present });
+            }
         }
         if let Some(Ok(value)) = found {
             if store::value(&held.bytes, key) != &*value {
                 return self.differs(format!("{call}: the two readings of the value differ"));
             }
         }
-        self.demand(given == expected, || format!("{call} gave {given:?}, not {expected:?}"))
+        self.demand(given == expected, || format!("{call} gave {given:?}, not {expected:?}"))?;
+        Ok(given.slots)
     }
 
     /// Gives the number; the frame held is then the one after the call.

@@ -6,6 +6,7 @@
 use crate::compare::Calls;
 use crate::layout::number::{ABSENT, DONE};
 use crate::layout::INFO_NUMBERS;
+use crate::store::Found;
 use frame_store as _;
 
 mod c {
@@ -17,8 +18,8 @@ mod c {
             frame_len: usize,
             key: *const u8,
             key_len: usize,
-            place_and_len: *mut u64,
-            two: usize,
+            place_len_and_slots: *mut u64,
+            three: usize,
         ) -> u32;
         pub fn frame_put(
             frame: *mut u8,
@@ -60,7 +61,7 @@ impl Calls for Exported {
         unsafe { c::frame_check(frame.as_ptr(), frame.len()) }
     }
 
-    fn look_up(&self, frame: &[u8], key: &[u8]) -> (u32, u64, u64) {
+    fn look_up(&self, frame: &[u8], key: &[u8]) -> Found {
         look_up_by_all_lengths(frame, key)
     }
 
@@ -133,29 +134,30 @@ fn info_by_all_lengths(frame: &[u8]) -> (u32, [u64; INFO_NUMBERS]) {
     (given, told)
 }
 
-/// Place and length go into two numbers if two are lent and the call is not
-/// refused, and nowhere else. Told as the call's own result has them: both 0
-/// of a refusal.
-fn look_up_by_all_lengths(frame: &[u8], key: &[u8]) -> (u32, u64, u64) {
+/// Place, length and slots go into three numbers if three are lent and the call
+/// is not refused, and nowhere else. Told as the call's own result has them:
+/// all 0 of a refusal.
+fn look_up_by_all_lengths(frame: &[u8], key: &[u8]) -> Found {
     use std::hint::black_box;
-    let call = |two: usize| {
-        let mut numbers = [KNOWN; 4];
+    let call = |three: usize| {
+        let mut numbers = [KNOWN; 6];
         let given = unsafe {
             let lent = numbers.as_mut_ptr().add(1);
-            c::frame_look_up(frame.as_ptr(), frame.len(), key.as_ptr(), key.len(), lent, two)
+            c::frame_look_up(frame.as_ptr(), frame.len(), key.as_ptr(), key.len(), lent, three)
         };
         (given, *black_box(&mut numbers))
     };
-    let (given, [before, place, length, after]) = call(2);
-    assert_eq!([before, after], [KNOWN; 2], "look-up wrote beside its two numbers");
-    for other in [0, 1, 3] {
+    let (number, [before, place, length, slots, after @ ..]) = call(3);
+    assert_eq!((before, after), (KNOWN, [KNOWN; 2]), "look-up wrote beside its three numbers");
+    for other in [0, 1, 2, 4] {
         let (again, numbers) = call(other);
-        assert_eq!(again, given, "look-up with {other} numbers gives another answer");
-        assert_eq!(numbers, [KNOWN; 4], "look-up wrote though {other} numbers were lent");
+        assert_eq!(again, number, "look-up with {other} numbers gives another answer");
+        assert_eq!(numbers, [KNOWN; 6], "look-up wrote though {other} numbers were lent");
     }
-    if !matches!(given, DONE | ABSENT) {
-        assert_eq!([place, length], [KNOWN; 2], "a look-up refused with {given} wrote");
-        return (given, 0, 0);
+    if !matches!(number, DONE | ABSENT) {
+        let lent = [place, length, slots];
+        assert_eq!(lent, [KNOWN; 3], "a look-up refused with {number} wrote");
+        return Found { number, place: 0, length: 0, slots: 0 };
     }
-    (given, place, length)
+    Found { number, place, length, slots }
 }

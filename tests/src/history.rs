@@ -107,7 +107,9 @@ fn history(
         }
         match random.below(12) {
             0 => comparer.check(held)?,
-            1..=3 => comparer.look_up(held, &key)?,
+            1..=3 => {
+                comparer.look_up(held, &key)?;
+            }
             4 => {
                 let out = random.bytes(held.bytes().len());
                 comparer.pack(held, &out)?;

@@ -52,6 +52,7 @@ pub fn all_stages(calls: &dyn Calls, effort: Effort) -> Compared<Tally> {
 pub fn printed_figures(comparer: &mut Comparer) -> Compared<()> {
     worked::worked_frames(comparer)?;
     worked::puts_and_replacements(comparer)?;
+    worked::slots_visited(comparer)?;
     worked::order_of_refusals(comparer)?;
     worked::format_limits(comparer)?;
     worked::lengths_at_the_limits(comparer)?;

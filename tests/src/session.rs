@@ -7,6 +7,7 @@ use crate::compare::Calls;
 use crate::layout::number::{DONE, LENGTHS, PRESENT};
 use crate::layout::{get32, AT_B, AT_R, AT_U};
 use crate::random::Random;
+use crate::store::Found;
 
 pub const GREETING: &[u8] = b"frame session 1\n";
 pub const LONGEST_LINE: usize = 1_024;
@@ -85,9 +86,9 @@ fn put_or_replace(calls: &dyn Calls, frame: &mut [u8], key: &[u8], value: &[u8])
 }
 
 fn look_up(calls: &dyn Calls, frame: &[u8], key: &[u8]) -> Vec<u8> {
-    let (given, place, length) = calls.look_up(frame, key);
-    let mut answer = given.to_string().into_bytes();
-    if given == DONE {
+    let Found { number, place, length, .. } = calls.look_up(frame, key);
+    let mut answer = number.to_string().into_bytes();
+    if number == DONE {
         answer.push(b' ');
         answer.extend_from_slice(&frame[place as usize..][..length as usize]);
     }

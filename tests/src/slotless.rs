@@ -162,6 +162,20 @@ impl State {
         }
     }
 
+    /// How many nodes the way of a key enters, the one where it ends included.
+    pub fn visits(&self, key: &[u8]) -> usize {
+        fn below(tree: &Tree, rest: &[u8]) -> usize {
+            let next = match tree {
+                Tree::Leaf { .. } => None,
+                Tree::Prefix { bytes, below } => rest.strip_prefix(&bytes[..]).zip(Some(below)),
+                Tree::Inner { children, .. } => Some(&rest[1..]).zip(children.get(&rest[0])),
+            };
+            1 + next.map_or(0, |(rest, child)| below(child, rest))
+        }
+        // An EmptyRoot is one slot too.
+        self.tree.as_ref().map_or(1, |tree| below(tree, &walked(key)))
+    }
+
     pub fn put(&mut self, key: &[u8], value: &[u8]) -> Told {
         if let Some(refused) = record_refusal(key, value) {
             return Told::only(refused);

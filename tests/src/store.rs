@@ -1,7 +1,8 @@
 //! The second store, over the bytes of a lent frame.
 //!
 //! Believed here: format, look-up, put, erase and pack of document 01, and info;
-//! of document 02 the replacement.
+//! of document 02 the replacement and the slots that a look-up visits
+//!
 //! Clear before fast: every call checks the whole frame, works out all it needs,
 //! compares that with the room left, and only then writes.
 
@@ -31,29 +32,35 @@ pub fn format(frame: &mut [u8], f: usize, n: usize) -> u32 {
     DONE
 }
 
-/// The number, and the place and length of the value.
-pub fn look_up(frame: &[u8], key: &[u8]) -> (u32, u64, u64) {
-    match find(frame, key) {
-        Err(number) => (number, 0, 0),
-        Ok(leaf) => {
-            let place = leaf.extent + leaf.key_length;
-            (DONE, place as u64, leaf.value_length as u64)
+/// What a look-up tells: the number, the place and the length of the value, and
+/// how many slots were visited after the frame's check, the last one included.
+#[derive(Clone, Copy, PartialEq, Eq, Debug)]
+pub struct Found {
+    pub number: u32,
+    pub place: u64,
+    pub length: u64,
+    pub slots: u64,
+}
+
+pub fn look_up(frame: &[u8], key: &[u8]) -> Found {
+    if let Err(number) = refusal(frame, key) {
+        return Found { number, place: 0, length: 0, slots: 0 };
+    }
+    let steps = walk(frame, &walked(key));
+    let slots = steps.len() as u64;
+    match present(frame, &steps, key) {
+        None => Found { number: ABSENT, place: 0, length: 0, slots },
+        Some(leaf) => {
+            let place = (leaf.extent + leaf.key_length) as u64;
+            Found { number: DONE, place, length: leaf.value_length as u64, slots }
         }
     }
 }
 
 /// The value as a part of the frame; an empty part at its start otherwise.
 pub fn value<'a>(frame: &'a [u8], key: &[u8]) -> &'a [u8] {
-    match find(frame, key) {
-        Err(_) => &frame[..0],
-        Ok(leaf) => &frame[leaf.extent + leaf.key_length..][..leaf.value_length],
-    }
-}
-
-fn find(frame: &[u8], key: &[u8]) -> Result<LeafFields, u32> {
-    refusal(frame, key)?;
-    let steps = walk(frame, &walked(key));
-    present(frame, &steps, key).ok_or(ABSENT)
+    let Found { place, length, .. } = look_up(frame, key);
+    &frame[place as usize..][..length as usize]
 }
 
 /// A record whose key is new; a present key is told, and nothing is needed.

@@ -55,6 +55,11 @@ pub enum Entry {
     ShuffledAnswer(u32),
     /// The end frames of such a pair differ, though they pack alike.
     ShuffledFramesDiffer,
+    /// A look-up visits as many slots as a key of its length can: its length and
+    /// 2 of a key that is there, one less of one that is not.
+    MostSlots {
+        present: bool,
+    },
     /// An info tells that this kind's list is not empty.
     Listed(Kind),
 }
@@ -184,6 +189,7 @@ pub fn expected() -> Vec<Entry> {
     all.extend([true, false].map(|refused| Entry::Shuffled { refused }));
     all.extend([DONE, ABSENT, REPLACED, PRESENT].map(Entry::ShuffledAnswer));
     all.push(Entry::ShuffledFramesDiffer);
+    all.extend([true, false].map(|present| Entry::MostSlots { present }));
     let numbers: [(Call, &[u32]); 8] = [
         (Call::Format, &[DONE, LENGTHS]),
         (Call::Check, &[DONE, LENGTHS, NOT_GOOD]),

@@ -248,6 +248,70 @@ pub fn puts_and_replacements(comparer: &mut Comparer) -> Compared<()> {
     replace(comparer, &mut full, b"a", &[6; 903], figures("the same length, no byte left", 9))
 }
 
+/// Records, and the slots on the way of a key.
+type Path<'a> = (&'a [&'a [u8]], &'a [u8], u64);
+
+/// EmptyRoot; Leaf; Node4 and Leaf; two Node4 and Leaf, the most that a key
+/// of one byte can have; a Prefix and what is below it.
+const PATHS: [Path; 14] = [
+    (&[], b"a", 1),
+    (&[b"a"], b"a", 1),
+    (&[b"a"], b"b", 1),
+    (&[b"a", b"b"], b"a", 2),
+    (&[b"a", b"b"], b"b", 2),
+    (&[b"a", b"b"], b"c", 1),
+    (&[b"a", b"b", b"ab"], b"a", 3),
+    (&[b"a", b"b", b"ab"], b"ab", 3),
+    (&[b"a", b"b", b"ab"], b"b", 2),
+    (&[b"a", b"b", b"ab"], b"ac", 2),
+    (&[b"a", b"b", b"ab"], b"abc", 3),
+    (&[b"zz\x01", b"zz\x02"], b"zz\x01", 3),
+    (&[b"zz\x01", b"zz\x02"], b"zz", 2),
+    (&[b"zz\x01", b"zz\x02"], b"za", 1),
+];
+
+/// worked paths; every length of a key with the most slots that it can
+/// have; none for a refused look-up.
+pub fn slots_visited(comparer: &mut Comparer) -> Compared<()> {
+    comparer.begin("slots that a look-up visits".to_string());
+    for (keys, key, slots) in PATHS {
+        let mut held = formatted(comparer, SMALL, 0)?;
+        for there in keys {
+            let figures = Figures { name: "a record on the way", number: 0, fields: &[] };
+            put(comparer, &mut held, there, b"v", figures)?;
+        }
+        visited(comparer, &held, key, slots)?;
+        visited(comparer, &held, b"", 0)?;
+        visited(comparer, &held, b"\0", 0)?;
+        let mut not_good = held.bytes().to_vec();
+        not_good[AT_X] ^= 8;
+        visited(comparer, &Held::new(not_good), key, 0)?;
+        visited(comparer, &Held::new(held.bytes()[..1_016].to_vec()), key, 0)?;
+    }
+    // p, pp and so on, and q beside them: a node for every byte.
+    let mut held = formatted(comparer, (32_768, 400), 0)?;
+    let figures = || Figures { name: "a record of the row", number: 0, fields: &[] };
+    put(comparer, &mut held, b"q", b"v", figures())?;
+    let row = vec![b'p'; LONGEST_KEY];
+    for length in 1..=LONGEST_KEY {
+        put(comparer, &mut held, &row[..length], b"v", figures())?;
+    }
+    for length in 1..LONGEST_KEY {
+        visited(comparer, &held, &row[..length], length as u64 + 2)?;
+    }
+    // No longer key parts from it, so its Leaf hangs where its last byte leads.
+    visited(comparer, &held, &row, LONGEST_KEY as u64 + 1)
+}
+
+fn visited(comparer: &mut Comparer, held: &Held, key: &[u8], slots: u64) -> Compared<()> {
+    let told = comparer.look_up(held, key)?;
+    if told != slots {
+        let way = key.escape_ascii();
+        return comparer.differs(format!("the way of {way} has {slots} slots, and not {told}"));
+    }
+    Ok(())
+}
+
 /// F and N around their limits, and slices of another length.
 pub fn format_limits(comparer: &mut Comparer) -> Compared<()> {
     comparer.begin("format around the limits".to_string());

@@ -8,11 +8,11 @@ use crate::check::{self, Rule};
 use crate::compare::{Calls, Second};
 use crate::layout::number::*;
 use crate::layout::*;
-use crate::store::{self, body_at, children, release, set_link, take, Step};
+use crate::store::{self, body_at, children, release, set_link, take, Found, Step};
 
 type Format = dyn Fn(&mut [u8], usize, usize) -> u32;
 type Check = dyn Fn(&[u8]) -> u32;
-type LookUp = dyn Fn(&[u8], &[u8]) -> (u32, u64, u64);
+type LookUp = dyn Fn(&[u8], &[u8]) -> Found;
 type Put = dyn Fn(&mut [u8], &[u8], &[u8]) -> u32;
 type Erase = dyn Fn(&mut [u8], &[u8]) -> u32;
 type Pack = dyn Fn(&[u8], &mut [u8]) -> u32;
@@ -54,7 +54,7 @@ impl Calls for Altered {
     fn check(&self, frame: &[u8]) -> u32 {
         (self.check)(frame)
     }
-    fn look_up(&self, frame: &[u8], key: &[u8]) -> (u32, u64, u64) {
+    fn look_up(&self, frame: &[u8], key: &[u8]) -> Found {
         (self.look_up)(frame, key)
     }
     fn put(&self, frame: &mut [u8], key: &[u8], value: &[u8]) -> u32 {
@@ -82,10 +82,7 @@ fn with_check(name: &str, check: impl Fn(&[u8]) -> u32 + 'static) -> Altered {
     Altered { check: Box::new(check), ..Altered::named(name) }
 }
 
-fn with_look_up(
-    name: &str,
-    look_up: impl Fn(&[u8], &[u8]) -> (u32, u64, u64) + 'static,
-) -> Altered {
+fn with_look_up(name: &str, look_up: impl Fn(&[u8], &[u8]) -> Found + 'static) -> Altered {
     Altered { look_up: Box::new(look_up), ..Altered::named(name) }
 }
 
@@ -207,48 +204,89 @@ pub fn formats() -> Vec<Altered> {
 }
 
 pub fn look_ups() -> Vec<Altered> {
+    let told = |name: &str, change: fn(&mut Found, &[u8], &[u8])| {
+        with_look_up(name, move |frame, key| {
+            let mut found = Second.look_up(frame, key);
+            change(&mut found, frame, key);
+            found
+        })
+    };
     vec![
-        with_look_up("a look-up that always says 8", |frame, key| {
-            match Second.look_up(frame, key) {
-                (DONE, _, _) => (ABSENT, 0, 0),
-                given => given,
+        told("a look-up that always says 8", |found, _, _| {
+            if found.number == DONE {
+                *found = Found { number: ABSENT, place: 0, length: 0, ..*found };
             }
         }),
-        with_look_up("a look-up that trusts the path", |frame, key| {
-            let given = Second.look_up(frame, key);
-            if given.0 != ABSENT {
-                return given;
+        told("a look-up that trusts the path", |found, frame, key| {
+            if found.number != ABSENT {
+                return;
             }
             let steps = store::walk(frame, &walked(key));
-            match steps[steps.len() - 1] {
-                Step { kind: Kind::Leaf, slot, .. } => {
-                    let leaf = store::leaf_fields(frame, slot);
-                    let place = leaf.extent + leaf.key_length;
-                    (DONE, place as u64, leaf.value_length as u64)
-                }
-                _ => given,
+            if let Step { kind: Kind::Leaf, slot, .. } = steps[steps.len() - 1] {
+                let leaf = store::leaf_fields(frame, slot);
+                let (place, length) = (leaf.extent + leaf.key_length, leaf.value_length);
+                let (place, length) = (place as u64, length as u64);
+                *found = Found { number: DONE, place, length, ..*found };
             }
         }),
-        with_look_up("a look-up that reads long lengths as negative", |frame, key| {
-            let (given, place, length) = Second.look_up(frame, key);
-            (given, place, i64::from(length as u16 as i16) as u64)
+        told("a look-up that reads long lengths as negative", |found, _, _| {
+            found.length = i64::from(found.length as u16 as i16) as u64;
         }),
-        with_look_up("a look-up that gives an empty value no place", |frame, key| {
-            match Second.look_up(frame, key) {
-                (given, _, 0) => (given, 0, 0),
-                given => given,
+        told("a look-up that gives an empty value no place", |found, _, _| {
+            if found.length == 0 {
+                found.place = 0;
             }
         }),
-        with_look_up("a look-up that gives the extent's place", |frame, key| {
-            match Second.look_up(frame, key) {
-                (DONE, place, length) => (DONE, place - key.len() as u64, length),
-                given => given,
+        told("a look-up that gives the extent's place", |found, _, key| {
+            if found.number == DONE {
+                found.place -= key.len() as u64;
             }
         }),
-        with_look_up("a look-up that says 8 to an illegal key", |frame, key| {
-            match Second.look_up(frame, key) {
-                (KEY_LENGTH | KEY_HOLDS_ZERO, _, _) => (ABSENT, 0, 0),
-                given => given,
+        told("a look-up that says 8 to an illegal key", |found, _, _| {
+            if matches!(found.number, KEY_LENGTH | KEY_HOLDS_ZERO) {
+                found.number = ABSENT;
+            }
+        }),
+        told("a look-up that does not count the last slot", |found, _, _| {
+            found.slots = found.slots.saturating_sub(1);
+        }),
+        told("a look-up that visits no slot for an absent key", |found, _, _| {
+            if found.number == ABSENT {
+                found.slots = 0;
+            }
+        }),
+        told("a look-up that does not count another key's Leaf", |found, frame, key| {
+            let end = end_of_way(frame, key).map(|step| step.kind);
+            if found.number == ABSENT && end == Some(Kind::Leaf) {
+                found.slots -= 1;
+            }
+        }),
+        told("a look-up that does not count an EmptyRoot", |found, frame, _| {
+            if found.number == ABSENT && get32(frame, AT_R) == 0 {
+                found.slots = 0;
+            }
+        }),
+        told("a look-up that counts a Prefix and its child as one", |found, frame, key| {
+            if matches!(found.number, DONE | ABSENT) {
+                let steps = store::walk(frame, &walked(key));
+                let passed = &steps[..steps.len() - 1];
+                let prefixes = passed.iter().filter(|step| step.kind == Kind::Prefix).count();
+                found.slots -= prefixes as u64;
+            }
+        }),
+        told("a look-up that counts the slots of the frame", |found, frame, _| {
+            if found.slots > 1 {
+                found.slots = get32(frame, AT_U) as u64;
+            }
+        }),
+        told("a look-up that counts a slot for an illegal key", |found, _, _| {
+            if matches!(found.number, KEY_LENGTH | KEY_HOLDS_ZERO) {
+                found.slots = 1;
+            }
+        }),
+        told("a look-up that counts a slot of a frame that is not good", |found, _, _| {
+            if found.number == NOT_GOOD {
+                found.slots = 1;
             }
         }),
     ]
@@ -315,7 +353,7 @@ pub fn puts() -> Vec<Altered> {
         }),
         with_put("a put that says 11 and takes a value of the same length", |frame, key, value| {
             let given = Second.put(frame, key, value);
-            if given == PRESENT && Second.look_up(frame, key).2 == value.len() as u64 {
+            if given == PRESENT && Second.look_up(frame, key).length == value.len() as u64 {
                 Second.replace(frame, key, value);
             }
             given
@@ -341,7 +379,7 @@ pub fn puts() -> Vec<Altered> {
         with_put(
             "a put that says 11 before it looks at the value",
             |frame, key, value| match Second.put(frame, key, value) {
-                VALUE_LENGTH if Second.look_up(frame, key).0 == DONE => PRESENT,
+                VALUE_LENGTH if Second.look_up(frame, key).number == DONE => PRESENT,
                 given => given,
             },
         ),
@@ -494,7 +532,7 @@ pub fn replaces() -> Vec<Altered> {
         with_replace(
             "a replacement that says 8 before it looks at the value",
             |frame, key, value| match Second.replace(frame, key, value) {
-                VALUE_LENGTH if Second.look_up(frame, key).0 == ABSENT => ABSENT,
+                VALUE_LENGTH if Second.look_up(frame, key).number == ABSENT => ABSENT,
                 given => given,
             },
         ),
@@ -537,7 +575,7 @@ pub fn replaces() -> Vec<Altered> {
             |frame, key, value| {
                 let found = Second.look_up(frame, key);
                 let size = extent_bytes(key.len(), value.len());
-                let same = found.0 == DONE && found.2 == value.len() as u64;
+                let same = found.number == DONE && found.length == value.len() as u64;
                 if same && get32(frame, AT_B) + size <= frame.len() {
                     let step = end_of_way(frame, key).expect("the key is there");
                     let extent = store::write_extent(frame, key, value);

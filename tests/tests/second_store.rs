@@ -35,6 +35,11 @@ fn puts_and_replacements_hold() {
 }
 
 #[test]
+fn slots_visited_hold() {
+    passes(worked::slots_visited(&mut Comparer::new(&Second)));
+}
+
+#[test]
 fn format_limits_hold() {
     passes(worked::format_limits(&mut Comparer::new(&Second)));
 }
@@ -76,9 +81,9 @@ fn the_value_is_a_part_of_the_frame() {
     let frame = &history::small_frames()[1];
     let part = store::value(frame, b"ab");
     assert_eq!(part, b"v");
-    let (number, place, length) = store::look_up(frame, b"ab");
-    assert_eq!((number, length), (0, 1));
-    assert_eq!(part.as_ptr(), frame[place as usize..].as_ptr());
+    let found = store::look_up(frame, b"ab");
+    assert_eq!((found.number, found.length, found.slots), (0, 1, 3));
+    assert_eq!(part.as_ptr(), frame[found.place as usize..].as_ptr());
     for (frame, key) in [(&frame[..], &b"absent"[..]), (frame, b""), (&frame[..1_000], b"ab")] {
         let none = store::value(frame, key);
         assert_eq!((none.len(), none.as_ptr()), (0, frame.as_ptr()));

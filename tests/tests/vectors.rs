@@ -7,6 +7,7 @@
 use second_store::compare::{Calls, Second};
 use second_store::exported::Exported;
 use second_store::layout::{get16, get32, get_entry, AT_B, AT_R, AT_ROOT, AT_U, AT_X};
+use second_store::store::Found;
 use std::fmt::Write;
 
 const STORED: &str = include_str!("../vectors.txt");
@@ -93,10 +94,11 @@ impl Told<'_> {
     }
 
     fn look_up(&mut self, frame: &[u8], key: &[u8], expected: &[u8]) {
-        let (given, place, long) = self.calls.look_up(frame, key);
-        let value = &frame[place as usize..][..long as usize];
+        let Found { number, place, length, slots } = self.calls.look_up(frame, key);
+        let value = &frame[place as usize..][..length as usize];
         let same = if value == expected { "the same" } else { "not the same" };
-        writeln!(self.text, "  looked up: {given} long {long} {same}").expect("a text takes more");
+        let told = format!("{number} long {length} slots {slots} {same}");
+        writeln!(self.text, "  looked up: {told}").expect("a text takes more");
     }
 
     fn children(&mut self, children: u8, given: u32, frame: &[u8]) {

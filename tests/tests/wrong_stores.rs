@@ -35,7 +35,7 @@ fn wrong_formats_are_caught() {
 
 #[test]
 fn wrong_look_ups_are_caught() {
-    all_caught(wrong::look_ups(), 6);
+    all_caught(wrong::look_ups(), 14);
 }
 
 #[test]
