@@ -1,7 +1,7 @@
 //! Changes, and what is said of their answers.
 
 use crate::lines::Record;
-use frame_store::{Erase, Frame, Lack, Refusal};
+use frame_store::{Erase, Frame, Lack, Put, Refusal, Replace};
 
 pub enum Change {
     Put(Record),
@@ -45,18 +45,15 @@ impl Change {
     }
 
     pub fn make(&self, frame: &mut Frame<Vec<u8>>) -> Result<Done, Refusal> {
-        let is_there = frame.look_up(self.key())?.is_some();
         Ok(match self {
-            Change::Put(_) if is_there => Done::Present,
-            Change::Put(Record { key, value }) => {
-                frame.put(key, value)?;
-                Done::New
-            }
-            Change::Replace(_) if !is_there => Done::Absent,
-            Change::Replace(Record { key, value }) => {
-                frame.put(key, value)?;
-                Done::Replaced
-            }
+            Change::Put(Record { key, value }) => match frame.put(key, value)? {
+                Put::New => Done::New,
+                Put::Present => Done::Present,
+            },
+            Change::Replace(Record { key, value }) => match frame.replace(key, value)? {
+                Replace::Done => Done::Replaced,
+                Replace::Absent => Done::Absent,
+            },
             Change::Erase(key) => match frame.erase(key)? {
                 Erase::Done => Done::Erased,
                 Erase::Absent => Done::Absent,

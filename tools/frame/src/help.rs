@@ -73,7 +73,7 @@ pub const COMMANDS: &[Command] = &[
         more: "PREFIX          only names that begin with it\n\
                --delimiter /   names that share the text up to and with the first such byte after the prefix are one line\n\
                --after KEY     only what sorts after it\n\
-               --long          the value's length and place before each name, - for a group\n\
+               --long          before each name the value's length and place, and how many slots its look-up visits; - for a group\n\
                --raw           names as they are, each ended by a byte 0; and no \\xNN in what is given",
         operands: 1..=2,
         options: &[valued("--delimiter", "a byte"), valued("--after", "a key"), flag("--long"), RAW],

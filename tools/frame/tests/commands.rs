@@ -88,10 +88,12 @@ fn list_takes_prefix_delimiter_and_start() {
     folder.frame(&["list", "i", "--after", "line.1.mode"]).done("line.1.rate\nline.2.rate\nwan\n");
     folder.frame(&["list", "i", "--after", "line.5", "--delimiter", "\\x2e"]).done("wan\n");
     let long = folder.frame(&["list", "i", "line.", "--delimiter", ".", "--long"]);
-    long.done("    -      -  line.1.\n    -      -  line.2.\n");
+    long.done("    -      -   -  line.1.\n    -      -   -  line.2.\n");
     let long = folder.frame(&["list", "i", "line.1.", "--long"]);
-    let place = Frame::over(folder.read("i")).place(b"line.1.mode").expect("good").expect("there");
-    assert!(long.text().starts_with(&format!("    4 {:>6}  line.1.mode\n", place.start)));
+    let frame = Frame::over(folder.read("i"));
+    let place = frame.place(b"line.1.mode").expect("good").expect("there").start;
+    let slots = frame.visits(b"line.1.mode").expect("good");
+    assert!(long.text().starts_with(&format!("    4 {place:>6} {slots:>3}  line.1.mode\n")));
     let raw = folder.frame(&["list", "i", "line.1.", "--raw"]);
     assert_eq!(raw.out, b"line.1.mode\0line.1.rate\0");
 }

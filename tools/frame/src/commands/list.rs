@@ -26,13 +26,13 @@ pub fn run(given: &Given) -> Result<(), Ended> {
     let mut listed = Vec::new();
     for entry in names::entries(&frame, &asked).map_err(refused)? {
         if given.flag("--long") {
-            let place = match &entry {
-                Entry::Name(key) => frame.place(key).map_err(refused)?,
-                Entry::Group(_) => None,
-            };
-            let columns = match place {
-                Some(place) => format!("{:>5} {:>6}  ", place.len(), place.start),
-                None => format!("{:>5} {:>6}  ", "-", "-"),
+            let columns = match &entry {
+                Entry::Name(key) => {
+                    let place = frame.place(key).map_err(refused)?.unwrap_or_default();
+                    let slots = frame.visits(key).map_err(refused)?;
+                    format!("{:>5} {:>6} {slots:>3}  ", place.len(), place.start)
+                }
+                Entry::Group(_) => format!("{:>5} {:>6} {:>3}  ", "-", "-", "-"),
             };
             listed.extend(columns.bytes());
         }
