@@ -40,7 +40,8 @@ use Rattle.leaf_new.proofs.DoneLaws.{any-room, Edited, put-done}
 use Rattle.prefix_body.specs.Prefix.{PrefixWritten}
 use Rattle.put_split.specs.Parts.{Forked}
 use Rattle.put_split.proofs.ForkLaws.{fork-art, fork-look}
-use Rattle.put_split.proofs.EndLaws.{node4-kind, prefix-look, took-slot}
+use Rattle.chain.proofs.RowLaws.{through}
+use Rattle.put_split.proofs.EndLaws.{node4-kind, took-slot}
 use Rattle.put_split.proofs.SplitLaws.{booked-two, from-two}
 use Rattle.put_split.proofs.PartedLaws.{byte-here}
 use Rattle.put_cut.specs.Cut.{BeforeLeft}
@@ -154,7 +155,7 @@ module _ {f k v : List ℕ} {p : Spot} (N : BeforeLeft f k v p) where
                     ap (λ y. count (like x) (marks y below)) at,
                   );
             };
-            look = prefix-look k (Q .w) (Q .b ∷ Q .s) d (p .here .slot) (p .here .place) (knot w) (here-left k (pathOf (xs A)) (word A) Q)
+            look = through edition1 k (Q .w) (Q .b ∷ Q .s) d (p .here .slot) (p .here .place) (knot w) (here-left k (pathOf (xs A)) (word A) Q)
                 ∙ fork-look k (d + length (Q .w)) m place (Q .b) new (Q .c) below (byte-here k (pathOf (xs A)) (word A) Q) (Q .apart)
                 ∙ leaf-look edition1 (G .leaf) (placeFrom h1 (listOf h1 Leaf)) (taken h1 Leaf .nums .B) k v (d + length (Q .w) + 1);
             fromB = λ z. from-two (standsView w) k v (w .heap .lists .eight);

@@ -45,7 +45,9 @@ use Rattle.leaf_new.proofs.DoneLaws.{any-room, Edited, put-done}
 use Rattle.prefix_body.specs.Prefix.{PrefixWritten}
 use Rattle.put_split.specs.Parts.{Forks, Forked}
 use Rattle.put_split.proofs.ForkLaws.{forkKids, fork-art, fork-look, fork-work, fork-since}
-use Rattle.put_split.proofs.EndLaws.{node4-kind, prefix-kind, leafy-not, prefix-look, took-slot, end-work, end-since, end-booked}
+use Rattle.chain.proofs.RowLaws.{through, leafy-not}
+use Rattle.chain.proofs.TakeLaws.{prefix-kind}
+use Rattle.put_split.proofs.EndLaws.{node4-kind, took-slot, end-work, end-since, end-booked}
 use Rattle.put_split.proofs.SplitLaws.{booked-three, from-three}
 use Rattle.put_split.proofs.PartedLaws.{byte-here, begins-here}
 use Rattle.put_split.proofs.OtherLaws.{relink-ok}
@@ -225,7 +227,7 @@ module _ {f k v : List ℕ} {p : Spot} (N : BothLeft f k v p) where
                               ap (λ y. count (like x) (marks y (A .part .below))) at,
                             );
                       };
-                      look = prefix-look k (Q .w) (Q .b ∷ Q .s) d top (place2 w) (knot w) (here-left k (pathOf (xs A)) (word A) Q)
+                      look = through edition1 k (Q .w) (Q .b ∷ Q .s) d top (place2 w) (knot w) (here-left k (pathOf (xs A)) (word A) Q)
                           ∙ fork-look k (d + length (Q .w)) m (place4 w) (Q .b) new (Q .c) below (byte-here k (pathOf (xs A)) (word A) Q) (Q .apart)
                           ∙ leaf-look edition1 (G .leaf) (placeFrom (view2 w) (listOf (view2 w) Leaf)) (taken (view2 w) Leaf .nums .B) k v (d + length (Q .w) + 1);
                       fromB = λ z. from-three (standsView w) k v e8;

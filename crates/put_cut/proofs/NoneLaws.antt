@@ -40,7 +40,9 @@ use Rattle.put_split.proofs.ForkLaws.{fork-marks}
 use Rattle.leaf_new.proofs.DoneLaws.{any-room, Edited, put-done}
 use Rattle.put_split.specs.Parts.{Forked}
 use Rattle.put_split.proofs.ForkLaws.{fork-art, fork-look}
-use Rattle.put_split.proofs.EndLaws.{prefix-kind, node4-kind, leafy-not, took-slot, holders-in, holders-some}
+use Rattle.chain.proofs.RowLaws.{leafy-not}
+use Rattle.chain.proofs.TakeLaws.{prefix-kind}
+use Rattle.put_split.proofs.EndLaws.{node4-kind, took-slot, holders-in, holders-some}
 use Rattle.put_split.proofs.SplitLaws.{booked-two, from-two}
 use Rattle.put_split.proofs.OtherLaws.{relink-ok}
 use Rattle.put_cut.specs.Cut.{NoneLeft}

@@ -32,7 +32,8 @@ use Rattle.between.proofs.OutsideLaws.{among-here, slots-later, slots-app, hold
 use Rattle.descent.specs.declared.spot.Spot.{Spot}
 use Rattle.put_split.specs.Parts.{Forks, Forked}
 use Rattle.put_split.proofs.ForkLaws.{forkKids, fork-sum, fork-work, fork-since}
-use Rattle.put_split.proofs.EndLaws.{node4-kind, leafy-not}
+use Rattle.chain.proofs.RowLaws.{leafy-not}
+use Rattle.put_split.proofs.EndLaws.{node4-kind}
 use Rattle.put_split.proofs.PartedLaws.{begins-here}
 use Rattle.prefix_body.specs.Prefix.{Shortened}
 use Rattle.put_cut.specs.Cut.{AtPart}

@@ -1,22 +1,17 @@
--- The end of every split: the link to the hole names the new tree, and R grows. What a Prefix adds. Assumes nothing.
+-- The end of every split: the link to the hole names the new tree, and R grows. Assumes nothing.
 use Prim.Native.Nat.{ℕ, suc, _+_, _<_, _≤_}
-use mathlib.Core.Path.{_≡_, refl, ap, _∙_}
+use mathlib.Core.Path.{_≡_, refl}
 use mathlib.Core.List.{List, [], _∷_, _++_, append-nil}
 use mathlib.Core.Bool.{Bool, true, false}
 use native.Mathlib.Omega.{arith}
-use lib.ListN.{length, drop}
 use lib.Dec.{eqb}
-use borrow.Author.Tests.{eq-eqb}
-use Rattle.layout.specs.Kind.{Leaf, Prefix, Node4, Kind}
-use Rattle.model.specs.Strings.{pick, shared}
+use Rattle.layout.specs.Kind.{Leaf, Node4, Kind}
+use Rattle.model.specs.Strings.{pick}
 use Rattle.model.specs.Edition.{edition1}
 use Rattle.model.specs.State.{State, tally}
-use Rattle.model.specs.Item.{Item, body, leafy, sum}
+use Rattle.model.specs.Item.{Item, sum}
 use Rattle.model.specs.Frame.{Lay, slotOf, View, tree, rootItems, Stands}
-use Rattle.model.specs.Frame.Lay.{prefix}
-use Rattle.model.specs.Touch.{holder, findLay}
-use Rattle.model.proofs.StringLaws.{shared-whole}
-use Rattle.model.proofs.ItemLaws.{in-over}
+use Rattle.model.specs.Touch.{holder}
 use Rattle.room.specs.View.{recorded, rooted}
 use Rattle.room.specs.Step.{Took}
 use Rattle.room.proofs.HeapLaws.{took-lies}
@@ -38,15 +33,8 @@ use Rattle.leaf_new.specs.Make.{Counted}
 pub node4-kind : Kind Node4
 node4-kind = (omega arith, omega arith, λ z. omega arith)
 
-pub prefix-kind : Kind Prefix
-prefix-kind = (omega arith, omega arith, λ z. omega arith)
-
 pub leaf-kind : Kind Leaf
 leaf-kind = (omega arith, omega arith, λ z. omega arith)
-
-pub leafy-not : (s k o : ℕ) → 2 ≤ k → leafy (body s k o) ≡ 0
-unfolding leafy
-leafy-not s k o l = in-over 1 1 k (omega arith)
 
 -- "In `after`, order of takes does not matter"
 pub tally-two : (a b j : ℕ) → tally (a ∷ b ∷ []) j ≡ tally (b ∷ a ∷ []) j
@@ -70,11 +58,6 @@ tally-three a b c j = go (eqb a j) (eqb b j) (eqb c j)
     go false true false = refl
     go false false true = refl
     go false false false = refl
-
--- ---- a Prefix of some bytes
-
-pub prefix-look : (k w r : List ℕ) (d s o : ℕ) (t : Lay) → drop d (edition1 .walked k) ≡ w ++ r → findLay edition1 (prefix s o w t) d k ≡ findLay edition1 t (d + length w) k
-prefix-look k w r d s o t e = rw (eq-eqb (shared w (drop d (edition1 .walked k))) (length w) (ap (shared w) e ∙ shared-whole w r)) refl
 
 -- ---- a slot that was taken
 

@@ -3,13 +3,12 @@
 pub mod parts;
 
 use descent::spot::Spot;
-use layout::entry::Entry;
 use layout::kind::Kind;
 use room::heap;
 ghost use Rattle.leaf_new.specs.Put.{PutStep};
 ghost use Rattle.put_split.specs.Split.{AtOther};
 
-// A Leaf of another key: a Node4 has both Leaves, under a Prefix of the walked bytes that the keys share from there.
+// A Leaf of another key: a Node4 has both Leaves, under a row of Prefixes of the walked bytes that the keys share from there.
 pub fn split_leaf(f: &mut [u8], key: &[u8], value: &[u8], spot: Spot)
     requires { ⌜ AtOther (now f) (now key) (now value) spot ⌝ }
     ensures { λ _. ⌜ PutStep (now (f .entry)) (now (key .entry)) (now (value .entry)) (now (f .exit)) ⌝ }
@@ -19,16 +18,11 @@ pub fn split_leaf(f: &mut [u8], key: &[u8], value: &[u8], spot: Spot)
     let to = from + spot.shared;
     let c = parts::old_byte(f, here.place, to);
     let node = heap::take(f, Kind::NODE4);
-    if spot.shared == 0 {
-        parts::fork(f, node, key, value, to, c, here.slot);
-        room::link::relink(f, here.link, node);
-        leaf_new::count_record(f);
-        return;
-    }
-    let top = heap::take(f, Kind::PREFIX);
+    let need = chain::bodies_of(spot.shared);
+    let mut row: [usize; chain::MOST] = [0; chain::MOST];
+    chain::take_row(f, &mut row, 0, need);
     parts::fork(f, node, key, value, to, c, here.slot);
-    let body = Entry::read(f, top);
-    prefix_body::write(f, body.place, node, &key[from..to]);
+    let top = chain::write_row(f, &row, &key[from..to], node);
     room::link::relink(f, here.link, top);
     leaf_new::count_record(f);
 }

@@ -1,7 +1,7 @@
--- `split_leaf` takes a Node4, and a Prefix if bytes are shared; makes the Leaf and writes the bodies, then the link. Assumes nothing.
-use native.Mathlib.Omega.{arith}
-use Rattle.put_split.proofs.OtherLaws.{leaf-here, to-short, key-short, takes-node, forks-one, relink-one, count-one, ends-one, takes-top, forks-two, top-entry, write-ok, relink-two, count-two, ends-two}
+-- `split_leaf` takes a Node4 and a row of Prefixes, makes the Leaf, writes the row, then the link. Assumes nothing.
 use mathlib.Core.Path.{refl}
+use native.Mathlib.Omega.{arith}
+use Rattle.put_split.proofs.OtherLaws.{leaf-here, to-short, key-short, shared-short, takes-node, takes-row, forks, writes, relinks, counts, ends}
 use borrow.Author.Needs.{needs}
 use Rattle.put_split.proofs.split_leaf.Statement.{statement}
 use Rattle.put_split.proofs.split_leaf.Tie as tie
@@ -18,29 +18,84 @@ take-requires c κs =
     let start = byte .before .before .before .before .before .before .before in
     takes-node (start .pre) (byte .old-byte .ensures)
 
-fork-requires : tie.Need-fork-requires
-fork-requires c κs =
-    let took = c .before .before .before .before .before in
+bodies-of-requires : tie.Need-bodies-of-requires
+bodies-of-requires c κs =
+    let took = c .before .before in
     let byte = took .before .before in
     let start = byte .before .before .before .before .before .before .before in
-    forks-one (start .pre) (byte .old-byte .ensures) (omega arith) (took .take .ensures)
+    shared-short (start .pre) (byte .old-byte .ensures)
+
+slice-aggregate-take-row : tie.Need-slice-aggregate-take-row
+slice-aggregate-take-row c = search needs
+
+take-row-requires : tie.Need-take-row-requires
+take-row-requires c κs =
+    let need = c .before .before in
+    let took = need .before .before .before in
+    let byte = took .before .before in
+    let start = byte .before .before .before .before .before .before .before in
+    takes-row (start .pre) (byte .old-byte .ensures) (took .take .ensures) (need .bodies-of .ensures) refl
+
+fork-requires : tie.Need-fork-requires
+fork-requires c κs =
+    let rowed = c .before .before .before .before in
+    let need = rowed .before .before .before in
+    let took = need .before .before .before in
+    let byte = took .before .before in
+    let start = byte .before .before .before .before .before .before .before in
+    forks (start .pre) (byte .old-byte .ensures) (took .take .ensures) (need .bodies-of .ensures) (rowed .take-row .ensures)
+
+slice-aggregate-write-row : tie.Need-slice-aggregate-write-row
+slice-aggregate-write-row c = search needs
+
+sub-write-row : tie.Need-sub-write-row
+sub-write-row c = search needs
+
+part-write-row-start : tie.Need-part-write-row-start
+part-write-row-start c = search needs
+
+part-write-row-end : tie.Need-part-write-row-end
+part-write-row-end c =
+    let forked = c .before .before .before .before in
+    let rowed = forked .before .before .before .before .before in
+    let need = rowed .before .before .before in
+    let took = need .before .before .before in
+    let byte = took .before .before in
+    let start = byte .before .before .before .before .before .before .before in
+    omega (arith, to-short (start .pre))
+
+write-row-requires : tie.Need-write-row-requires
+write-row-requires c κs =
+    let forked = c .before .before .before .before .before in
+    let rowed = forked .before .before .before .before .before in
+    let need = rowed .before .before .before in
+    let took = need .before .before .before in
+    let byte = took .before .before in
+    let start = byte .before .before .before .before .before .before .before in
+    writes (start .pre) (byte .old-byte .ensures) (took .take .ensures) (need .bodies-of .ensures) (rowed .take-row .ensures) (forked .fork .ensures) refl (omega arith)
 
 relink-requires : tie.Need-relink-requires
 relink-requires c κs =
-    let forked = c .before .before .before in
-    let took = forked .before .before .before .before .before .before in
+    let wrote = c .before .before .before in
+    let forked = wrote .before .before .before .before .before .before in
+    let rowed = forked .before .before .before .before .before in
+    let need = rowed .before .before .before in
+    let took = need .before .before .before in
     let byte = took .before .before in
     let start = byte .before .before .before .before .before .before .before in
-    relink-one (start .pre) (byte .old-byte .ensures) (omega arith) (took .take .ensures) (forked .fork .ensures)
+    relinks (start .pre) (byte .old-byte .ensures) (took .take .ensures) (need .bodies-of .ensures) (rowed .take-row .ensures) (forked .fork .ensures) refl (wrote .write-row .ensures)
 
 count-record-requires : tie.Need-count-record-requires
 count-record-requires c κs =
     let linked = c .before .before .before in
-    let forked = linked .before .before .before .before in
-    let took = forked .before .before .before .before .before .before in
+    let wrote = linked .before .before .before .before in
+    let forked = wrote .before .before .before .before .before .before in
+    let rowed = forked .before .before .before .before .before in
+    let need = rowed .before .before .before in
+    let took = need .before .before .before in
     let byte = took .before .before in
     let start = byte .before .before .before .before .before .before .before in
-    count-one (start .pre) (byte .old-byte .ensures) (omega arith) (took .take .ensures) (forked .fork .ensures) (linked .relink .ensures)
+    counts (start .pre) (byte .old-byte .ensures) (took .take .ensures) (need .bodies-of .ensures) (rowed .take-row .ensures) (forked .fork .ensures) refl (wrote .write-row .ensures) (linked .relink .ensures)
 
 same-length : tie.Need-same-length
 same-length c = search needs
@@ -49,100 +104,14 @@ returns : tie.Need-returns
 returns c =
     let counted = c .before .before in
     let linked = counted .before .before .before .before in
-    let forked = linked .before .before .before .before in
-    let took = forked .before .before .before .before .before .before in
+    let wrote = linked .before .before .before .before in
+    let forked = wrote .before .before .before .before .before .before in
+    let rowed = forked .before .before .before .before .before in
+    let need = rowed .before .before .before in
+    let took = need .before .before .before in
     let byte = took .before .before in
     let start = byte .before .before .before .before .before .before .before in
-    ends-one (start .pre) (byte .old-byte .ensures) (omega arith) (took .take .ensures) (forked .fork .ensures) (linked .relink .ensures) (counted .count-record .ensures) (λ a. omega (arith, c .slice-known5 .given a))
-
-take-requires-2 : tie.Need-take-requires-2
-take-requires-2 c κs =
-    let took = c .before .before .before .before .before in
-    let byte = took .before .before in
-    let start = byte .before .before .before .before .before .before .before in
-    takes-top (start .pre) (byte .old-byte .ensures) (λ z. omega arith) (took .take .ensures)
-
-fork-requires-2 : tie.Need-fork-requires-2
-fork-requires-2 c κs =
-    let topped = c .before .before .before in
-    let took = topped .before .before .before .before .before .before in
-    let byte = took .before .before in
-    let start = byte .before .before .before .before .before .before .before in
-    forks-two (start .pre) (byte .old-byte .ensures) (λ z. omega arith) (took .take .ensures) (topped .take2 .ensures)
-
-read-requires : tie.Need-read-requires
-read-requires c κs =
-    let forked = c .before .before .before in
-    let topped = forked .before .before .before .before in
-    let took = topped .before .before .before .before .before .before in
-    let byte = took .before .before in
-    let start = byte .before .before .before .before .before .before .before in
-    top-entry (start .pre) (byte .old-byte .ensures) (λ z. omega arith) (took .take .ensures) (topped .take2 .ensures) (forked .fork2 .ensures)
-
-sub-write : tie.Need-sub-write
-sub-write c = search needs
-
-part-write-start : tie.Need-part-write-start
-part-write-start c = search needs
-
-part-write-end : tie.Need-part-write-end
-part-write-end c =
-    let body = c .before in
-    let forked = body .before .before .before .before in
-    let topped = forked .before .before .before .before in
-    let took = topped .before .before .before .before .before .before in
-    let byte = took .before .before in
-    let start = byte .before .before .before .before .before .before .before in
-    omega (arith, to-short (start .pre))
-
-write-requires : tie.Need-write-requires
-write-requires c κs =
-    let body = c .before .before in
-    let forked = body .before .before .before .before in
-    let topped = forked .before .before .before .before in
-    let took = topped .before .before .before .before .before .before in
-    let byte = took .before .before in
-    let start = byte .before .before .before .before .before .before .before in
-    write-ok (start .pre) (byte .old-byte .ensures) (λ z. omega arith) (took .take .ensures) (topped .take2 .ensures) (forked .fork2 .ensures) (body .read .ensures .1) refl
-
-relink-requires-2 : tie.Need-relink-requires-2
-relink-requires-2 c κs =
-    let written = c .before .before .before in
-    let body = written .before .before .before in
-    let forked = body .before .before .before .before in
-    let topped = forked .before .before .before .before in
-    let took = topped .before .before .before .before .before .before in
-    let byte = took .before .before in
-    let start = byte .before .before .before .before .before .before .before in
-    relink-two (start .pre) (byte .old-byte .ensures) (λ z. omega arith) (took .take .ensures) (topped .take2 .ensures) (forked .fork2 .ensures) (body .read .ensures .1) refl (written .write .ensures)
-
-count-record-requires-2 : tie.Need-count-record-requires-2
-count-record-requires-2 c κs =
-    let linked = c .before .before .before in
-    let written = linked .before .before .before .before in
-    let body = written .before .before .before in
-    let forked = body .before .before .before .before in
-    let topped = forked .before .before .before .before in
-    let took = topped .before .before .before .before .before .before in
-    let byte = took .before .before in
-    let start = byte .before .before .before .before .before .before .before in
-    count-two (start .pre) (byte .old-byte .ensures) (λ z. omega arith) (took .take .ensures) (topped .take2 .ensures) (forked .fork2 .ensures) (body .read .ensures .1) refl (written .write .ensures) (linked .relink2 .ensures)
-
-same-length-2 : tie.Need-same-length-2
-same-length-2 c = search needs
-
-returns-2 : tie.Need-returns-2
-returns-2 c =
-    let counted = c .before .before in
-    let linked = counted .before .before .before .before in
-    let written = linked .before .before .before .before in
-    let body = written .before .before .before in
-    let forked = body .before .before .before .before in
-    let topped = forked .before .before .before .before in
-    let took = topped .before .before .before .before .before .before in
-    let byte = took .before .before in
-    let start = byte .before .before .before .before .before .before .before in
-    ends-two (start .pre) (byte .old-byte .ensures) (λ z. omega arith) (took .take .ensures) (topped .take2 .ensures) (forked .fork2 .ensures) (body .read .ensures .1) refl (written .write .ensures) (linked .relink2 .ensures) (counted .count-record2 .ensures) (λ a. omega (arith, c .slice-known10 .given a))
+    ends (start .pre) (byte .old-byte .ensures) (took .take .ensures) (need .bodies-of .ensures) (rowed .take-row .ensures) (forked .fork .ensures) refl (wrote .write-row .ensures) (linked .relink .ensures) (counted .count-record .ensures) (λ a. omega (arith, c .slice-known7 .given a))
 
 pub split-leaf-spec : {M : Type 1} → statement M
 split-leaf-spec =
@@ -151,19 +120,16 @@ split-leaf-spec =
     add-to
     old-byte-requires
     take-requires
+    bodies-of-requires
+    slice-aggregate-take-row
+    take-row-requires
     fork-requires
+    slice-aggregate-write-row
+    sub-write-row
+    part-write-row-start
+    part-write-row-end
+    write-row-requires
     relink-requires
     count-record-requires
     same-length
-    returns
-    take-requires-2
-    fork-requires-2
-    read-requires
-    sub-write
-    part-write-start
-    part-write-end
-    write-requires
-    relink-requires-2
-    count-record-requires-2
-    same-length-2
-    returns-2)
+    returns)

@@ -1,0 +1,4 @@
+pub mod RowLaws
+pub mod TakeLaws
+pub mod FreeLaws
+pub mod ReadLaws
