@@ -75,7 +75,7 @@ module _ {f : List ℕ} {h : View} {xs : List Step} {s : ℕ} (n o : ℕ) (path 
       h2 = retired h1 size rest2
 
       C2 : Renumbered f1 f2 h1 h2
-      C2 = rw (ex, em) at (retire h1 rest2 (W2 .heap) (rw (ex, em) (first-owns W2)))
+      C2 = rw em at (retire h1 rest2 (W2 .heap) (rw (ex, em) (first-owns W2)))
 
       W3 : Work edition1 f2 h2 xs s ts loose
       W3 = work-retire W2 C2
