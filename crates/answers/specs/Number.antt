@@ -1,6 +1,7 @@
--- "Numbers a call can give": the number of each answer, and what look-up and info tell besides.
+-- "Numbers a call can give": the number of each answer, and what look-up, info and a listing tell besides.
 use Prim.Native.Nat.{ℕ}
 use mathlib.Core.List.{List, [], _∷_}
+use mathlib.Core.Bool.{Bool, true, false}
 use Rattle.answers.specs.declared.Refusal.{Refusal}
 use Rattle.answers.specs.declared.Refusal.the-variants as refusal
 use Rattle.answers.specs.declared.Format.{Format}
@@ -18,6 +19,8 @@ use Rattle.answers.specs.declared.Pack.the-variants as pack
 use Rattle.answers.specs.declared.Counts.{Counts}
 use Rattle.answers.specs.declared.Info.{Info}
 use Rattle.answers.specs.declared.Info.the-variants as info
+use Rattle.answers.specs.declared.List.{List as Listing}
+use Rattle.answers.specs.declared.List.the-variants as list
 
 abbrev pub refusalNumber : Refusal → ℕ
 refusalNumber refusal.Length = 1
@@ -27,6 +30,7 @@ refusalNumber refusal.KeyZero = 4
 refusalNumber refusal.ValueLength = 5
 refusalNumber refusal.Output = 7
 refusalNumber refusal.Room = 6
+refusalNumber refusal.Buffer = 10
 
 abbrev pub formatNumber : Format → ℕ
 formatNumber format.Done = 0
@@ -80,3 +84,20 @@ counted c =
 abbrev pub infoTold : Info → List ℕ
 infoTold (info.Told c) = counted c
 infoTold (info.Refused r) = []
+
+abbrev pub listNumber : Listing → ℕ
+listNumber (list.Done n m) = 0
+listNumber (list.Refused r) = refusalNumber r
+
+-- "how many and whether more remain": 0 with a refusal
+abbrev pub listCount : Listing → ℕ
+listCount (list.Done n m) = n
+listCount (list.Refused r) = 0
+
+abbrev pub oneIf : Bool → ℕ
+oneIf true = 1
+oneIf false = 0
+
+abbrev pub listMore : Listing → ℕ
+listMore (list.Done n m) = oneIf m
+listMore (list.Refused r) = 0

@@ -1,6 +1,6 @@
 // The answers of the public calls as enums by value, and document 01's number for each.
 ghost use mathlib.Core.Path.{_≡_};
-ghost use Rattle.answers.specs.Number.{refusalNumber, formatNumber, checkNumber, lookUpNumber, putNumber, eraseNumber, packNumber, infoNumber};
+ghost use Rattle.answers.specs.Number.{refusalNumber, formatNumber, checkNumber, lookUpNumber, putNumber, eraseNumber, packNumber, infoNumber, listNumber};
 
 // "1 to 7 are refusals"
 pub enum Refusal {
@@ -18,6 +18,8 @@ pub enum Refusal {
     Output,
     // 6: no room
     Room,
+    // 10: listing: the buffer is too small for the first key
+    Buffer,
 }
 
 pub enum Format {
@@ -84,6 +86,12 @@ pub enum Info {
     Refused(Refusal),
 }
 
+pub enum List {
+    // how many entries, and whether more remain
+    Done(usize, bool),
+    Refused(Refusal),
+}
+
 pub fn refusal_number(r: Refusal) -> u32
     ensures { λ n. ⌜ n ≡ refusalNumber r ⌝ }
 {
@@ -95,6 +103,7 @@ pub fn refusal_number(r: Refusal) -> u32
         Refusal::ValueLength => 5,
         Refusal::Output => 7,
         Refusal::Room => 6,
+        Refusal::Buffer => 10,
     }
 }
 
@@ -161,5 +170,14 @@ pub fn info_number(a: Info) -> u32
     match a {
         Info::Told(_) => 0,
         Info::Refused(r) => refusal_number(r),
+    }
+}
+
+pub fn list_number(a: List) -> u32
+    ensures { λ n. ⌜ n ≡ listNumber a ⌝ }
+{
+    match a {
+        List::Done(_, _) => 0,
+        List::Refused(r) => refusal_number(r),
     }
 }
