@@ -17,6 +17,7 @@ use Rattle.model.specs.Frame.{art, pairs, rootArt, Stands}
 use Rattle.model.specs.Promise.{changes}
 use Rattle.model.proofs.StringLaws.{clash}
 use Rattle.model.proofs.Edition1.{lawful1}
+use Rattle.model.proofs.GoodState.{GoodAt}
 use Rattle.model.proofs.StandsGood.{stands-good}
 use Rattle.model.proofs.StateLaws.{erase-more}
 use Rattle.inner.proofs.InnerLaws.{inner-count}
@@ -129,7 +130,7 @@ module _ {f k : List ℕ} (A : Asked f k) {p : Spot} (S : (s : State) (w : Stand
         more : (s : State) (w : Stands edition1 f s) → s .R ≡ 1 → ⊥
         more s w =
             let a = art (inside w .lay) in
-            erase-more lawful1 s a k _ (erasing s w .left) (rw (stands-tree s w) at (stands-good edition1 f s w)) (A .legal) (there s w) (erasing s w .leaves)
+            erase-more lawful1 s a k _ (erasing s w .left) (subst (GoodAt edition1 s) (stands-tree s w) (stands-good edition1 f s w)) (A .legal) (there s w) (erasing s w .leaves)
 
       module _ {n : Needs} (N : ErasePlan f k p n) {r : Room} (R : (E : Edition) (s : State) → Stands E f s → RoomOf r s n) {b : Bool} (F : (b ≡ true → Fit r n) × (Fit r n → b ≡ true)) where
         room-any : (s : State) (w : Stands edition1 f s) → b ≡ room s (eraseChange edition1 (art (inside w .lay)) k)
