@@ -33,9 +33,10 @@ pub enum Check {
 }
 
 pub enum LookUp {
-    // place, counted from the frame's start, and length of the value
-    Found(usize, usize),
-    Absent,
+    // place, counted from the frame's start, and length of the value; the slots visited
+    Found(usize, usize, usize),
+    // the slots visited
+    Absent(usize),
     Refused(Refusal),
 }
 
@@ -129,8 +130,8 @@ pub fn look_up_number(a: LookUp) -> u32
     ensures { λ n. ⌜ n ≡ lookUpNumber a ⌝ }
 {
     match a {
-        LookUp::Found(_, _) => 0,
-        LookUp::Absent => 8,
+        LookUp::Found(_, _, _) => 0,
+        LookUp::Absent(_) => 8,
         LookUp::Refused(r) => refusal_number(r),
     }
 }
