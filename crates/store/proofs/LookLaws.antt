@@ -12,7 +12,8 @@ use borrow.Author.Tests.{eq-eqb, ne-eqb}
 use Rattle.model.specs.Strings.{pick, hasZero}
 use Rattle.model.specs.Edition.{edition1}
 use Rattle.model.specs.State.{State, findIn}
-use Rattle.model.specs.Frame.{Root, Stands, Good}
+use Rattle.model.specs.Visits.{visitsIn}
+use Rattle.model.specs.Frame.{Root, rootArt, Stands, Good}
 use Rattle.model.specs.Touch.{Part, findAt}
 use Rattle.model.specs.Promise.{Told, CheckPromise, LookUpPromise, notFound, foundOf}
 use Rattle.descent.specs.declared.lookup.Held.{Held}
@@ -34,53 +35,62 @@ told-good f n g =
 
 module _ (f k : List ℕ) where
   -- the check refuses
-  pub refused-frame : (n : ℕ) → CheckPromise edition1 f n → (n ≡ 0 → ⊥) → LookUpPromise edition1 f k (notFound n)
+  pub refused-frame : (n : ℕ) → CheckPromise edition1 f n → (n ≡ 0 → ⊥) → LookUpPromise edition1 f k (notFound n 0)
   refused-frame n p ne =
       record {
         told = p .told;
         zeros = λ z. (refl, refl);
+        unvisited = λ z y. refl;
         found = λ s w. absurd (ne (p .good0 (s, w)));
         value = λ s w e. absurd (ne (p .good0 (s, w)));
       }
 
   -- the key is refused
-  pub refused-key : Good edition1 f → (edition1 .keyFault k ≡ 0 → ⊥) → LookUpPromise edition1 f k (notFound (edition1 .keyFault k))
+  pub refused-key : Good edition1 f → (edition1 .keyFault k ≡ 0 → ⊥) → LookUpPromise edition1 f k (notFound (edition1 .keyFault k) 0)
   refused-key g ne =
       record {
         told = told-good f (edition1 .keyFault k) g;
         zeros = λ z. (refl, refl);
-        found = λ s w. key-found (w .root) (edition1 .keyFault k) (findAt edition1 (w .root) k) ne;
+        unvisited = λ z y. refl;
+        found = λ s w. key-found (edition1 .keyFault k) (findAt edition1 (w .root) k) (visitsIn edition1 (rootArt (w .root)) k) ne;
         value = λ s w e. absurd (ne e);
       }
     where
-      key-found : (r : Root) (n : ℕ) (p : Option Part) → (n ≡ 0 → ⊥) → notFound n ≡ pick (eqb n 0) (foundOf p) (notFound n)
-      key-found r n p z = rw (ne-eqb n 0 z)
+      key-found : (n : ℕ) (p : Option Part) (v : ℕ) → (n ≡ 0 → ⊥) → notFound n 0 ≡ pick (eqb n 0) (foundOf p v) (notFound n 0)
+      key-found n p v z = rw (ne-eqb n 0 z)
 
-  -- the key's part is p
-  pub found-part : (p : Option Part) → Good edition1 f → edition1 .keyFault k ≡ 0 → ((s : State) (w : Stands edition1 f s) → p ≡ findAt edition1 (w .root) k)
-      → ((s : State) → Stands edition1 f s → findIn edition1 (s .tree) k ≡ valueIn f p) → LookUpPromise edition1 f k (foundOf p)
-  found-part p g e at v =
+  -- the key's part is p, and v slots are on its path
+  pub found-part : (p : Option Part) (v : ℕ) → Good edition1 f → edition1 .keyFault k ≡ 0
+      → ((s : State) (w : Stands edition1 f s) → (p ≡ findAt edition1 (w .root) k) × (v ≡ visitsIn edition1 (rootArt (w .root)) k))
+      → ((s : State) → Stands edition1 f s → findIn edition1 (s .tree) k ≡ valueIn f p) → LookUpPromise edition1 f k (foundOf p v)
+  found-part p v g e at h =
       record {
-        told = told-good f (foundOf p .number) g;
+        told = told-good f (foundOf p v .number) g;
         zeros = λ z. both-zero p z;
-        found = λ s w. legal-found (edition1 .keyFault k) p (findAt edition1 (w .root) k) e (at s w);
-        value = λ s w q. v s w ∙ in-part p;
+        unvisited = λ z y. answered p z y;
+        found = λ s w. legal-found (edition1 .keyFault k) p (findAt edition1 (w .root) k) (visitsIn edition1 (rootArt (w .root)) k) e (at s w .0) (at s w .1);
+        value = λ s w q. h s w ∙ in-part p;
       }
     where
-      both-zero : (p : Option Part) → (foundOf p .number ≡ 0 → ⊥) → (foundOf p .place ≡ 0) × (foundOf p .long ≡ 0)
+      both-zero : (p : Option Part) → (foundOf p v .number ≡ 0 → ⊥) → (foundOf p v .place ≡ 0) × (foundOf p v .long ≡ 0)
       both-zero none z = (refl, refl)
       both-zero (some p) z = absurd (z refl)
 
-      legal-found : (n : ℕ) (p q : Option Part) → n ≡ 0 → p ≡ q → foundOf p ≡ pick (eqb n 0) (foundOf q) (notFound n)
-      legal-found n p q z y = rw (eq-eqb n 0 z) (ap foundOf y)
+      answered : {A : Type 0} (p : Option Part) → (foundOf p v .number ≡ 0 → ⊥) → (foundOf p v .number ≡ 8 → ⊥) → A
+      answered none z y = absurd (y refl)
+      answered (some p) z y = absurd (z refl)
 
-      in-part : (p : Option Part) → valueIn f p ≡ pick (eqb (foundOf p .number) 0) (some (take (foundOf p .long) (drop (foundOf p .place) f))) none
+      legal-found : (n : ℕ) (p q : Option Part) (u : ℕ) → n ≡ 0 → p ≡ q → v ≡ u → foundOf p v ≡ pick (eqb n 0) (foundOf q u) (notFound n 0)
+      legal-found n p q u z y x = rw (eq-eqb n 0 z) (ap (λ (o : Option Part). foundOf o v) y ∙ ap (foundOf q) x)
+
+      in-part : (p : Option Part) → valueIn f p ≡ pick (eqb (foundOf p v .number) 0) (some (take (foundOf p v .long) (drop (foundOf p v .place) f))) none
       in-part none = refl
       in-part (some p) = refl
 
   -- looked up
-  pub looked-up : (v : Held) → Good edition1 f → edition1 .keyFault k ≡ 0 → ((s : State) (w : Stands edition1 f s) → Looked f k s (w .root) v) → LookUpPromise edition1 f k (foundOf (partOf v))
-  looked-up v g e h = found-part (partOf v) g e (λ s w. h s w .at) (λ s w. h s w .value)
+  pub looked-up : (v : Held) → Good edition1 f → edition1 .keyFault k ≡ 0 → ((s : State) (w : Stands edition1 f s) → Looked f k s (w .root) v)
+      → LookUpPromise edition1 f k (foundOf (partOf v) (v .slots))
+  looked-up v g e h = found-part (partOf v) (v .slots) g e (λ s w. (h s w .at, h s w .visited)) (λ s w. h s w .value)
 
 -- the numbers that the check and a key can give besides 0
 pub check-two : (f : List ℕ) (n : ℕ) → CheckPromise edition1 f n → (n ≡ 0 → ⊥) → (n ≡ 1 → ⊥) → n ≡ 2
@@ -101,10 +111,10 @@ key-four k a b = four (eqb (length k) 0) (ltb 112 (length k)) (hasZero k) a b
 -- ---- the ends, by the tests that led there: n is the check's number, e the key's fault
 
 module _ (f k : List ℕ) (n : ℕ) (given : CheckPromise edition1 f n) where
-  pub end-one : n ≡ 1 → LookUpPromise edition1 f k (notFound 1)
+  pub end-one : n ≡ 1 → LookUpPromise edition1 f k (notFound 1 0)
   end-one e = refused-frame f k 1 (rw e at given) (λ z. omega arith)
 
-  pub end-two : (n ≡ 0 → ⊥) → (n ≡ 1 → ⊥) → LookUpPromise edition1 f k (notFound 2)
+  pub end-two : (n ≡ 0 → ⊥) → (n ≡ 1 → ⊥) → LookUpPromise edition1 f k (notFound 2 0)
   end-two a b = let e = check-two f n given a b in refused-frame f k 2 (rw e at given) (λ z. omega arith)
 
   good : n ≡ 0 → Good edition1 f
@@ -113,20 +123,20 @@ module _ (f k : List ℕ) (n : ℕ) (given : CheckPromise edition1 f n) where
   pub standing : n ≡ 0 → Standing f
   standing e = let g = good e in record { st = g .0; stands = g .1 }
 
-  pub end-three : n ≡ 0 → (e : ℕ) → e ≡ edition1 .keyFault k → e ≡ 3 → LookUpPromise edition1 f k (notFound 3)
+  pub end-three : n ≡ 0 → (e : ℕ) → e ≡ edition1 .keyFault k → e ≡ 3 → LookUpPromise edition1 f k (notFound 3 0)
   end-three z e q h = let x : edition1 .keyFault k ≡ 3 = sym q ∙ h in rw x at (refused-key f k (good z) (λ y. omega (arith, x, y)))
 
-  pub end-four : n ≡ 0 → (e : ℕ) → e ≡ edition1 .keyFault k → (e ≡ 3 → ⊥) → (e ≡ 0 → ⊥) → LookUpPromise edition1 f k (notFound 4)
+  pub end-four : n ≡ 0 → (e : ℕ) → e ≡ edition1 .keyFault k → (e ≡ 3 → ⊥) → (e ≡ 0 → ⊥) → LookUpPromise edition1 f k (notFound 4 0)
   end-four z e q a b =
       let b' : edition1 .keyFault k ≡ 0 → ⊥ = λ y. b (q ∙ y) in
       let x = key-four k b' (λ y. a (q ∙ y)) in rw x at (refused-key f k (good z) b')
 
   pub end-found : n ≡ 0 → (e : ℕ) → e ≡ edition1 .keyFault k → e ≡ 0 → (v : Held) → ((s : State) (w : Stands edition1 f s) → Looked f k s (w .root) v) → v .found ≡ true
-      → LookUpPromise edition1 f k (record { number = 0; place = v .place; long = v .length })
+      → LookUpPromise edition1 f k (record { number = 0; place = v .place; long = v .length; slots = v .slots })
   end-found z e q h v L t = rw t at (looked-up f k v (good z) (sym q ∙ h) L)
 
   pub end-absent : n ≡ 0 → (e : ℕ) → e ≡ edition1 .keyFault k → e ≡ 0 → (v : Held) → ((s : State) (w : Stands edition1 f s) → Looked f k s (w .root) v) → v .found ≡ false
-      → LookUpPromise edition1 f k (notFound 8)
+      → LookUpPromise edition1 f k (notFound 8 (v .slots))
   end-absent z e q h v L t = rw t at (looked-up f k v (good z) (sym q ∙ h) L)
 
   -- ---- the value as a part
@@ -136,22 +146,24 @@ module _ (f k : List ℕ) (n : ℕ) (given : CheckPromise edition1 f n) where
     from-start = ap (λ (n : ℕ). (start .0, n)) (omega arith)
 
     pub value-refused : (n ≡ 0 → ⊥) → ValueAt f k start start []
-    value-refused ne = record { at = 0; stands = from-start; promise = record { look = notFound n; looked = refused-frame f k n given ne; starts = refl; holds = refl } }
+    value-refused ne = record { at = 0; stands = from-start; promise = record { look = notFound n 0; looked = refused-frame f k n given ne; starts = refl; holds = refl } }
 
     pub value-illegal : n ≡ 0 → (e : ℕ) → e ≡ edition1 .keyFault k → (e ≡ 0 → ⊥) → ValueAt f k start start []
     value-illegal z e q ne =
-        record { at = 0; stands = from-start; promise = record { look = notFound (edition1 .keyFault k); looked = refused-key f k (good z) (λ y. ne (q ∙ y)); starts = refl; holds = refl } }
+        record { at = 0; stands = from-start; promise = record { look = notFound (edition1 .keyFault k) 0; looked = refused-key f k (good z) (λ y. ne (q ∙ y)); starts = refl; holds = refl } }
 
     pub value-told : {part : List ℕ} {here : ℕ × ℕ} → n ≡ 0 → (e : ℕ) → e ≡ edition1 .keyFault k → e ≡ 0
-        → ((s : State) (w : Stands edition1 f s) → Handed f start (foundOf (findAt edition1 (w .root) k)) here part) → ValueAt f k start here part
+        → ((s : State) (w : Stands edition1 f s) → Handed f start (foundOf (findAt edition1 (w .root) k) (visitsIn edition1 (rootArt (w .root)) k)) here part) → ValueAt f k start here part
     value-told z e q h v =
-        let g = good z in let p = findAt edition1 (g .1 .root) k in let H = v (g .0) (g .1) in
+        let g = good z in let p = findAt edition1 (g .1 .root) k in let u = visitsIn edition1 (rootArt (g .1 .root)) k in let H = v (g .0) (g .1) in
         record {
-          at = foundOf p .place;
+          at = foundOf p u .place;
           stands = H .stands;
           promise = record {
-            look = foundOf p;
-            looked = found-part f k p g (sym q ∙ h) (λ s w. ap (λ (r : Root). findAt edition1 r k) (root-unique edition1 f (g .0) s (g .1) w)) (λ s w. ap (λ (x : State). findIn edition1 (x .tree) k) (stands-unique edition1 f s (g .0) w (g .1)) ∙ value-stands k (g .1));
+            look = foundOf p u;
+            looked = found-part f k p u g (sym q ∙ h)
+                (λ s w. let r = root-unique edition1 f (g .0) s (g .1) w in (ap (λ (x : Root). findAt edition1 x k) r, ap (λ (x : Root). visitsIn edition1 (rootArt x) k) r))
+                (λ s w. ap (λ (x : State). findIn edition1 (x .tree) k) (stands-unique edition1 f s (g .0) w (g .1)) ∙ value-stands k (g .1));
             starts = refl;
             holds = H .bytes;
           };

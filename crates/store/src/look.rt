@@ -1,12 +1,11 @@
-// The check, and look-up: the number with the value's place and length, or the value itself as a part of the lent frame.
+// The check, and look-up: the number with the value's place and length and the slots visited, or the value itself as a part of the lent frame.
 use answers::Check;
 use answers::LookUp;
 use answers::Refusal;
 use descent::key;
 use descent::lookup;
-ghost use mathlib.Core.Path.{_≡_};
 ghost use denote.Ref.{ptr};
-ghost use Rattle.answers.specs.Number.{checkNumber, lookUpPlace, lookUpLong};
+ghost use Rattle.answers.specs.Number.{checkNumber};
 ghost use Rattle.model.specs.Edition.{edition1};
 ghost use Rattle.model.specs.Promise.{CheckPromise, LookUpPromise};
 ghost use Rattle.store.specs.Found.{foundIn, ValueAt};
@@ -43,9 +42,9 @@ pub fn look_up(frame: &[u8], key: &[u8]) -> LookUp
     }
     let v = lookup::find(frame, key);
     if v.found {
-        return LookUp::Found(v.place, v.length);
+        return LookUp::Found(v.place, v.length, v.slots);
     }
-    LookUp::Absent
+    LookUp::Absent(v.slots)
 }
 
 // "a second look-up call hands back the value itself as that part of the lent frame, and for an absent key or a refusal an empty
@@ -62,25 +61,4 @@ pub fn value<'a>(frame: &'a [u8], key: &[u8]) -> &'a [u8]
         return &frame[..0];
     }
     lookup::value(frame, key)
-}
-
-// The value's place and length that an answer tells, "both 0 with any number but 0".
-pub fn place_of(a: LookUp) -> usize
-    ensures { λ r. ⌜ r ≡ lookUpPlace a ⌝ }
-{
-    match a {
-        LookUp::Found(place, _) => place,
-        LookUp::Absent => 0,
-        LookUp::Refused(_) => 0,
-    }
-}
-
-pub fn length_of(a: LookUp) -> usize
-    ensures { λ r. ⌜ r ≡ lookUpLong a ⌝ }
-{
-    match a {
-        LookUp::Found(_, length) => length,
-        LookUp::Absent => 0,
-        LookUp::Refused(_) => 0,
-    }
 }
