@@ -2,17 +2,19 @@
 use Prim.Native.Nat.{ℕ, suc}
 use mathlib.Core.Path.{_≡_, refl, sym, ap, _∙_}
 use mathlib.Core.List.{List, [], _∷_}
+use mathlib.Core.Bool.{true, false}
 use native.Mathlib.Omega.{arith}
 use lib.ListN.{length, set}
 use Rattle.answers.specs.declared.Counts.{Counts}
 use Rattle.answers.specs.declared.Info.{Info}
 use Rattle.answers.specs.declared.Info.the-variants as info
 use Rattle.answers.specs.declared.Refusal as refusal
-use Rattle.answers.specs.declared.Refusal.the-variants as why
 use Rattle.answers.specs.Number.{refusalNumber, infoNumber, counted, infoTold}
+use Rattle.model.proofs.StringLaws.{clash}
 use Rattle.demands.specs.Words.{Refusal}
 use Rattle.store.specs.Info.{InfoPromise}
 use Rattle.frame_store.specs.Info.{Informed}
+use Rattle.frame_store.proofs.LookUpLaws.{is-refusal}
 
 -- numbers written one after the other, from place i on
 abbrev written : List ℕ → ℕ → List ℕ → List ℕ
@@ -29,15 +31,6 @@ written-all [] [] e = refl
 written-all [] (v ∷ vs) e = absurd (omega arith)
 written-all (x ∷ o) [] e = absurd (omega arith)
 written-all (x ∷ o) (v ∷ vs) e = written-under v o 0 vs ∙ ap (λ l. v ∷ l) (written-all o vs (omega arith))
-
-is-refusal : (r : refusal.Refusal) → Refusal (refusalNumber r)
-is-refusal why.Length = (omega arith, omega arith)
-is-refusal why.Frame = (omega arith, omega arith)
-is-refusal why.KeyLength = (omega arith, omega arith)
-is-refusal why.KeyZero = (omega arith, omega arith)
-is-refusal why.ValueLength = (omega arith, omega arith)
-is-refusal why.Output = (omega arith, omega arith)
-is-refusal why.Room = (omega arith, omega arith)
 
 module _ (told : Info) {f : List ℕ} {n : ℕ} (P : InfoPromise f (infoNumber told) (infoTold told)) (number : n ≡ infoNumber told) where
   promise : InfoPromise f n (infoTold told)
@@ -60,5 +53,5 @@ module _ (told : Info) {f : List ℕ} {n : ℕ} (P : InfoPromise f (infoNumber t
         promise = promise;
         fourteen = λ k z. written-all o (counted c) l ∙ sym (ap infoTold e);
         other = λ k. absurd (k l);
-        refused = λ z. absurd (omega (arith, z));
+        refused = λ z. let y : false ≡ true = rw good at z in clash (cc);
       }

@@ -1,28 +1,62 @@
--- The two numbers of the exported look-up. Assumes nothing.
+-- The exported look-up: its three numbers, or none if it is refused. Assumes nothing.
 use Prim.Native.Nat.{ℕ}
-use mathlib.Core.Path.{_≡_, refl, _∙_}
+use mathlib.Core.Path.{_≡_, refl, ap, _∙_}
 use mathlib.Core.List.{List, [], _∷_}
+use mathlib.Core.Bool.{true, false}
 use native.Mathlib.Omega.{arith}
 use lib.ListN.{length, set}
 use Rattle.answers.specs.declared.LookUp.{LookUp}
-use Rattle.answers.specs.Number.{lookUpNumber, lookUpPlace, lookUpLong}
+use Rattle.answers.specs.declared.LookUp.the-variants as look
+use Rattle.answers.specs.declared.Refusal as refusal
+use Rattle.answers.specs.declared.Refusal.the-variants as why
+use Rattle.answers.specs.Number.{refusalNumber, lookUpNumber}
 use Rattle.model.specs.Edition.{edition1}
 use Rattle.model.specs.Promise.{LookUpPromise}
-use Rattle.demands.specs.Words.{NotRefused}
+use Rattle.model.proofs.StringLaws.{clash}
+use Rattle.demands.specs.Words.{Refusal}
 use Rattle.store.specs.Found.{foundIn}
+use Rattle.frame_store.specs.Tells.{Tells}
 use Rattle.frame_store.specs.LookUp.{LookedUp}
 
--- a list of two, set at both places
-set-two : (o : List ℕ) (a b : ℕ) → length o ≡ 2 → set (set o 0 a) 1 b ≡ a ∷ b ∷ []
-set-two [] a b e = absurd (omega arith)
-set-two (x ∷ []) a b e = absurd (omega arith)
-set-two (x ∷ (y ∷ [])) a b e = refl
-set-two (x ∷ (y ∷ (z ∷ zs))) a b e = absurd (omega arith)
+-- ---- three numbers
 
-pub both : (f k o : List ℕ) (n p : ℕ) {l : ℕ} (r : LookUp) → LookUpPromise edition1 f k (foundIn r) → n ≡ lookUpNumber r → NotRefused n → p ≡ lookUpPlace r → l ≡ lookUpLong r → length o ≡ 2
-    → LookedUp f k o n (set (set o 0 p) 1 l)
-both f k o n p {l} r P a d b c e =
-    record { found = foundIn r; promise = P; number = a; two = λ z y. set-two o p l e ∙ rw (b, c); other = λ z. absurd (z e); refused = λ z. absurd (d z) }
+-- a list of three, set at all places
+set-three : (o : List ℕ) (a b c : ℕ) → length o ≡ 3 → set (set (set o 0 a) 1 b) 2 c ≡ a ∷ b ∷ c ∷ []
+set-three [] a b c e = absurd (omega arith)
+set-three (x ∷ []) a b c e = absurd (omega arith)
+set-three (x ∷ (y ∷ [])) a b c e = absurd (omega arith)
+set-three (x ∷ (y ∷ (z ∷ []))) a b c e = refl
+set-three (x ∷ (y ∷ (z ∷ (t ∷ ts)))) a b c e = absurd (omega arith)
 
-pub neither : (f k o : List ℕ) (n : ℕ) (r : LookUp) → LookUpPromise edition1 f k (foundIn r) → n ≡ lookUpNumber r → (length o ≡ 2 → NotRefused n → ⊥) → LookedUp f k o n o
-neither f k o n r P a z = record { found = foundIn r; promise = P; number = a; two = λ e y. absurd (z e y); other = λ e. refl; refused = λ e. refl }
+pub three-told : (o : List ℕ) (a b c : ℕ) → length o ≡ 3 → Tells o (a ∷ b ∷ c ∷ []) (set (set (set o 0 a) 1 b) 2 c)
+three-told o a b c e = record { written = λ z. set-three o a b c e; other = λ z. absurd (z e) }
+
+pub none-told : (o : List ℕ) (a b c : ℕ) → (length o ≡ 3 → ⊥) → Tells o (a ∷ b ∷ c ∷ []) o
+none-told o a b c n = record { written = λ z. absurd (n z); other = λ z. refl }
+
+-- ---- the answers
+
+pub is-refusal : (r : refusal.Refusal) → Refusal (refusalNumber r)
+is-refusal why.Length = refl
+is-refusal why.Frame = refl
+is-refusal why.KeyLength = refl
+is-refusal why.KeyZero = refl
+is-refusal why.ValueLength = refl
+is-refusal why.Output = refl
+is-refusal why.Room = refl
+is-refusal why.Buffer = refl
+
+module _ (told : LookUp) {f k : List ℕ} {n : ℕ} (P : LookUpPromise edition1 f k (foundIn told)) (number : n ≡ lookUpNumber told) where
+  pub found-told : {o o' : List ℕ} (p l v : ℕ) → told ≡ look.Found p l v → Tells o (p ∷ l ∷ v ∷ []) o' → LookedUp f k o n o'
+  found-told p l v e T =
+      record { found = foundIn told; promise = P; number = number; told = λ z. rw e T; refused = λ z. let x : n ≡ 0 = number ∙ ap lookUpNumber e in let y : false ≡ true = rw x at z in clash (cc) }
+
+  pub absent-told : {o o' : List ℕ} (v : ℕ) → told ≡ look.Absent v → Tells o (0 ∷ 0 ∷ v ∷ []) o' → LookedUp f k o n o'
+  absent-told v e T =
+      record { found = foundIn told; promise = P; number = number; told = λ z. rw e T; refused = λ z. let x : n ≡ 8 = number ∙ ap lookUpNumber e in let y : false ≡ true = rw x at z in clash (cc) }
+
+  pub refused-told : {o : List ℕ} (r : refusal.Refusal) → told ≡ look.Refused r → LookedUp f k o n o
+  refused-told r e =
+      let x : n ≡ refusalNumber r = number ∙ ap lookUpNumber e in
+      let bad : Refusal n = rw x (is-refusal r) in
+      record { found = foundIn told; promise = P; number = number; told = λ z. absurd (z bad); refused = λ z. refl }

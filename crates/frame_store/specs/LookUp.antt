@@ -1,18 +1,17 @@
--- What the exported look-up promises: the number, and the two numbers of an answer where there is room for just two.
+-- What the exported look-up promises: the number, and place, length and the slots visited where there is room for just three.
 use Prim.Native.Nat.{ℕ}
 use mathlib.Core.Path.{_≡_}
 use mathlib.Core.List.{List, [], _∷_}
-use lib.ListN.{length}
 use Rattle.model.specs.Edition.{edition1}
 use Rattle.model.specs.Promise.{Found, LookUpPromise}
 use Rattle.demands.specs.Words.{Refusal, NotRefused}
+use Rattle.frame_store.specs.Tells.{Tells}
 
 pub record LookedUp (f k o : List ℕ) (n : ℕ) (o' : List ℕ) : Type 0 where
   pub found : Found
   pub promise : LookUpPromise edition1 f k found
   pub number : n ≡ found .number
-  -- 0 or 8: place and length are told
-  pub two : length o ≡ 2 → NotRefused n → o' ≡ found .place ∷ found .long ∷ []
-  pub other : (length o ≡ 2 → ⊥) → o' ≡ o
+  -- 0 or 8
+  pub told : NotRefused n → Tells o (found .place ∷ found .long ∷ found .slots ∷ []) o'
   -- "a refused call changes no byte of any lent buffer"
   pub refused : Refusal n → o' ≡ o

@@ -1,6 +1,7 @@
 // The calls for C and Rust: numbers and slices only. A slice passes as a pointer and a length.
 use answers;
 use answers::Info;
+use answers::LookUp;
 use pack;
 use store::erase;
 use store::format;
@@ -9,16 +10,14 @@ use store::look;
 use store::put;
 ghost use Rattle.model.specs.Edition.{edition1};
 ghost use Rattle.model.specs.Promise.{FormatPromise, CheckPromise, PutPromise, ErasePromise, PackPromise};
-ghost use Rattle.demands.specs.Words.{Refusal};
-ghost use Rattle.pieces.specs.Decides.{Decides};
+ghost use mathlib.Core.List.{[], _∷_};
+ghost use Rattle.frame_store.specs.Tells.{Tells};
 ghost use Rattle.frame_store.specs.LookUp.{LookedUp};
 ghost use Rattle.frame_store.specs.Info.{Informed};
 
-const FIRST_REFUSAL: u32 = 1;
+// as many numbers as look-up tells, and as info does
+const FOUND: usize = 3;
 
-const LAST_REFUSAL: u32 = 7;
-
-// as many numbers as info tells
 const COUNTS: usize = 14;
 
 #[no_mangle]
@@ -35,33 +34,35 @@ pub extern "C" fn frame_check(frame: &[u8]) -> u32
     answers::check_number(look::check(frame))
 }
 
-// "1 to 7 are refusals; 0, 8 and 9 are not."
-fn is_refusal(n: u32) -> bool
-    ensures { λ r. ⌜ Decides (Refusal n) r ⌝ }
+// The three numbers, where there is room for just three.
+fn tell(found: &mut [u64], place: usize, length: usize, slots: usize)
+    ensures { λ r. ⌜ Tells (now (found .entry)) (place ∷ length ∷ slots ∷ []) (now (found .exit)) ⌝ }
 {
-    if n < FIRST_REFUSAL {
-        return false;
+    if found.len() == FOUND {
+        found[0] = place as u64;
+        found[1] = length as u64;
+        found[2] = slots as u64;
     }
-    n <= LAST_REFUSAL
 }
 
-// Place and length go into the two numbers if there are two and the call is not refused, and nothing otherwise.
+// Place, length and slots visited go into the three numbers if there are three and the call is not refused, and nothing otherwise.
 #[no_mangle]
-pub extern "C" fn frame_look_up(frame: &[u8], key: &[u8], place_and_length: &mut [u64]) -> u32
-    ensures { λ n. ⌜ LookedUp (now (frame .entry)) (now (key .entry)) (now («place_and_length» .entry)) n (now («place_and_length» .exit)) ⌝ }
+pub extern "C" fn frame_look_up(frame: &[u8], key: &[u8], found: &mut [u64]) -> u32
+    ensures { λ n. ⌜ LookedUp (now (frame .entry)) (now (key .entry)) (now (found .entry)) n (now (found .exit)) ⌝ }
 {
-    let found = look::look_up(frame, key);
-    let n = answers::look_up_number(found);
-    if is_refusal(n) {
-        return n;
+    let told = look::look_up(frame, key);
+    let n = answers::look_up_number(told);
+    match told {
+        LookUp::Found(place, length, slots) => {
+            tell(found, place, length, slots);
+            n
+        }
+        LookUp::Absent(slots) => {
+            tell(found, 0, 0, slots);
+            n
+        }
+        LookUp::Refused(_) => n,
     }
-    if place_and_length.len() == 2 {
-        let place = look::place_of(found);
-        let length = look::length_of(found);
-        place_and_length[0] = place as u64;
-        place_and_length[1] = length as u64;
-    }
-    n
 }
 
 #[no_mangle]
