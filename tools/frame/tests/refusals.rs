@@ -88,9 +88,12 @@ fn files_of_any_kind_get_a_message() {
     folder.write("flash", vec![255; 4096]);
     let whole = folder.read("i");
     folder.write("cut", &whole[..1016]);
-    for file in
-        ["empty", "text", "long", "blank", "flash", "cut", "/dev/null", "/dev/zero", ".", "none"]
-    {
+    const EDITION: usize = 0;
+    let mut edition_2 = whole.clone();
+    edition_2[EDITION] = 2;
+    folder.write("edition", edition_2);
+    let ours = ["empty", "text", "long", "blank", "flash", "cut", "edition", "none"];
+    for file in ours.into_iter().chain(["/dev/null", "/dev/zero", "."]) {
         for words in [
             &["info", file][..],
             &["list", file],
