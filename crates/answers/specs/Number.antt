@@ -12,6 +12,10 @@ use Rattle.answers.specs.declared.LookUp.{LookUp}
 use Rattle.answers.specs.declared.LookUp.the-variants as look
 use Rattle.answers.specs.declared.Put.{Put}
 use Rattle.answers.specs.declared.Put.the-variants as put
+use Rattle.answers.specs.declared.Replace.{Replace}
+use Rattle.answers.specs.declared.Replace.the-variants as replace
+use Rattle.answers.specs.declared.PutOrReplace.{PutOrReplace}
+use Rattle.answers.specs.declared.PutOrReplace.the-variants as either
 use Rattle.answers.specs.declared.Erase.{Erase}
 use Rattle.answers.specs.declared.Erase.the-variants as erase
 use Rattle.answers.specs.declared.Pack.{Pack}
@@ -64,8 +68,18 @@ lookUpSlots (look.Refused r) = 0
 
 abbrev pub putNumber : Put → ℕ
 putNumber put.New = 0
-putNumber put.Replaced = 9
+putNumber put.Present = 11
 putNumber (put.Refused r) = refusalNumber r
+
+abbrev pub replaceNumber : Replace → ℕ
+replaceNumber replace.Done = 9
+replaceNumber replace.Absent = 8
+replaceNumber (replace.Refused r) = refusalNumber r
+
+abbrev pub putOrReplaceNumber : PutOrReplace → ℕ
+putOrReplaceNumber either.New = 0
+putOrReplaceNumber either.Replaced = 9
+putOrReplaceNumber (either.Refused r) = refusalNumber r
 
 abbrev pub eraseNumber : Erase → ℕ
 eraseNumber erase.Done = 0

@@ -1,6 +1,6 @@
 // The answers of the public calls as enums by value, and document 01's number for each.
 ghost use mathlib.Core.Path.{_≡_};
-ghost use Rattle.answers.specs.Number.{refusalNumber, formatNumber, checkNumber, lookUpNumber, putNumber, eraseNumber, packNumber, infoNumber, listNumber};
+ghost use Rattle.answers.specs.Number.{refusalNumber, formatNumber, checkNumber, lookUpNumber, putNumber, replaceNumber, putOrReplaceNumber, eraseNumber, packNumber, infoNumber, listNumber};
 
 // "1 to 7 are refusals"
 pub enum Refusal {
@@ -41,6 +41,20 @@ pub enum LookUp {
 }
 
 pub enum Put {
+    New,
+    // the key is there, and nothing was changed
+    Present,
+    Refused(Refusal),
+}
+
+pub enum Replace {
+    Done,
+    Absent,
+    Refused(Refusal),
+}
+
+// Of those who ask for a new record as well as for replacement.
+pub enum PutOrReplace {
     New,
     Replaced,
     Refused(Refusal),
@@ -141,8 +155,28 @@ pub fn put_number(a: Put) -> u32
 {
     match a {
         Put::New => 0,
-        Put::Replaced => 9,
+        Put::Present => 11,
         Put::Refused(r) => refusal_number(r),
+    }
+}
+
+pub fn replace_number(a: Replace) -> u32
+    ensures { λ n. ⌜ n ≡ replaceNumber a ⌝ }
+{
+    match a {
+        Replace::Done => 9,
+        Replace::Absent => 8,
+        Replace::Refused(r) => refusal_number(r),
+    }
+}
+
+pub fn put_or_replace_number(a: PutOrReplace) -> u32
+    ensures { λ n. ⌜ n ≡ putOrReplaceNumber a ⌝ }
+{
+    match a {
+        PutOrReplace::New => 0,
+        PutOrReplace::Replaced => 9,
+        PutOrReplace::Refused(r) => refusal_number(r),
     }
 }
 

@@ -1,4 +1,4 @@
--- The edit that a spot calls for, and the put's three ends: no room, the key was there, the key is new. Assumes nothing.
+-- The edit that a spot calls for, and the ends of a put, a replacement and either: nothing to do, no room, or done. Assumes nothing.
 use Prim.Native.Nat.{ℕ, _+_, _<_, _≤_}
 use mathlib.Core.Path.{_≡_, refl, sym, ap, subst, _∙_}
 use mathlib.Core.List.{List}
@@ -8,11 +8,16 @@ use lib.ListN.{length}
 use Rattle.layout.specs.Kind.{most}
 use Rattle.model.specs.Strings.{pick}
 use Rattle.model.specs.Edition.{Edition, edition1}
-use Rattle.model.specs.State.{State, Done, done, putChange, room, callPut}
+use Rattle.model.specs.State.{State, Done, done, findIn, putChange, room, callPut, Write, new, replacing, either, callWrite}
+use Rattle.model.specs.Records.{absent}
 use Rattle.model.specs.Body.{InnerAt}
 use Rattle.model.specs.Frame.{Lay, pairs, Tree, Stands}
 use Rattle.model.specs.Promise.{changes}
 use Rattle.model.proofs.StringLaws.{clash}
+use Rattle.model.proofs.Edition1.{lawful1}
+use Rattle.model.proofs.PutLaws.{put-in-ok}
+use Rattle.model.proofs.StateLaws.{find-good}
+use Rattle.model.proofs.StandsGood.{stands-good}
 use Rattle.room.specs.declared.fit.Room.{Room}
 use Rattle.room.specs.declared.fit.Needs.{Needs}
 use Rattle.room.specs.Fit.{Fit, Small, RoomOf}
@@ -29,8 +34,11 @@ use Rattle.put_split.specs.Split.{AtOther}
 use Rattle.put_cut.specs.Cut.{AtPart}
 use Rattle.plan.specs.Plan.{PutFrom, PutPlan}
 use Rattle.plan.proofs.PutLaws.{node-room, last-end}
-use Rattle.put_core.specs.Core.{Asked, PutSpot, AtNode, Left, PutMade}
+use Rattle.put_core.specs.Core.{AtSpot, PutSpot, AtNode, Written, Left, WriteMade}
 use Rattle.put_core.proofs.ChangeLaws.{light-found, light-absent, light-small-any}
+
+differ : _≡_ {A = Bool} false true → ⊥
+differ z = clash (cc)
 
 -- ---- what each edit counts on
 
@@ -79,57 +87,108 @@ module _ {f k v : List ℕ} {p : Spot} (A : AtNode f k v p) where
     pub node-full : (n < m → ⊥) → Full f k v p
     node-full l = record { put = put-at (A .put) inside; missing = inside .spot .missing (A .ends); full = omega (arith, count (p .here .kind) _ inner-at) }
 
--- ---- the put
+-- ---- the write
 
-differ : _≡_ {A = Bool} false true → ⊥
-differ z = clash (cc)
+module _ {f k v : List ℕ} {p : Spot} (A : AtSpot f k v p) where
+  abbrev S : (s : State) (w : Stands edition1 f s) → SpotAt k (w .root) p
+  S = A .spot
 
--- a refusal leaves the frame and its state
-pub left-same : {f : List ℕ} (k v : List ℕ) (n : ℕ) {s : State} (w : Stands edition1 f s) {d : Done} → changes n ≡ false → d ≡ done n s → Left f k v n f s w d
-left-same {f} k v n {s} w z e = subst (Left f k v n f s w) (sym e) (w, λ t. absurd (differ (sym z ∙ t)))
-
--- the two numbers of a put that is done
-done-changes : (new : Bool) → changes (pick new 0 9) ≡ true
-done-changes true = refl
-done-changes false = refl
-
-module _ {f k v : List ℕ} (A : Asked f k v) {p : Spot} (S : (s : State) (w : Stands edition1 f s) → SpotAt k (w .root) p) where
   pub plans : PutFrom f k v p
-  plans = record { st = A .st; stands = A .stands; spot = S (A .st) (A .stands); key = A .legal; value = A .legalValue }
+  plans = let a = A .asked in record { st = a .st; stands = a .stands; spot = S (a .st) (a .stands); key = a .legal; value = a .legalValue }
 
   module _ {n : Needs} (N : PutPlan f k v p n) where
     pub small : Small n
-    small = light-small-any v (A .stands) (S (A .st) (A .stands)) (N (A .st) (A .stands) (S (A .st) (A .stands))) (A .legal) (A .legalValue)
+    small = let a = A .asked in light-small-any v (a .stands) (S (a .st) (a .stands)) (N (a .st) (a .stands) (S (a .st) (a .stands))) (a .legal) (a .legalValue)
 
     module _ {r : Room} (R : (E : Edition) (s : State) → Stands E f s → RoomOf r s n) {b : Bool} (F : (b ≡ true → Fit r n) × (Fit r n → b ≡ true)) where
       room-any : (s : State) (w : Stands edition1 f s) → b ≡ room s (putChange edition1 s k v)
       room-any s w = fits-room (putChange edition1 s k v) (N s w (S s w)) (R edition1 s w) F
 
-      pub no-room : b ≡ false → PutMade f k v 6 f
-      no-room e =
-          let is : (s : State) → Stands edition1 f s → callPut edition1 s k v ≡ done 6 s = λ s w. rw (sym (room-any s w) ∙ e) refl in
-          record {
-            answer = λ s w. sym (ap (λ (d : Done). d .answer) (is s w));
-            after = λ s w. left-same k v 6 w refl (is s w);
-            kept = λ z. refl;
-          }
-
       pub spotted : b ≡ true → PutSpot f k v p
-      spotted e = record { ready = record { st = A .st; stands = A .stands; legal = A .legal; legalValue = A .legalValue; room = sym (room-any (A .st) (A .stands)) ∙ e }; spot = S (A .st) (A .stands) }
+      spotted e = let a = A .asked in
+          record { ready = record { st = a .st; stands = a .stands; legal = a .legal; legalValue = a .legalValue; room = sym (room-any (a .st) (a .stands)) ∙ e }; spot = S (a .st) (a .stands) }
 
-      answer-is : (s : State) → Stands edition1 f s → b ≡ true → callPut edition1 s k v .answer ≡ pick (putChange edition1 s k v .fresh) 0 9
-      answer-is s w e = rw (sym (room-any s w) ∙ e) refl
+      pub no-room : b ≡ false → Written f k v false f
+      no-room e = record { room = λ s w. sym e ∙ room-any s w; done = λ z. absurd (differ z); kept = λ z. refl }
 
-      written : {f' : List ℕ} (new : Bool) → ((s : State) (w : Stands edition1 f s) → putChange edition1 s k v .fresh ≡ new) → b ≡ true → PutStep f k v f' → PutMade f k v (pick new 0 9) f'
-      written new fresh e T =
-          record {
-            answer = λ s w. sym (answer-is s w e ∙ ap (λ x. pick x 0 9) (fresh s w));
-            after = λ s w. (T .after s w .0, λ z. T .after s w .1);
-            kept = λ z. absurd (differ (sym z ∙ done-changes new));
-          }
+      pub there-was : {f' : List ℕ} → b ≡ true → PutStep f k v f' → Written f k v true f'
+      there-was e T = record { room = λ s w. sym e ∙ room-any s w; done = λ z. T; kept = λ z. absurd (differ (sym z)) }
 
-      pub was-there : {f' : List ℕ} → b ≡ true → PutStep f k v f' → p .end ≡ 2 → PutMade f k v 9 f'
-      was-there e T h = written false (λ s w. light-found v w (S s w) h .fresh) e T
+-- ---- put, replacement and either of them, where the descent ended at p
 
-      pub is-new : {f' : List ℕ} → b ≡ true → PutStep f k v f' → (p .end ≡ 2 → ⊥) → PutMade f k v 0 f'
-      is-new e T h = written true (λ s w. light-absent v w (S s w) (A .legal) h .fresh) e T
+-- a number that changes nothing leaves the frame and its state
+pub left-same : {f : List ℕ} (k v : List ℕ) (n : ℕ) {s : State} (w : Stands edition1 f s) {d : Done} → changes n ≡ false → d ≡ done n s → Left f k v n f s w d
+left-same {f} k v n {s} w z e = subst (Left f k v n f s w) (sym e) (w, λ t. absurd (differ (sym z ∙ t)))
+
+-- the two numbers of a put that is done
+done-changes : (fresh : Bool) → changes (pick fresh 0 9) ≡ true
+done-changes true = refl
+done-changes false = refl
+
+module _ {f k v : List ℕ} {p : Spot} (A : AtSpot f k v p) where
+  -- the key is there, or it is not
+  found : p .end ≡ 2 → (s : State) → Stands edition1 f s → putChange edition1 s k v .fresh ≡ false
+  found h s w = light-found v w (A .spot s w) h .fresh
+
+  missing : (p .end ≡ 2 → ⊥) → (s : State) → Stands edition1 f s → putChange edition1 s k v .fresh ≡ true
+  missing h s w = light-absent v w (A .spot s w) (A .asked .legal) h .fresh
+
+  absent-is : (s : State) → Stands edition1 f s → absent (findIn edition1 (s .tree) k) ≡ putChange edition1 s k v .fresh
+  absent-is s w =
+      let g = stands-good edition1 f s w in
+      ap absent (find-good lawful1 s k g (A .asked .legal)) ∙ sym (put-in-ok lawful1 (s .tree) k v (g .well) (A .asked .legal) (A .asked .legalValue) .new)
+
+  -- nothing is done
+  idle : (a : Write) (n : ℕ) → changes n ≡ false → ((s : State) → Stands edition1 f s → callWrite edition1 a s k v ≡ done n s) → WriteMade a f k v n f
+  idle a n z is = record { answer = λ s w. sym (ap (λ (d : Done). d .answer) (is s w)); after = λ s w. left-same k v n w z (is s w); kept = λ q. refl }
+
+  module _ {b : Bool} {f' : List ℕ} (W : Written f k v b f') where
+    full : b ≡ false → (a : Write) → ((s : State) → Stands edition1 f s → callWrite edition1 a s k v ≡ callPut edition1 s k v) → WriteMade a f k v 6 f'
+    full e a is = subst (WriteMade a f k v 6) (sym (W .kept e)) (idle a 6 refl (λ s w. is s w ∙ rw (sym (W .room s w) ∙ e) refl))
+
+    made : b ≡ true → (a : Write) → ((s : State) → Stands edition1 f s → callWrite edition1 a s k v ≡ callPut edition1 s k v) → (fresh : Bool) → ((s : State) → Stands edition1 f s → putChange edition1 s k v .fresh ≡ fresh)
+        → WriteMade a f k v (pick fresh 0 9) f'
+    made e a is fresh told =
+        record {
+          answer = λ s w. sym (ap (λ (d : Done). d .answer) (is s w) ∙ answer s w ∙ ap (λ x. pick x 0 9) (told s w));
+          after = λ s w. let T = W .done e .after s w in subst (Left f k v (pick fresh 0 9) f' s w) (sym (is s w)) (T .0, λ z. T .1);
+          kept = λ z. absurd (differ (sym z ∙ done-changes fresh));
+        }
+      where
+        answer : (s : State) → Stands edition1 f s → callPut edition1 s k v .answer ≡ pick (putChange edition1 s k v .fresh) 0 9
+        answer s w = rw (sym (W .room s w) ∙ e) refl
+
+    pub either-full : b ≡ false → WriteMade either f k v 6 f'
+    either-full e = full e either (λ s w. refl)
+
+    pub either-new : b ≡ true → (p .end ≡ 2 → ⊥) → WriteMade either f k v 0 f'
+    either-new e h = made e either (λ s w. refl) true (missing h)
+
+    pub either-there : b ≡ true → p .end ≡ 2 → WriteMade either f k v 9 f'
+    either-there e h = made e either (λ s w. refl) false (found h)
+
+    -- a put of an absent key is document 01's
+    as-new : (p .end ≡ 2 → ⊥) → (s : State) → Stands edition1 f s → callWrite edition1 new s k v ≡ callPut edition1 s k v
+    as-new h s w = rw (absent-is s w ∙ missing h s w) refl
+
+    pub new-full : b ≡ false → (p .end ≡ 2 → ⊥) → WriteMade new f k v 6 f'
+    new-full e h = full e new (as-new h)
+
+    pub new-made : b ≡ true → (p .end ≡ 2 → ⊥) → WriteMade new f k v 0 f'
+    new-made e h = made e new (as-new h) true (missing h)
+
+    -- and so is a replacement of a present one
+    as-there : p .end ≡ 2 → (s : State) → Stands edition1 f s → callWrite edition1 replacing s k v ≡ callPut edition1 s k v
+    as-there h s w = rw (absent-is s w ∙ found h s w) refl
+
+    pub there-full : b ≡ false → p .end ≡ 2 → WriteMade replacing f k v 6 f'
+    there-full e h = full e replacing (as-there h)
+
+    pub there-made : b ≡ true → p .end ≡ 2 → WriteMade replacing f k v 9 f'
+    there-made e h = made e replacing (as-there h) false (found h)
+
+  pub new-present : p .end ≡ 2 → WriteMade new f k v 11 f
+  new-present h = idle new 11 refl (λ s w. rw (absent-is s w ∙ found h s w) refl)
+
+  pub replace-absent : (p .end ≡ 2 → ⊥) → WriteMade replacing f k v 8 f
+  replace-absent h = idle replacing 8 refl (λ s w. rw (absent-is s w ∙ missing h s w) refl)

@@ -1,18 +1,19 @@
--- Put on a good frame: what it counts on, and what it leaves.
+-- Put, replacement and either of them on a good frame: what they count on, and what they leave.
 use Prim.Native.Nat.{ℕ}
 use mathlib.Core.Path.{_≡_}
 use mathlib.Core.List.{List, _++_}
-use mathlib.Core.Bool.{true, false}
+use mathlib.Core.Bool.{Bool, true, false}
 use lib.ListN.{length}
 use lib.Dec.{ltb}
 use Rattle.model.specs.Edition.{edition1, Legal, LegalValue}
-use Rattle.model.specs.State.{State, Done, putChange, callPut}
+use Rattle.model.specs.State.{State, Done, putChange, Write, callWrite}
+use Rattle.model.specs.State as state
 use Rattle.model.specs.Frame.{Stands}
 use Rattle.model.specs.Touch.{Outside, putTouch, findAt, extentAt}
 use Rattle.model.specs.Promise.{changes}
 use Rattle.descent.specs.declared.spot.Spot.{Spot}
 use Rattle.descent.specs.Spot.{SpotAt}
-use Rattle.leaf_new.specs.Put.{PutReady}
+use Rattle.leaf_new.specs.Put.{PutReady, PutStep}
 
 -- a good frame, and a legal key and value
 pub record Asked (f k v : List ℕ) : Type 0 where
@@ -20,6 +21,11 @@ pub record Asked (f k v : List ℕ) : Type 0 where
   pub stands : Stands edition1 f st
   pub legal : Legal edition1 k
   pub legalValue : LegalValue v
+
+-- and the descent of the key ended at p
+pub record AtSpot (f k v : List ℕ) (p : Spot) : Type 0 where
+  pub asked : Asked f k v
+  pub spot : (s : State) (w : Stands edition1 f s) → SpotAt k (w .root) p
 
 -- there is room for the put, and the descent of the key ended at p
 pub record PutSpot (f k v : List ℕ) (p : Spot) : Type 0 where
@@ -31,15 +37,21 @@ pub record AtNode (f k v : List ℕ) (p : Spot) : Type 0 where
   pub put : PutSpot f k v p
   pub ends : p .end ≡ 4
 
+-- there was room, and the record is written; or there was none, and nothing has changed
+pub record Written (f k v : List ℕ) (r : Bool) (f' : List ℕ) : Type 0 where
+  pub room : (s : State) → Stands edition1 f s → r ≡ state.room s (putChange edition1 s k v)
+  pub done : r ≡ true → PutStep f k v f'
+  pub kept : r ≡ false → f' ≡ f
+
 -- f' stands for the state of d, and after a number that may change the frame every byte is as before but those that the put touches
 abbrev pub Left : (f k v : List ℕ) (n : ℕ) (f' : List ℕ) (s : State) → Stands edition1 f s → Done → Type 0
 Left f k v n f' s w d =
     (w' : Stands edition1 f' (d .state)) × (changes n ≡ true → let c = putChange edition1 s k v in
     Outside f f' (w .root) (w' .root) (w .lists) (w' .lists) (c .takes ++ c .frees) (putTouch edition1 (w .root) k v) (extentAt (length k) (findAt edition1 (w' .root) k)) (ltb 0 (c .extent)))
 
--- The clauses of put's promise for a legal key and value: the number, the state after, what is settled of the bytes, and that a
--- refused put changes nothing.
-pub record PutMade (f k v : List ℕ) (n : ℕ) (f' : List ℕ) : Type 0 where
-  pub answer : (s : State) → Stands edition1 f s → n ≡ callPut edition1 s k v .answer
-  pub after : (s : State) (w : Stands edition1 f s) → Left f k v n f' s w (callPut edition1 s k v)
+-- The clauses of a write's promise for a legal key and value: the number, the state after, what is settled of the bytes, and that nothing
+-- changes where the number says so.
+pub record WriteMade (a : Write) (f k v : List ℕ) (n : ℕ) (f' : List ℕ) : Type 0 where
+  pub answer : (s : State) → Stands edition1 f s → n ≡ callWrite edition1 a s k v .answer
+  pub after : (s : State) (w : Stands edition1 f s) → Left f k v n f' s w (callWrite edition1 a s k v)
   pub kept : changes n ≡ false → f' ≡ f
