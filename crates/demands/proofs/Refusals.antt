@@ -3,14 +3,15 @@ use Prim.Native.Nat.{ℕ, _≤_}
 use native.Mathlib.Omega.{arith}
 use mathlib.Core.Path.{_≡_, refl, ap, _∙_}
 use mathlib.Core.List.{List, [], _∷_}
-use mathlib.Core.Bool.{false}
+use mathlib.Core.Bool.{Bool, true, false}
 use mathlib.Core.Option.{Option, none, some}
 use mathlib.Core.Logic.{inl, inr, _≢_}
 use lib.ListN.{length}
 use borrow.Author.Tests.{ne-eqb}
-use Rattle.model.specs.Strings.{All, Byte}
+use Rattle.model.specs.Strings.{All, Byte, pick}
 use Rattle.model.specs.Edition.{Edition, edition1, Legal, LegalValue, valueFault}
-use Rattle.model.specs.State.{State, Done, unless, Write, new, replacing, callWrite, onWrite, callErase}
+use Rattle.model.specs.Records.{recordsOf, lookup, absent}
+use Rattle.model.specs.State.{State, Done, unless, putChange, Write, new, replacing, either, callWrite, onWrite, callErase}
 use Rattle.model.specs.Visits.{visitsIn}
 use Rattle.model.specs.Frame.{Stands, Good, Root, rootArt}
 use Rattle.model.specs.Touch.{Part, findAt}
@@ -18,10 +19,10 @@ use Rattle.model.specs.Promise.{Found, foundOf, onLookUp, LookUpPromise, change
 use Rattle.model.proofs.StringLaws.{eqb-cases, ltb-cases, clash}
 use Rattle.model.proofs.StandsGood.{stands-good}
 use Rattle.model.proofs.Edition1.{lawful1}
-use Rattle.demands.specs.Words.{Refusal, Ground, OneOf, PutFull, ReplaceFull, EraseFull, keyLength, keyZero, valueLong, outputLength, putFull, replaceFull, eraseFull}
+use Rattle.demands.specs.Words.{Refusal, Ground, OneOf, NoRoom, PutFull, ReplaceFull, EraseFull, keyLength, keyZero, valueLong, outputLength, putFull, replaceFull, putOrReplaceFull, eraseFull}
 use Rattle.demands.specs.Demands.{Demand1}
 use Rattle.demands.proofs.FirstLaws.{Given, frame-first, key-given}
-use Rattle.demands.proofs.RoomLaws.{of-state, faulty, faultless, Ends, idle, full, made, new-ends, replace-ends, erase-ends}
+use Rattle.demands.proofs.RoomLaws.{of-state, faulty, faultless, Ends, idle, full, made, either-ends, new-ends, replace-ends, erase-ends}
 
 -- a refusal is none of the numbers after which something may differ
 pub unchanging : (n : ℕ) → Refusal n → changes n ≡ false
@@ -73,6 +74,10 @@ write-given a f k v n s P answers bk bv w x y e ends =
     (λ q. value-given v n s call (no ∷ []) answers (e ∙ ap (λ (z : Done). z .answer) (faultless (edition1 .keyFault k) s unlong q))
     (λ short is. ends-given f s P answers w x y is (ends (record { passes = q; bytes = bk }) (record { passes = short; bytes = bv }))))
 
+one-of-two : (b : Bool) → OneOf (pick b 0 9) (0 ∷ 9 ∷ [])
+one-of-two true = inl refl
+one-of-two false = inr (inl refl)
+
 -- ---- the calls
 
 pub demand1 : Demand1
@@ -101,6 +106,12 @@ demand1 = record {
     frame-first f (keyLength k ∷ keyZero k ∷ valueLong v ∷ replaceFull f k v ∷ []) (9 ∷ 8 ∷ []) n refl refl (p .told)
         (λ g. write-given replacing f k v n (g .0) (λ z. ReplaceFull edition1 z k v) (9 ∷ 8 ∷ []) bk bv (g .1) (inr (inl refl)) (inl refl) (p .answer (g .0) (g .1))
         (replace-ends lawful1 (g .0) k v (stands-good edition1 f (g .0) (g .1)))),
+    λ r. p .kept (unchanging n r),
+  );
+  putOrReplace = λ f k v n f' bk bv p. (
+    frame-first f (keyLength k ∷ keyZero k ∷ valueLong v ∷ putOrReplaceFull f k v ∷ []) (0 ∷ 9 ∷ []) n refl refl (p .told)
+        (λ g. write-given either f k v n (g .0) (λ z. NoRoom z (putChange edition1 z k v)) (0 ∷ 9 ∷ []) bk bv (g .1) (inr (inl refl)) (one-of-two (absent (lookup k (recordsOf (g .0 .tree))))) (p .answer (g .0) (g .1))
+        (either-ends lawful1 (g .0) k v (stands-good edition1 f (g .0) (g .1)))),
     λ r. p .kept (unchanging n r),
   );
   erase = λ f k n f' b p. (

@@ -11,7 +11,7 @@ use Rattle.model.specs.Strings.{pick}
 use Rattle.model.specs.Edition.{Edition, Legal, LegalValue, Lawful}
 use Rattle.model.specs.Tree.{Art, Change}
 use Rattle.model.specs.Records.{recordsOf, lookup, absent}
-use Rattle.model.specs.State.{State, Done, done, unless, freshSlots, freshBytes, room, findIn, putChange, callPut, new, replacing, callWrite, eraseChange, callErase}
+use Rattle.model.specs.State.{State, Done, done, unless, freshSlots, freshBytes, room, findIn, putChange, callPut, new, replacing, either, callWrite, eraseChange, callErase}
 use Rattle.model.specs.Frame.{Stands}
 use Rattle.model.proofs.StringLaws.{leb-cases, eqb-cases, bool-cases, clash}
 use Rattle.model.proofs.GoodState.{GoodAt, GoodState}
@@ -86,6 +86,9 @@ module _ {E : Edition} (L : Lawful E) where
     put-ends i x y z = let c = putChange E s k v in bool-cases (room s c)
         (λ r. made x (λ q. room-not s c r (z q)) (put-done L s k v h l m r .answer))
         (λ r. full (y (room-full s c r)) (ap (λ (d : Done). d .answer) (put-full L s k v r)))
+
+    pub either-ends : Ends ⊥ (NoRoom s (putChange E s k v)) 9 (pick (absent (lookup k (recordsOf (s .tree)))) 0 9) (callWrite E either s k v .answer)
+    either-ends = put-ends 9 (λ x. x) (λ q. q) (λ q. q)
 
     pub new-ends : Ends (lookup k (recordsOf (s .tree)) ≢ none) (PutFull E s k v) 11 0 (callWrite E new s k v .answer)
     new-ends = go (lookup k (recordsOf (s .tree))) refl

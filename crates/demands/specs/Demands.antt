@@ -18,7 +18,7 @@ use Rattle.model.specs.Frame.{Stands, Good}
 use Rattle.model.specs.Promise.{FormatPromise, CheckPromise, Found, notFound, LookUpPromise, ValuePromise, PutPromise, ReplacePromise, PutOrReplacePromise, ErasePromise, PackPromise}
 use Rattle.model.specs.Call.{Call, keyOf, edited, given, Called}
 use Rattle.model.specs.Words.{InWords}
-use Rattle.demands.specs.Words.{Refusal, NotRefused, FirstOf, wrongLimits, wrongLength, notGood, keyLength, keyZero, valueLong, outputLength, PutFull, ReplaceFull, EraseFull, putFull, replaceFull, eraseFull, Holds, slotsOf, OnlyAt, OfBytes}
+use Rattle.demands.specs.Words.{Refusal, NotRefused, FirstOf, wrongLimits, wrongLength, notGood, keyLength, keyZero, valueLong, outputLength, PutFull, ReplaceFull, EraseFull, putFull, replaceFull, putOrReplaceFull, eraseFull, Holds, slotsOf, OnlyAt, OfBytes}
 
 -- "1. Lend any bytes as frame, key and value. Every public call ends, refuses by document 01's numbers without asking the caller to have
 -- checked anything, and a refused call changes no byte of any lent buffer."
@@ -36,6 +36,8 @@ pub record Demand1 : Type 0 where
       → FirstOf (wrongLength f ∷ notGood f ∷ keyLength k ∷ keyZero k ∷ valueLong v ∷ putFull f k v ∷ []) (0 ∷ 11 ∷ []) n × (Refusal n → f' ≡ f)
   pub replace : (f k v : List ℕ) (n : ℕ) (f' : List ℕ) → All Byte k → All Byte v → ReplacePromise edition1 f k v n f'
       → FirstOf (wrongLength f ∷ notGood f ∷ keyLength k ∷ keyZero k ∷ valueLong v ∷ replaceFull f k v ∷ []) (9 ∷ 8 ∷ []) n × (Refusal n → f' ≡ f)
+  pub putOrReplace : (f k v : List ℕ) (n : ℕ) (f' : List ℕ) → All Byte k → All Byte v → PutOrReplacePromise edition1 f k v n f'
+      → FirstOf (wrongLength f ∷ notGood f ∷ keyLength k ∷ keyZero k ∷ valueLong v ∷ putOrReplaceFull f k v ∷ []) (0 ∷ 9 ∷ []) n × (Refusal n → f' ≡ f)
   pub erase : (f k : List ℕ) (n : ℕ) (f' : List ℕ) → All Byte k → ErasePromise edition1 f k n f'
       → FirstOf (wrongLength f ∷ notGood f ∷ keyLength k ∷ keyZero k ∷ eraseFull f k ∷ []) (0 ∷ 8 ∷ []) n × (Refusal n → f' ≡ f)
   pub pack : (f o : List ℕ) (n : ℕ) (o' : List ℕ) → PackPromise edition1 f o n o'

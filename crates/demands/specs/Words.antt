@@ -110,6 +110,9 @@ putFull f k v = record { number = 6; applies = (s : State) × Stands edition1 f 
 abbrev pub replaceFull : List ℕ → List ℕ → List ℕ → Ground
 replaceFull f k v = record { number = 6; applies = (s : State) × Stands edition1 f s × ReplaceFull edition1 s k v }
 
+abbrev pub putOrReplaceFull : List ℕ → List ℕ → List ℕ → Ground
+putOrReplaceFull f k v = record { number = 6; applies = (s : State) × Stands edition1 f s × NoRoom s (putChange edition1 s k v) }
+
 abbrev pub eraseFull : List ℕ → List ℕ → Ground
 eraseFull f k = record { number = 6; applies = (s : State) × Stands edition1 f s × EraseFull edition1 s k }
 
