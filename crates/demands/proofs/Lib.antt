@@ -4,5 +4,6 @@ pub mod Refusals
 pub mod DoneLaws
 pub mod Sets
 pub mod Orders
+pub mod AnyOrderLaws
 pub mod Theorems
 pub mod SlotLaws

@@ -1,4 +1,4 @@
--- The three demands, met by whatever keeps the promises of edition 1, and the wrong stores that this shuts out. Assumes nothing.
+-- The three demands and any order, met by whatever keeps the promises of edition 1, and the wrong stores that this shuts out. Assumes nothing.
 use Prim.Native.Nat.{ℕ, _≤_}
 use native.Mathlib.Omega.{arith}
 use mathlib.Core.Path.{_≡_, refl, sym, ap, _∙_}
@@ -26,10 +26,12 @@ use Rattle.model.proofs.StandsGood.{stands-heads}
 use Rattle.model.proofs.WorkedLaws.{called-stands}
 use Rattle.demands.specs.Words.{NotRefused, Holds}
 use Rattle.demands.specs.Demands.{Demand1, Demand2, Demand3}
+use Rattle.demands.specs.AnyOrder.{AnyOrder}
 use Rattle.demands.specs.WrongStores.{Counters, ShutOut}
 use Rattle.demands.proofs.Refusals.{demand1}
 use Rattle.demands.proofs.Sets.{demand2}
 use Rattle.demands.proofs.Orders.{demand3}
+use Rattle.demands.proofs.AnyOrderLaws.{any-order}
 
 pub faults1 : (k : List ℕ) → edition1 .keyFault k ≤ 7
 faults1 k = bool-cases (eqb (length k) 0)
@@ -44,6 +46,9 @@ three = demand3 lawful1 faults1
 
 pub demands : Demand1 × Demand2 edition1 × Demand3 edition1
 demands = (demand1, two, three)
+
+pub any-order1 : AnyOrder edition1
+any-order1 = any-order lawful1 faults1
 
 -- ---- good frames of F 1,024 and N 8: W1, the packed image of a=1, and one that is full
 

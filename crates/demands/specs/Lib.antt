@@ -1,4 +1,5 @@
 pub mod Words
 pub mod Demands
+pub mod AnyOrder
 pub mod WrongStores
 pub mod Slots
