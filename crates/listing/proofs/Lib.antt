@@ -3,3 +3,4 @@ pub mod WorkedLaws
 pub mod SeekLaws
 pub mod BoundLaws
 pub mod PagesLaws
+pub mod PageLaws

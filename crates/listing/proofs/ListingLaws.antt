@@ -17,7 +17,7 @@ use Rattle.listing.specs.Pages.{Over, Rising, lastOf}
 
 -- ---- entries keep the order of their keys
 
-abbrev NotAfter : List ℕ → List ℕ → Type 0
+abbrev pub NotAfter : List ℕ → List ℕ → Type 0
 NotAfter x y = (x ≡ y) ⊎ (before x y ≡ true)
 
 -- one byte more in front
@@ -61,7 +61,7 @@ entry-mono d (a ∷ p) (x ∷ k) (y ∷ l) e f g = eqb-cases a x
 -- ---- names ascend
 
 -- e is not after the first of a list
-abbrev First : List ℕ → List (List ℕ) → Type 0
+abbrev pub First : List ℕ → List (List ℕ) → Type 0
 First e [] = Unit {0}
 First e (x ∷ es) = NotAfter e x
 
@@ -87,7 +87,7 @@ add-first e x (y ∷ es) h = bool-cases (same x y)
     (λ t. rw t h)
 
 module _ (d : Option ℕ) (p : List ℕ) where
-  names-first : (k : List ℕ) (rs : List Record) → begins p k ≡ true → AllKeys (Ahead k) rs → First (entryFor d p k) (names d p rs)
+  pub names-first : (k : List ℕ) (rs : List Record) → begins p k ≡ true → AllKeys (Ahead k) rs → First (entryFor d p k) (names d p rs)
   names-first k [] f h = tt
   names-first k (r ∷ rs) f h = bool-cases (begins p (r .key))
       (λ t. rw t (add-first (entryFor d p k) (entryFor d p (r .key)) (names d p rs) (entry-mono d p k (r .key) (h .0 .fore) f t)))

@@ -208,18 +208,18 @@ module _ {E : Edition} (L : Lawful E) (f p : List ℕ) (d : Option ℕ) (st : St
       let l = P .listed st S in
       let left = afterStart s all in
       let room = length (g .buffer) in
-      let e = listing-page E (recordsOf (st .tree)) p s d room (l .0) in
-      let z : 0 ≡ page room left .number = l .0 ∙ ap (λ (x : Listed). x .number) e in
+      let e = listing-page E (recordsOf (st .tree)) p s d room (l .numberIs) in
+      let z : 0 ≡ page room left .number = l .numberIs ∙ ap (λ (x : Listed). x .number) e in
       let w = e ∙ page-written room left z in
       let n = fitting room left in
-      let c : g .count ≡ n = l .1 ∙ ap (λ (x : Listed). x .count) w in
+      let c : g .count ≡ n = l .countIs ∙ ap (λ (x : Listed). x .count) w in
       let m = fitting-most room left in
       record {
         most = omega arith;
         are =
-            ap (λ (x : List ℕ). entriesIn (g .count) x) (l .3 ∙ ap (λ (x : Listed). x .text ++ drop (length (x .text)) (g .buffer)) w)
+            ap (λ (x : List ℕ). entriesIn (g .count) x) (l .buffer ∙ ap (λ (x : Listed). x .text ++ drop (length (x .text)) (g .buffer)) w)
             ∙ rw c (read-back n left (drop (length (laid (take n left))) (g .buffer)) (start-short s all all-short) m);
-        others = l .2 ∙ ap (λ (x : Listed). x .more) w ∙ sym (ap (λ (x : ℕ). pick (ltb x (length left)) 1 0) c);
+        others = l .moreIs ∙ ap (λ (x : Listed). x .more) w ∙ sym (ap (λ (x : ℕ). pick (ltb x (length left)) 1 0) c);
         some = λ h. let k = page-some room left z h in omega arith;
       }
 

@@ -35,6 +35,14 @@ weigh-tail g t path c u e = weigh-append g t path (c ∷ []) ∙ rw (u, e)
 
 -- ---- lists of Leaves
 
+pub all-append : (P : List ℕ → Type 0) (xs ys : List Leafy) → AllL P xs → AllL P ys → AllL P (xs ++ ys)
+all-append P [] ys h k = k
+all-append P (x ∷ xs) ys h k = (h .0, all-append P xs ys (h .1) k)
+
+pub all-map : (P Q : List ℕ → Type 0) → ((k : List ℕ) → P k → Q k) → (xs : List Leafy) → AllL P xs → AllL Q xs
+all-map P Q f [] h = tt
+all-map P Q f (x ∷ xs) h = (f (x .key) (h .0), all-map P Q f xs (h .1))
+
 module _ (E : Edition) (g : List ℕ) (t : ℕ) where
   abbrev Reach : List ℕ → Type 0
   Reach k = reach E g t k ≡ true
@@ -53,14 +61,6 @@ module _ (E : Edition) (g : List ℕ) (t : ℕ) where
   pub first-reach : (xs : List Leafy) → AllL Reach xs → firstFrom E g t xs ≡ firstOf xs
   first-reach [] h = refl
   first-reach (x ∷ xs) h = rw (h .0)
-
-  all-append : (P : List ℕ → Type 0) (xs ys : List Leafy) → AllL P xs → AllL P ys → AllL P (xs ++ ys)
-  all-append P [] ys h k = k
-  all-append P (x ∷ xs) ys h k = (h .0, all-append P xs ys (h .1) k)
-
-  all-map : (P Q : List ℕ → Type 0) → ((k : List ℕ) → P k → Q k) → (xs : List Leafy) → AllL P xs → AllL Q xs
-  all-map P Q f [] h = tt
-  all-map P Q f (x ∷ xs) h = (f (x .key) (h .0), all-map P Q f xs (h .1))
 
   -- ---- a path that has decided
 

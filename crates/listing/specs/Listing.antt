@@ -107,11 +107,16 @@ listing E rs p s d room =
     (pick (eqb (startFault E s) 0) (page room (afterStart s (names d p rs))) (refusedAs (startFault E s)))
     (refusedAs (prefixFault E p))
 
+-- what a call gave is the listing l, and what it left of the buffer b: "Bytes past the entries written are unchanged."
+pub record Gave (l : Listed) (b : List ℕ) (n count more : ℕ) (b' : List ℕ) : Type 0 where
+  pub numberIs : n ≡ l .number
+  pub countIs : count ≡ l .count
+  pub moreIs : more ≡ l .more
+  pub buffer : b' ≡ l .text ++ drop (length (l .text)) b
+
 -- What a listing promises: of the frame f, the prefix p, the start key s, the delimiter d and the lent buffer b it gives the number n, how many
 -- and whether more remain, and leaves b' in the buffer. The frame is only read.
 pub record ListPromise (E : Edition) (f p : List ℕ) (s : Option (List ℕ)) (d : Option ℕ) (b : List ℕ) (n count more : ℕ) (b' : List ℕ) : Type 0 where
   pub told : Told E f n
   pub refused : (n ≡ 0 → ⊥) → (count ≡ 0) × (more ≡ 0) × (b' ≡ b)
-  -- "Bytes past the entries written are unchanged."
-  pub listed : (st : State) → Stands E f st → let l = listing E (recordsOf (st .tree)) p s d (length b) in
-      (n ≡ l .number) × (count ≡ l .count) × (more ≡ l .more) × (b' ≡ l .text ++ drop (length (l .text)) b)
+  pub listed : (st : State) → Stands E f st → Gave (listing E (recordsOf (st .tree)) p s d (length b)) b n count more b'

@@ -1,0 +1,95 @@
+-- One law for each way that the seek goes in a frame. Assumes nothing.
+use Prim.Native.Nat.{ℕ, suc, _+_, _<_, _≤_}
+use native.Mathlib.Omega.{arith}
+use mathlib.Core.Path.{_≡_, refl, sym, ap, _∙_}
+use mathlib.Core.List.{List, [], _∷_, _++_, append-assoc}
+use mathlib.Core.Bool.{true, false}
+use mathlib.Core.Option.{Option, none, some}
+use lib.ListN.{length, length-append, take, drop, take-append-drop}
+use lib.Dec.{ltb, eqb}
+use borrow.Author.Tests.{le-ltb, lt-ltb}
+use Rattle.layout.specs.Number.{Bytes}
+use Rattle.layout.specs.Place.{entryAt}
+use Rattle.layout.specs.Entry.{highOf, placeOf}
+use Rattle.model.specs.Edition.{edition1}
+use Rattle.model.specs.Body.{InnerAt, Asc, lookKid}
+use Rattle.model.specs.Frame.{Lay, LayKids, slotOf, pairs, Entry, NodeOf, LeafOf, Tree, Trees}
+use Rattle.model.specs.Frame.Lay.{leaf, prefix, node}
+use Rattle.model.specs.Frame.LayKids.{nil, kid}
+use Rattle.model.proofs.StringLaws.{bool-cases, eqb-cases, ltb-cases, clash}
+use Rattle.node.specs.Kids.{nextKid, orZero}
+use Rattle.listing.specs.Seek.{Leafy, leaves, leavesAll, weigh, firstFrom, firstOf, orElse, kidsFrom, leavesAt, AllL, From, Under, Kept}
+use Rattle.listing.proofs.SeekLaws.{all-append, all-map}
+use Rattle.inside.specs.Inside.{Inside, InsideAll}
+use Rattle.inside.proofs.InsideLaws.{slot-in}
+use Rattle.seek.specs.Sub.{Sub}
+use Rattle.seek.proofs.DownLaws.{tree-full, first-append}
+
+-- ---- keys go on from the path that leads to their Leaf
+
+shorter : (path p k : List ℕ) → From edition1 (path ++ p) k → From edition1 path k
+shorter path p k h = (p ++ h .0, h .1 ∙ append-assoc path p (h .0))
+
+mutual
+  unfolding Tree Trees
+
+  pub tree-under : (f path : List ℕ) (l : Lay) → Tree edition1 f path l → Under edition1 path l
+  tree-under f path (leaf s o e k v) T =
+      let w = edition1 .walked k in
+      ((drop (length path) w, sym (take-append-drop (length path) w) ∙ ap (λ (x : List ℕ). x ++ drop (length path) w) (T .1 .begins)), tt)
+  tree-under f path (prefix s o p l) T = all-map (From edition1 (path ++ p)) (From edition1 path) (λ k h. shorter path p k h) (leaves l) (tree-under f (path ++ p) l (T .3))
+  tree-under f path (node s o kind ks) T = trees-under f path ks (T .2)
+
+  pub trees-under : (f path : List ℕ) (ks : LayKids) → Trees edition1 f path ks → AllL (From edition1 path) (leavesAll ks)
+  trees-under f path nil T = tt
+  trees-under f path (kid b j l ks) T =
+      all-append (From edition1 path) (leaves l) (leavesAll ks)
+      (all-map (From edition1 (path ++ b ∷ [])) (From edition1 path) (λ k h. shorter path (b ∷ []) k h) (leaves l) (tree-under f (path ++ b ∷ []) l (T .0)))
+      (trees-under f path ks (T .1))
+
+-- the children of a node, bytes ascending
+pub trees-kept : (f path : List ℕ) (lo : ℕ) (ks : LayKids) → Asc lo (pairs ks) → Trees edition1 f path ks → Kept edition1 path lo ks
+unfolding Trees pairs Asc
+trees-kept f path lo nil A T = tt
+trees-kept f path lo (kid b j l ks) A T = (A .0, tree-under f (path ++ b ∷ []) l (T .0), trees-kept f path (suc b) ks (A .3) (T .1))
+
+-- ---- a node's children: the first from a byte on, and the one of a byte
+
+pub record KidAt (f path : List ℕ) (c d : ℕ) (xs : List Leafy) : Type 0 where
+  pub byte : ℕ
+  pub sub : Sub f c (d + 1)
+  pub pathIs : sub .path ≡ path ++ byte ∷ []
+  pub leavesAre : xs ≡ leaves (sub .lay)
+
+module _ (f path : List ℕ) (d : ℕ) (B : Bytes f) (D : length path ≡ d) where
+  abbrev sub-of : (b : ℕ) (l : Lay) → Tree edition1 f (path ++ b ∷ []) l → Inside f l → Sub f (slotOf l) (d + 1)
+  sub-of b l T I = record { lay = l; path = path ++ b ∷ []; tree = T; slotIs = refl; inside = I; bytes = B; deep = omega (arith, length-append path (b ∷ [])) }
+
+  pub kids-none : (lo x : ℕ) (ks : LayKids) → Asc lo (pairs ks) → nextKid x (pairs ks) .0 ≡ 256 → firstOf (leavesAll (kidsFrom x ks)) ≡ none
+  unfolding pairs Asc nextKid
+  kids-none lo x nil A e = refl
+  kids-none lo x (kid b j l ks) A e = ltb-cases b x
+      (λ t o. rw t (kids-none (suc b) x ks (A .3) (rw t at e)))
+      (λ t o. let z : b ≡ 256 = rw t at e in let y = A .1 in absurd (omega arith))
+
+  pub kids-some : (lo x : ℕ) (ks : LayKids) → Asc lo (pairs ks) → Trees edition1 f path ks → InsideAll f ks → (nextKid x (pairs ks) .0 ≡ 256 → ⊥)
+      → (S : Sub f (nextKid x (pairs ks) .1) (d + 1)) × (firstOf (leavesAll (kidsFrom x ks)) ≡ firstOf (leaves (S .lay)))
+  unfolding pairs Asc nextKid Trees InsideAll
+  kids-some lo x nil A T I e = absurd (e refl)
+  kids-some lo x (kid b j l ks) A T I e = ltb-cases b x
+      (λ t o. rw t (kids-some (suc b) x ks (A .3) (T .1) (I .1) (rw t at e)))
+      (λ t o. rw t (sub-of b l (T .0) (I .0), first-append (leaves l) (leavesAll ks) (tree-full f (path ++ b ∷ []) l (T .0))))
+
+  pub kid-gone : (x : ℕ) (ks : LayKids) → Trees edition1 f path ks → InsideAll f ks → orZero (lookKid x (pairs ks)) ≡ 0 → leavesAt x ks ≡ []
+  unfolding pairs lookKid Trees InsideAll
+  kid-gone x nil T I e = refl
+  kid-gone x (kid b j l ks) T I e = eqb-cases b x
+      (λ t q. let z : slotOf l ≡ 0 = rw t at e in let y = slot-in f (slotOf l) l (I .0) refl .first in absurd (omega arith))
+      (λ t n. rw t (kid-gone x ks (T .1) (I .1) (rw t at e)))
+
+  pub kid-there : (x : ℕ) (ks : LayKids) → Trees edition1 f path ks → InsideAll f ks → 1 ≤ orZero (lookKid x (pairs ks)) → (S : Sub f (orZero (lookKid x (pairs ks))) (d + 1)) × (S .path ≡ path ++ x ∷ []) × (leavesAt x ks ≡ leaves (S .lay))
+  unfolding pairs lookKid Trees InsideAll
+  kid-there x nil T I e = absurd (omega arith)
+  kid-there x (kid b j l ks) T I e = eqb-cases b x
+      (λ t q. rw t (sub-of b l (T .0) (I .0), ap (λ (y : ℕ). path ++ y ∷ []) q, refl))
+      (λ t n. rw t (kid-there x ks (T .1) (I .1) (rw t at e)))
