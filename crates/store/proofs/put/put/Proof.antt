@@ -1,90 +1,52 @@
--- Each way out is one of put's ends. Assumes nothing.
-use native.Mathlib.Omega.{arith}
-use Rattle.store.proofs.PutCallLaws.{put-one, put-two, put-three, put-four, put-five, put-asked, put-made}
+-- A put is barred, or made on a good frame. Assumes nothing.
+use Rattle.model.specs.State.{new}
+use Rattle.store.proofs.PutCallLaws.{made, nothing-barred, barred-by}
 use borrow.Author.Needs.{needs}
 use Rattle.store.proofs.put.put.Statement.{statement}
 use Rattle.store.proofs.put.put.Tie as tie
 
-check-requires : tie.Need-check-requires
-check-requires c κs = search needs
+against-requires : tie.Need-against-requires
+against-requires c κs = search needs
+
+enum-known-bar : tie.Need-enum-known-bar
+enum-known-bar c = search needs
+
+enum-told : tie.Need-enum-told
+enum-told c = search needs
+
+put-new-requires : tie.Need-put-new-requires
+put-new-requires c κs =
+    let told = c .before in
+    let test = told .before .before .against in
+    nothing-barred _ _ _ (test .result) (test .ensures) (told .enum-told .given .1)
 
 same-length : tie.Need-same-length
 same-length c = search needs
 
 returns : tie.Need-returns
 returns c =
-    let n = c .before in
-    put-one _ _ _ (n .check .ensures) (omega arith)
+    let call = c .before .before in
+    let told = call .before .before in
+    let test = told .before .before .against in
+    made _ _ _ new (nothing-barred _ _ _ (test .result) (test .ensures) (told .enum-told .given .1)) (call .put-new .ensures)
 
 same-length-2 : tie.Need-same-length-2
 same-length-2 c = search needs
 
 returns-2 : tie.Need-returns-2
 returns-2 c =
-    let n = c .before .before in
-    put-two _ _ _ (n .check .ensures) (λ z. omega arith) (λ z. omega arith)
-
-fault-requires : tie.Need-fault-requires
-fault-requires c κs = search needs
-
-same-length-3 : tie.Need-same-length-3
-same-length-3 c = search needs
-
-returns-3 : tie.Need-returns-3
-returns-3 c =
-    let key = c .before in
-    let n = key .before .before .before in
-    put-three _ _ _ (n .check .ensures) (omega arith) (key .fault .ensures) (omega arith)
-
-same-length-4 : tie.Need-same-length-4
-same-length-4 c = search needs
-
-returns-4 : tie.Need-returns-4
-returns-4 c =
-    let key = c .before .before in
-    let n = key .before .before .before in
-    put-four _ _ _ (n .check .ensures) (omega arith) (key .fault .ensures) (λ z. omega arith) (λ z. omega arith)
-
-same-length-5 : tie.Need-same-length-5
-same-length-5 c = search needs
-
-returns-5 : tie.Need-returns-5
-returns-5 c =
-    let key = c .before .before .before in
-    let n = key .before .before .before in
-    put-five _ _ _ (n .check .ensures) (omega arith) (key .fault .ensures) (omega arith) (omega arith)
-
-put-requires : tie.Need-put-requires
-put-requires c κs =
-    let key = c .before .before .before .before in
-    let n = key .before .before .before in
-    put-asked _ _ _ (n .check .ensures) (omega arith) (key .fault .ensures) (omega arith) (omega arith) (λ a. omega (arith, n .before .before .before .shared-slice-known .given a)) (λ a. omega (arith, n .before .before .shared-slice-known2 .given a))
-
-same-length-6 : tie.Need-same-length-6
-same-length-6 c = search needs
-
-returns-6 : tie.Need-returns-6
-returns-6 c =
-    let key = c .before .before .before .before .before .before .before in
-    let n = key .before .before .before in
-    put-made _ _ _ (n .check .ensures) (omega arith) (key .fault .ensures) (omega arith) (omega arith) (c .before .before .put .ensures)
+    let test = c .before .before .before .against in
+    barred-by _ _ _ (test .result) (test .ensures) (c .before .bar .given .1) new
 
 pub put-spec : {M : Type 1} → statement M
 put-spec =
     tie.close
     (tie.spec
-    check-requires
+    against-requires
+    enum-known-bar
+    enum-told
+    put-new-requires
     same-length
     returns
     same-length-2
-    returns-2
-    fault-requires
-    same-length-3
-    returns-3
-    same-length-4
-    returns-4
-    same-length-5
-    returns-5
-    put-requires
-    same-length-6
-    returns-6)
+    returns-2)
