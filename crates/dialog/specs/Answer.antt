@@ -9,7 +9,7 @@ use lib.Dec.{eqb}
 use Rattle.layout.specs.Number.{le}
 use Rattle.layout.specs.Place.{atB, atU, atR}
 use Rattle.model.specs.Edition.{Edition}
-use Rattle.model.specs.Promise.{FormatPromise, PutPromise, ErasePromise, PackPromise, LookUpPromise, Found}
+use Rattle.model.specs.Promise.{FormatPromise, PutOrReplacePromise, ErasePromise, PackPromise, LookUpPromise, Found}
 use Rattle.lines.specs.Line.{Said, format, put, get, erase, pack, unknown, said}
 use Rattle.lines.specs.Text.{decimal}
 
@@ -53,10 +53,11 @@ pub record Formats (E : Edition) (b : List ℕ) (long F N : ℕ) (b' : List ℕ)
   pub done : n ≡ 0 → long' ≡ F
   pub refused : (n ≡ 0 → ⊥) → (long' ≡ long) × (b' ≡ b)
 
+-- `p` asks for replacement too: "0", and "9" where the key was there
 pub record Puts (E : Edition) (f k v f' text : List ℕ) : Type 0 where
   pub n : ℕ
   pub says : text ≡ alone n
-  pub call : PutPromise E f k v n f'
+  pub call : PutOrReplacePromise E f k v n f'
 
 pub record Gets (E : Edition) (f k f' text : List ℕ) : Type 0 where
   pub g : Found

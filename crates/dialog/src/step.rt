@@ -11,7 +11,7 @@ use store::erase::erase;
 use store::format::format;
 use store::look::look_up;
 use store::look::value;
-use store::put::put;
+use store::put::put_or_replace;
 ghost use mathlib.Core.Path.{_≡_};
 ghost use mathlib.Core.List.{List};
 ghost use Prim.Native.Nat.{ℕ, _+_, _≤_};
@@ -78,11 +78,15 @@ fn format_line(
     }
 }
 
+// "The session program's `p` and every other caller that relied on replacement must ask for it."
 fn put_line(frame: &mut [u8], key: &[u8], value: &[u8], out: &mut [u8]) -> usize
     requires { ⌜ Wide (now out) ⌝ }
     ensures { λ r. ⌜ Answer (now (out .exit)) r (λ t. Puts edition1 (now (frame .entry)) (now (key .entry)) (now (value .entry)) (now (frame .exit)) t) ⌝ }
 {
-    number(out, answers::put_number(put(frame, key, value)))
+    number(
+        out,
+        answers::put_or_replace_number(put_or_replace(frame, key, value)),
+    )
 }
 
 fn erase_line(frame: &mut [u8], key: &[u8], out: &mut [u8]) -> usize
