@@ -11,7 +11,7 @@ use frame_rules::words;
 use frame_store::{Frame, Refusal};
 use std::fs::{self, File, OpenOptions};
 use std::io::{self, ErrorKind, Read, Write};
-use std::os::unix::fs::MetadataExt;
+use std::os::unix::fs::{fchown, MetadataExt};
 use std::path::{Path, PathBuf};
 
 /// What the name of the file beside has at its end.
@@ -144,10 +144,12 @@ impl Replacing {
 
     fn write_beside(&mut self, bytes: &[u8]) -> io::Result<()> {
         self.file.set_len(0)?;
-        self.file.write_all(bytes)?;
+        // Whoever may not read the image may not read this either. Only the system's owner can keep another's file his.
         if let Ok(there) = fs::metadata(&self.path) {
+            let _ = fchown(&self.file, Some(there.uid()), Some(there.gid()));
             self.file.set_permissions(there.permissions())?;
         }
+        self.file.write_all(bytes)?;
         self.file.sync_all()
     }
 }
