@@ -9,7 +9,7 @@ use store::info;
 use store::look;
 use store::put;
 ghost use Rattle.model.specs.Edition.{edition1};
-ghost use Rattle.model.specs.Promise.{FormatPromise, CheckPromise, PutPromise, ErasePromise, PackPromise};
+ghost use Rattle.model.specs.Promise.{FormatPromise, CheckPromise, PutPromise, ReplacePromise, ErasePromise, PackPromise};
 ghost use mathlib.Core.List.{[], _∷_};
 ghost use Rattle.frame_store.specs.Tells.{Tells};
 ghost use Rattle.frame_store.specs.LookUp.{LookedUp};
@@ -70,6 +70,13 @@ pub extern "C" fn frame_put(frame: &mut [u8], key: &[u8], value: &[u8]) -> u32
     ensures { λ n. ⌜ PutPromise edition1 (now (frame .entry)) (now (key .entry)) (now (value .entry)) n (now (frame .exit)) ⌝ }
 {
     answers::put_number(put::put(frame, key, value))
+}
+
+#[no_mangle]
+pub extern "C" fn frame_replace(frame: &mut [u8], key: &[u8], value: &[u8]) -> u32
+    ensures { λ n. ⌜ ReplacePromise edition1 (now (frame .entry)) (now (key .entry)) (now (value .entry)) n (now (frame .exit)) ⌝ }
+{
+    answers::replace_number(put::replace(frame, key, value))
 }
 
 #[no_mangle]
