@@ -2,20 +2,24 @@
 use Prim.Native.Nat.{ℕ}
 use mathlib.Core.Path.{_≡_, refl, sym, ap, subst, _∙_}
 use mathlib.Core.List.{List, [], _++_, append-nil}
-use mathlib.Core.Bool.{Bool, true, false}
-use mathlib.Core.Option.{some}
+use mathlib.Core.Option.{Option, none, some}
+use mathlib.Core.Logic.{_≢_}
 use lib.ListN.{length, take, drop}
 use lib.Seq.{take-length, drop-length}
 use Rattle.layout.specs.Number.{Bytes}
 use Rattle.model.specs.Edition.{edition1, Legal}
 use Rattle.model.specs.Records.{Record, lookup, upsert}
-use Rattle.model.specs.Promise.{FormatPromise, LookUpPromise, PutPromise, PackPromise}
-use Rattle.model.specs.Call.{Call, put}
+use Rattle.model.specs.Promise.{FormatPromise, LookUpPromise, PutPromise, ReplacePromise, PutOrReplacePromise, PackPromise}
+use Rattle.model.specs.Call.{Call, put, replace, edited}
+use Rattle.model.proofs.StringLaws.{clash}
+use Rattle.model.proofs.SetLaws.{lookup-upsert}
 use Rattle.model.proofs.Edition1.{lawful1}
 use Rattle.model.proofs.TextLaws.{bytes-all}
 use Rattle.demands.specs.Words.{NotRefused, Holds, OfBytes}
-use Rattle.demands.proofs.DoneLaws.{did, good-called, packed-of, packed-to}
+use Rattle.demands.proofs.DoneLaws.{good-frame, did, packed-of, packed-to}
 use Rattle.demands.proofs.Theorems.{faults1, two, three}
+use Rattle.demanded.specs.declared.orders.Kind.{Kind}
+use Rattle.demanded.specs.declared.orders.Kind.the-variants.{Put, Replace, Erase}
 use Rattle.demanded.specs.declared.orders.Given.{Given}
 use Rattle.demanded.specs.declared.orders.Orders.the-variants.{Made}
 use Rattle.demanded.specs.declared.orders.Packs.{Packs}
@@ -27,12 +31,13 @@ use Rattle.demanded.specs.Readings.{ReadInNew, ReadInImage}
 
 -- ---- demand 3
 
-of-bytes : (e : Bool) (k v : List ℕ) → Bytes k → Bytes v → OfBytes (callOf e k v)
-of-bytes true k v bk bv = bytes-all k bk
-of-bytes false k v bk bv = (bytes-all k bk, bytes-all v bv)
+pub of-bytes : (e : Kind) (k v : List ℕ) → Bytes k → Bytes v → OfBytes (callOf e k v)
+of-bytes Put k v bk bv = (bytes-all k bk, bytes-all v bv)
+of-bytes Replace k v bk bv = (bytes-all k bk, bytes-all v bv)
+of-bytes Erase k v bk bv = bytes-all k bk
 
 -- a copy of all the bytes
-copied : (f g : List ℕ) → length g ≡ length f → take (length f) f ++ drop (length f) g ≡ f
+pub copied : (f g : List ℕ) → length g ≡ length f → take (length f) f ++ drop (length f) g ≡ f
 copied f g e = let z : drop (length f) g ≡ [] = ap (λ (n : ℕ). drop n g) (sym e) ∙ drop-length g in rw (take-length f, z) (append-nil f)
 
 in-both-orders : {f o p f' o' g' p' : List ℕ} {c d : Call} {x y : Given} → OfBytes c → OfBytes d → InOrder f o c d x f' o' → InOrder f p d c y g' p' → InBothOrders f o p c d x y f' o' g' p'
@@ -45,7 +50,7 @@ in-both-orders {f} {o} {p} {f'} {o'} {g'} {p'} {c} {d} {x} {y} bc bd F B = recor
 }
 
 -- h is the copy
-module _ (e : Bool) (k v : List ℕ) (bk : Bytes k) (bv : Bytes v) (e' : Bool) (k' v' : List ℕ) (bk' : Bytes k') (bv' : Bytes v') where
+module _ (e : Kind) (k v : List ℕ) (bk : Bytes k) (bv : Bytes v) (e' : Kind) (k' v' : List ℕ) (bk' : Bytes k') (bv' : Bytes v') where
   pub ordered : (g : List ℕ) {f o h p f' o' g' p' : List ℕ} {x y : Given} → length g ≡ length f → h ≡ take (length f) f ++ drop (length f) g → InOrder f o (callOf e k v) (callOf e' k' v') x f' o' → InOrder h p (callOf e' k' v') (callOf e k v) y g' p'
       → Ordered f o g p (callOf e k v) (callOf e' k' v') (Made x y) f' o' g' p'
   ordered g {f} {p = p} {g' = g'} {p' = p'} {y = y} q z F B =
@@ -66,10 +71,25 @@ module _ (k v : List ℕ) (bk : Bytes k) (bv : Bytes v) where
     pub holds : Holds edition1 f' (upsert k v rs)
     pub there : lookup k (upsert k v rs) ≡ some v
 
-  kept : {f f' : List ℕ} {n : ℕ} {rs : List Record} → PutPromise edition1 f k v n f' → Holds edition1 f rs → NotRefused n → Kept f' rs
-  kept {f} {f'} {n} {rs} P h r =
-      let q = two .change f (put k v) n f' rs b P h r in
-      record { legal = did lawful1 faults1 f (put k v) n f' (h .state) b P (h .stands) r .legal .0; holds = q .0; there = q .1 .own }
+  put-kept : {f f' : List ℕ} {n : ℕ} {rs : List Record} → PutPromise edition1 f k v n f' → Holds edition1 f rs → NotRefused n → lookup k rs ≡ none → Kept f' rs
+  put-kept {f} {f'} {n} {rs} P h r e =
+      let is : edited (put k v) rs ≡ upsert k v rs = rw e in
+      record { legal = did lawful1 faults1 f (put k v) n f' (h .state) b P (h .stands) r .legal .0; holds = subst (Holds edition1 f') is (two .change f (put k v) n f' rs b P h r .0); there = lookup-upsert k v rs }
+
+  replace-kept : {f f' : List ℕ} {n : ℕ} {rs : List Record} {w : List ℕ} → ReplacePromise edition1 f k v n f' → Holds edition1 f rs → NotRefused n → lookup k rs ≡ some w → Kept f' rs
+  replace-kept {f} {f'} {n} {rs} P h r e =
+      let is : edited (replace k v) rs ≡ upsert k v rs = rw e in
+      record { legal = did lawful1 faults1 f (replace k v) n f' (h .state) b P (h .stands) r .legal .0; holds = subst (Holds edition1 f') is (two .change f (replace k v) n f' rs b P h r .0); there = lookup-upsert k v rs }
+
+  kept : {f f' : List ℕ} {n : ℕ} {rs : List Record} → PutOrReplacePromise edition1 f k v n f' → Holds edition1 f rs → NotRefused n → Kept f' rs
+  kept {f} {f'} {n} {rs} P h r = go (lookup k rs) refl
+    where
+      asked : (lookup k rs ≡ none → PutPromise edition1 f k v n f') × (lookup k rs ≢ none → ReplacePromise edition1 f k v n f')
+      asked = two .putOrReplace f k v n f' rs (b .0) P h
+
+      go : (o : Option (List ℕ)) → lookup k rs ≡ o → Kept f' rs
+      go none e = put-kept (asked .0 e) h r e
+      go (some w) e = replace-kept (asked .1 (λ z. clash (let y : some w ≡ none = sym e ∙ z in cc))) h r e
 
   pub read-in-new : {f e f' : List ℕ} {len cap : ℕ} {r : InNew} → FormatPromise edition1 f len cap (r .formatted) e → PutPromise edition1 e k v (r .put) f' → LookUpPromise edition1 f' k (foundIn (r .found))
       → ReadInNew f len cap k v r f'
@@ -81,11 +101,11 @@ module _ (k v : List ℕ) (bk : Bytes k) (bv : Bytes v) where
         looked = L;
         back = λ x y.
             let h = two .format f len cap (r .formatted) e F x .0 in
-            let q = kept P h y in
+            let q = put-kept P h y refl in
             (two .put e k v (r .put) f' [] (b .0) (b .1) P h y .0 .1 refl, two .lookUp f' k (foundIn (r .found)) (upsert k v []) (q .legal) L (q .holds) .there0 v .0 (q .there));
       }
 
-  pub read-in-image : {f o f' o' : List ℕ} {r : InImage} → PutPromise edition1 f k v (r .put) f' → PackPromise edition1 f' o (r .packed) o' → LookUpPromise edition1 o' k (foundIn (r .found))
+  pub read-in-image : {f o f' o' : List ℕ} {r : InImage} → PutOrReplacePromise edition1 f k v (r .put) f' → PackPromise edition1 f' o (r .packed) o' → LookUpPromise edition1 o' k (foundIn (r .found))
       → ReadInImage f o k v r f' o'
   read-in-image {f} {o} {f'} {o'} {r} P Q L =
       record {
@@ -93,7 +113,7 @@ module _ (k v : List ℕ) (bk : Bytes k) (bv : Bytes v) where
         packed = Q;
         looked = L;
         back = λ x y.
-            let h = two .holds f (good-called edition1 f (put k v) (r .put) f' P x) in
+            let h = two .holds f (good-frame edition1 f (r .put) (P .told) x) in
             let q = kept P (h .1) x in
             let i = q .holds in
             let w = packed-to lawful1 faults1 f' (upsert k v (h .0)) o' i (packed-of edition1 f' o (r .packed) o' (i .state) Q (i .stands) y .1) .back in

@@ -3,22 +3,24 @@
 use Prim.Native.Nat.{ℕ}
 use mathlib.Core.Path.{_≡_}
 use mathlib.Core.List.{List}
-use mathlib.Core.Bool.{Bool, true, false}
 use mathlib.Core.Logic.{_↔_, _≢_}
 use lib.ListN.{length}
 use Rattle.model.specs.Edition.{edition1}
 use Rattle.model.specs.Records.{Record}
 use Rattle.model.specs.Promise.{PackPromise}
-use Rattle.model.specs.Call.{Call, put, erase, keyOf, Called}
+use Rattle.model.specs.Call.{Call, put, replace, erase, keyOf, Called}
 use Rattle.demands.specs.Words.{NotRefused, Holds, slotsOf}
+use Rattle.demanded.specs.declared.orders.Kind.{Kind}
+use Rattle.demanded.specs.declared.orders.Kind.the-variants.{Put, Replace, Erase}
 use Rattle.demanded.specs.declared.orders.Given.{Given}
 use Rattle.demanded.specs.declared.orders.Orders.{Orders}
 use Rattle.demanded.specs.declared.orders.Orders.the-variants.{Made, Uncopied}
 use Rattle.demanded.specs.declared.orders.Packs.{Packs}
 
-abbrev pub callOf : Bool → List ℕ → List ℕ → Call
-callOf true k v = erase k
-callOf false k v = put k v
+abbrev pub callOf : Kind → List ℕ → List ℕ → Call
+callOf Put k v = put k v
+callOf Replace k v = replace k v
+callOf Erase k v = erase k
 
 -- c and then d were made on f, and what they left was packed
 pub record InOrder (f o : List ℕ) (c d : Call) (r : Given) (f' o' : List ℕ) : Type 0 where

@@ -4,7 +4,7 @@ use mathlib.Core.Path.{_≡_}
 use mathlib.Core.List.{List}
 use lib.ListN.{take, drop}
 use Rattle.model.specs.Edition.{edition1}
-use Rattle.model.specs.Promise.{FormatPromise, Found, LookUpPromise, PutPromise, PackPromise}
+use Rattle.model.specs.Promise.{FormatPromise, Found, LookUpPromise, PutPromise, PutOrReplacePromise, PackPromise}
 use Rattle.store.specs.Found.{foundIn}
 use Rattle.demands.specs.Words.{NotRefused}
 use Rattle.demanded.specs.declared.readings.InNew.{InNew}
@@ -22,9 +22,9 @@ pub record ReadInNew (f : List ℕ) (len cap : ℕ) (k v : List ℕ) (r : InNew)
   pub looked : LookUpPromise edition1 f' k (foundIn (r .found))
   pub back : NotRefused (r .formatted) → NotRefused (r .put) → (r .put ≡ 0) × GivesBack f' v (foundIn (r .found))
 
--- in the packed image, which is read as a frame
+-- in the packed image, which is read as a frame; whatever the key had before
 pub record ReadInImage (f o k v : List ℕ) (r : InImage) (f' o' : List ℕ) : Type 0 where
-  pub put : PutPromise edition1 f k v (r .put) f'
+  pub put : PutOrReplacePromise edition1 f k v (r .put) f'
   pub packed : PackPromise edition1 f' o (r .packed) o'
   pub looked : LookUpPromise edition1 o' k (foundIn (r .found))
   pub back : NotRefused (r .put) → NotRefused (r .packed) → GivesBack o' v (foundIn (r .found))

@@ -3,6 +3,7 @@ use answers;
 use pack::pack;
 use store::erase::erase;
 use store::put::put;
+use store::put::replace;
 ghost use Rattle.model.specs.Edition.{edition1};
 ghost use Rattle.model.specs.Call.{Called};
 ghost use Rattle.demanded.specs.Orders.{callOf, InOrder, Ordered, PackedBoth};
@@ -21,31 +22,38 @@ pub enum Orders {
     Uncopied,
 }
 
-// A put, or an erase, which has no use for the value.
-fn change(frame: &mut [u8], erases: bool, key: &[u8], value: &[u8]) -> u32
-    ensures { λ n. ⌜ Called edition1 (now (frame .entry)) (callOf erases (now (key .entry)) (now (value .entry))) n (now (frame .exit)) ⌝ }
+// What is done at a key. An erase has no use for the value.
+pub enum Kind {
+    Put,
+    Replace,
+    Erase,
+}
+
+pub fn change(frame: &mut [u8], kind: Kind, key: &[u8], value: &[u8]) -> u32
+    ensures { λ n. ⌜ Called edition1 (now (frame .entry)) (callOf kind (now (key .entry)) (now (value .entry))) n (now (frame .exit)) ⌝ }
 {
-    if erases {
-        return answers::erase_number(erase(frame, key));
+    match kind {
+        Kind::Put => answers::put_number(put(frame, key, value)),
+        Kind::Replace => answers::replace_number(replace(frame, key, value)),
+        Kind::Erase => answers::erase_number(erase(frame, key)),
     }
-    answers::put_number(put(frame, key, value))
 }
 
 // Two calls, and what they leave packed.
 fn in_order(
     frame: &mut [u8],
     out: &mut [u8],
-    first_erases: bool,
+    first_kind: Kind,
     first_key: &[u8],
     first_value: &[u8],
-    second_erases: bool,
+    second_kind: Kind,
     second_key: &[u8],
     second_value: &[u8],
 ) -> Given
-    ensures { λ r. ⌜ InOrder (now (frame .entry)) (now (out .entry)) (callOf «first_erases» (now («first_key» .entry)) (now («first_value» .entry))) (callOf «second_erases» (now («second_key» .entry)) (now («second_value» .entry))) r (now (frame .exit)) (now (out .exit)) ⌝ }
+    ensures { λ r. ⌜ InOrder (now (frame .entry)) (now (out .entry)) (callOf «first_kind» (now («first_key» .entry)) (now («first_value» .entry))) (callOf «second_kind» (now («second_key» .entry)) (now («second_value» .entry))) r (now (frame .exit)) (now (out .exit)) ⌝ }
 {
-    let first = change(frame, first_erases, first_key, first_value);
-    let second = change(frame, second_erases, second_key, second_value);
+    let first = change(frame, first_kind, first_key, first_value);
+    let second = change(frame, second_kind, second_key, second_value);
     let packed = answers::pack_number(pack(frame, out));
     Given {
         first,
@@ -55,20 +63,20 @@ fn in_order(
 }
 
 // "Two calls on different keys, each a put or an erase, give the same answers in both orders and frames that pack to the same bytes,
-// if none is refused."
+// if none is refused." Document 02: it "holds for puts, replacements and erases, 11 counted as an answer and not as a refusal".
 pub fn both_orders(
     frame: &mut [u8],
     out: &mut [u8],
     copy: &mut [u8],
     copy_out: &mut [u8],
-    first_erases: bool,
+    first_kind: Kind,
     first_key: &[u8],
     first_value: &[u8],
-    second_erases: bool,
+    second_kind: Kind,
     second_key: &[u8],
     second_value: &[u8],
 ) -> Orders
-    ensures { λ r. ⌜ Ordered (now (frame .entry)) (now (out .entry)) (now (copy .entry)) (now («copy_out» .entry)) (callOf «first_erases» (now («first_key» .entry)) (now («first_value» .entry))) (callOf «second_erases» (now («second_key» .entry)) (now («second_value» .entry))) r (now (frame .exit)) (now (out .exit)) (now (copy .exit)) (now («copy_out» .exit)) ⌝ }
+    ensures { λ r. ⌜ Ordered (now (frame .entry)) (now (out .entry)) (now (copy .entry)) (now («copy_out» .entry)) (callOf «first_kind» (now («first_key» .entry)) (now («first_value» .entry))) (callOf «second_kind» (now («second_key» .entry)) (now («second_value» .entry))) r (now (frame .exit)) (now (out .exit)) (now (copy .exit)) (now («copy_out» .exit)) ⌝ }
 {
     if copy.len() != frame.len() {
         return Orders::Uncopied;
@@ -77,20 +85,20 @@ pub fn both_orders(
     let forth = in_order(
         frame,
         out,
-        first_erases,
+        first_kind,
         first_key,
         first_value,
-        second_erases,
+        second_kind,
         second_key,
         second_value,
     );
     let back = in_order(
         copy,
         copy_out,
-        second_erases,
+        second_kind,
         second_key,
         second_value,
-        first_erases,
+        first_kind,
         first_key,
         first_value,
     );

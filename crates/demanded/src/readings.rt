@@ -5,6 +5,7 @@ use pack::pack;
 use store::format::format;
 use store::look::look_up;
 use store::put::put;
+use store::put::put_or_replace;
 ghost use Rattle.demanded.specs.Readings.{ReadInNew, ReadInImage};
 
 pub struct InNew {
@@ -33,11 +34,11 @@ pub fn in_new(frame: &mut [u8], length: usize, capacity: usize, key: &[u8], valu
     }
 }
 
-// Put, pack, look-up in the image.
+// Put or replace, pack, look-up in the image.
 pub fn in_image(frame: &mut [u8], out: &mut [u8], key: &[u8], value: &[u8]) -> InImage
     ensures { λ r. ⌜ ReadInImage (now (frame .entry)) (now (out .entry)) (now (key .entry)) (now (value .entry)) r (now (frame .exit)) (now (out .exit)) ⌝ }
 {
-    let given = answers::put_number(put(frame, key, value));
+    let given = answers::put_or_replace_number(put_or_replace(frame, key, value));
     let packed = answers::pack_number(pack(frame, out));
     let found = look_up(out, key);
     InImage {

@@ -5,11 +5,11 @@ use borrow.Author.Needs.{needs}
 use Rattle.demanded.proofs.readings.in_image.Statement.{statement}
 use Rattle.demanded.proofs.readings.in_image.Tie as tie
 
-put-requires : tie.Need-put-requires
-put-requires c κs = search needs
+put-or-replace-requires : tie.Need-put-or-replace-requires
+put-or-replace-requires c κs = search needs
 
-put-number-requires : tie.Need-put-number-requires
-put-number-requires c κs = search needs
+put-or-replace-number-requires : tie.Need-put-or-replace-number-requires
+put-or-replace-number-requires c κs = search needs
 
 pack-requires : tie.Need-pack-requires
 pack-requires c κs = search needs
@@ -35,14 +35,14 @@ returns c =
     let start = putting .before .before in
     let z = start .before .before .before .before .args in
     read-in-image (z .key .now) (z .value .now) (λ a. omega (arith, start .before .shared-slice-known .given a)) (λ a. omega (arith, start .shared-slice-known2 .given a))
-    (rw (given .put-number .ensures) (putting .put .ensures)) (rw (packed .pack-number .ensures) (packing .pack .ensures)) (c .look-up .ensures)
+    (rw (given .put-or-replace-number .ensures) (putting .put-or-replace .ensures)) (rw (packed .pack-number .ensures) (packing .pack .ensures)) (c .look-up .ensures)
 
 pub in-image-spec : {M : Type 1} → statement M
 in-image-spec =
     tie.close
     (tie.spec
-    put-requires
-    put-number-requires
+    put-or-replace-requires
+    put-or-replace-number-requires
     pack-requires
     pack-number-requires
     look-up-requires
