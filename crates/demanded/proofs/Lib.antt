@@ -1,1 +1,2 @@
 pub mod DemandedLaws
+pub mod SequenceLaws

@@ -3,3 +3,4 @@
 // promises can be met: a demand over a promise that no call keeps would not pass here.
 pub mod orders;
 pub mod readings;
+pub mod sequences;
