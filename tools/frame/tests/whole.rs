@@ -34,6 +34,10 @@ fn frame_at(folder: &Folder, library: &PathBuf, at: &str, signal: &str, words: &
     folder.run(command.args(words), b"")
 }
 
+const INTERRUPT: &str = "2";
+const KILL: &str = "9";
+const TERMINATE: &str = "15";
+
 /// Each command that replaces a file.
 const CHANGES: [&[&str]; 7] = [
     &["put", "i", "c", "3"],
@@ -57,18 +61,20 @@ fn an_interrupt_leaves_the_old_image() {
     let folder = with_files("interrupt");
     let library = interrupter(&folder);
     let old = folder.read("i");
+    let interrupted = |at: &str, signal: &str, words: &[&str]| {
+        let ran = frame_at(&folder, &library, at, signal, words);
+        assert_eq!(ran.status, None, "{at} {signal} {words:?}");
+        assert_eq!(folder.read("i"), old, "{at} {signal} {words:?}");
+        let beside = folder.at(&format!("i{BESIDE}"));
+        assert!(beside.exists(), "it was interrupted before the renaming");
+    };
     for at in ["write", "fsync", "rename"] {
-        for signal in ["2", "9", "15"] {
-            for words in CHANGES {
-                let ran = frame_at(&folder, &library, at, signal, words);
-                assert_eq!(ran.status, None, "{at} {signal} {words:?}");
-                assert_eq!(folder.read("i"), old, "{at} {signal} {words:?}");
-                assert!(
-                    folder.at(&format!("i{BESIDE}")).exists(),
-                    "it was interrupted before the renaming"
-                );
-            }
+        for words in CHANGES {
+            interrupted(at, KILL, words);
         }
+    }
+    for signal in [INTERRUPT, TERMINATE] {
+        interrupted("rename", signal, CHANGES[0]);
     }
     // What is left of the interrupted ones is in nobody's way.
     folder.frame(&["put", "i", "c", "3"]).done("");
@@ -78,7 +84,7 @@ fn an_interrupt_leaves_the_old_image() {
         &folder,
         &library,
         "rename",
-        "9",
+        KILL,
         &["new", "j", "--bytes", "1024", "--slots", "8"],
     );
     assert_eq!(ran.status, None);
@@ -112,8 +118,8 @@ fn an_output_that_is_full_or_gone_is_noticed() {
     }
     folder.shell("frame get i a --to /dev/full").stopped("No space left on device");
     folder.shell("frame draw i --svg /dev/full").stopped("No space left on device");
-    let lines: String = (0..3000).map(|n| format!("line.{n}={n}\n")).collect();
-    folder.image("many", 524_288, 8000, &lines);
+    let lines: String = (0..500).map(|n| format!("line.{n}={n}\n")).collect();
+    folder.image("many", 65_536, 1000, &lines);
     let ran = folder.shell("frame draw many --svg - | head -c 10");
     assert_eq!((ran.status, ran.text(), ran.err.as_str()), (Some(0), "<svg xmlns", ""));
 }
