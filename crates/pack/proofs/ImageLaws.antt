@@ -37,54 +37,12 @@ use Rattle.pack_body.proofs.HasLaws.{has-only}
 use Rattle.pack_body.proofs.ImageParts.{Parts, image-of-parts}
 use Rattle.pack.specs.declared.bodies.Next.{Next}
 use Rattle.pack.specs.Laid.{Laid}
-use Rattle.pack.specs.Walk.{longestWalk, SlotIn, Inside, InsideAll, packedLay, TreeReady, TreePacked}
+use Rattle.inside.specs.Inside.{Inside}
+use Rattle.inside.proofs.InsideLaws.{stands-inside}
+use Rattle.pack.specs.Walk.{longestWalk, packedLay, TreeReady, TreePacked}
 use Rattle.pack.specs.Image.{Known, Imaged}
 use Rattle.pack.proofs.LaidLaws.{laid-as}
 use Rattle.pack.proofs.WalkLaws.{length-packed}
-
--- ---- entries and Leaves of a good frame lie in it
-
--- some of the items of a good frame: their slots are 1 to u, and they end before b
-record Among (u b : ℕ) (is : List Item) : Type 0 where
-  pub zeroth : sum (onSlot 0) is ≡ 0
-  pub past : (s : ℕ) → u < s → sum (onSlot s) is ≡ 0
-  pub high : (a : ℕ) → b ≤ a → sum (cover a) is ≡ 0
-
--- fewer of them
-among-less : {u b : ℕ} {is js : List Item} → ((w : Item → ℕ) → sum w js ≤ sum w is) → Among u b is → Among u b js
-among-less h A =
-    record { zeroth = omega (arith, h (onSlot 0), A .zeroth); past = λ s l. omega (arith, h (onSlot s), A .past s l); high = λ a l. omega (arith, h (cover a), A .high a l) }
-
-module _ (f : List ℕ) (u b : ℕ) (table : 64 + 4 * u ≤ length f) (within : b ≤ length f) where
-  module _ (s kind o : ℕ) (is : List Item) (h : (w : Item → ℕ) → w (body s kind o) ≤ sum w is) (A : Among u b is) where
-    slot-inside : SlotIn f s
-    unfolding onSlot
-    slot-inside =
-        record {
-          first = elim (decLe 1 s) [ yes p ↦ p | no p ↦ absurd (omega (arith, in-yes s 1 0 (omega arith) (omega arith), h (onSlot 0), A .zeroth)) ];
-          last = elim (decLe s u) [ yes p ↦ omega arith | no p ↦ absurd (omega (arith, in-yes s 1 s (omega arith) (omega arith), h (onSlot s), A .past s (omega arith))) ];
-        }
-
-    body-inside : 1 ≤ bodySize kind → o + bodySize kind ≤ length f
-    unfolding cover
-    body-inside n = elim (decLe (o + bodySize kind) b) [
-      | yes p ↦ omega arith
-      | no p ↦ let a = o + (bodySize kind - 1) in absurd (omega (arith, in-yes o (bodySize kind) a (omega arith) (omega arith), h (cover a), A .high a (omega arith)))
-    ]
-
-  mutual
-    unfolding Inside InsideAll items itemsAll sum
-
-    inside-tree : (l : Lay) → Among u b (items l) → Inside f l
-    inside-tree (leaf s o e k v) A =
-        (slot-inside s Leaf o (items (leaf s o e k v)) (λ w. omega arith) A, body-inside s Leaf o (items (leaf s o e k v)) (λ w. omega arith) A (omega arith))
-    inside-tree (prefix s o p l) A = (slot-inside s Prefix o (items (prefix s o p l)) (λ w. omega arith) A, inside-tree l (among-less (λ w. omega arith) A))
-    inside-tree (node s o kind ks) A = (slot-inside s kind o (items (node s o kind ks)) (λ w. omega arith) A, inside-all ks (among-less (λ w. omega arith) A))
-
-    inside-all : (ks : LayKids) → Among u b (itemsAll ks) → InsideAll f ks
-    inside-all nil A = tt
-    inside-all (kid c j l ks) A =
-        (inside-tree l (among-less (λ w. omega (arith, sum-app w (items l) (itemsAll ks))) A), inside-all ks (among-less (λ w. omega (arith, sum-app w (items l) (itemsAll ks))) A))
 
 -- ---- no records
 
@@ -161,16 +119,7 @@ module _ {f : List ℕ} {capacity records root : ℕ} (K : Known f capacity reco
       (omega (arith, q .0), omega (arith, q .1))
 
   root-inside : Inside f lay
-  unfolding rootItems
-  root-inside =
-      let H = K .stands .heap .header in
-      let S = K .stands .heap .sound in
-      let a = H .size in let b = H .givenIn in let c = H .bumpIn in
-      let m = K .stands .nums in
-      inside-tree f (m .U) (m .B) (omega arith) (omega arith) lay
-      (among-less {is = rootItems (K .stands .root) ++ freed 1 (K .stands .lists)}
-      (λ w. omega (arith, sum-app w (rootItems (K .stands .root)) (freed 1 (K .stands .lists)), ap (λ (r : Root). sum w (rootItems r)) (rooted .is)))
-      (record { zeroth = S .zeroth; past = S .past; high = S .high }))
+  root-inside = stands-inside edition1 f (K .state) (K .stands) lay (rooted .is)
 
   module _ {n : ℕ} (long : n ≡ length f) {out zeroed : List ℕ} (same : length out ≡ n) (C : Cleared out zeroed 0 n) where
     pub image-start : TreeReady f root longestWalk zeroed (startOf capacity)

@@ -35,7 +35,8 @@ use Rattle.pack_body.specs.Part.{Ascending, partBody}
 use Rattle.pack_body.proofs.NodeLaws.{part-all, ascending-front, well-ascending}
 use Rattle.pack.specs.declared.bodies.Next.{Next}
 use Rattle.pack.specs.Laid.{Room, Laid, NodeFits, ChildFits, ChildLaid}
-use Rattle.pack.specs.Walk.{InsideAll, packedLay, packedRun, TreeReady, TreePacked, packedKind, Going}
+use Rattle.inside.specs.Inside.{InsideAll}
+use Rattle.pack.specs.Walk.{packedLay, packedRun, TreeReady, TreePacked, packedKind, Going}
 use Rattle.pack.proofs.LaidLaws.{laid-as, laid-join, laid-swap, room-first, room-rest, room-only}
 use Rattle.pack.proofs.NodeLaws.{node-slots, node-size, node-entries, node-bodies, glue, count-run, length-part}
 use Rattle.pack.proofs.WalkLaws.{length-packed, is-inner, node-of, node-trees, node-inside, node-room}

@@ -23,63 +23,11 @@ use Rattle.model.proofs.UniqueLaws.{tree-unique}
 use Rattle.audit.proofs.TreeLaws.{node-short, node-kind}
 use Rattle.pack.specs.declared.bodies.Next.{Next}
 use Rattle.pack.specs.Laid.{Room, Laid, LeafFits, LeafLaid, PrefixFits, PrefixLaid}
-use Rattle.pack.specs.Walk.{SlotIn, Inside, InsideAll, packedLay, packedRun, TreeReady, TreePacked}
+use Rattle.inside.specs.Inside.{SlotIn, Inside, InsideAll}
+use Rattle.inside.proofs.InsideLaws.{IsLeaf, IsPrefix, IsInner, leaf-lay, prefix-lay, inner-lay, is-node, slot-in}
+use Rattle.pack.specs.Walk.{packedLay, packedRun, TreeReady, TreePacked}
 use Rattle.pack.proofs.BodiesLaws.{length-prefix}
 use Rattle.pack.proofs.LaidLaws.{laid-as, laid-join, room-first, room-rest}
-
--- ---- which case it is, by the entry
-
--- the entry of a tree's slot, said of the slot
-entry-at : (f : List ℕ) (s' s kind kind' o o' : ℕ) → s' ≡ s → highOf f s ≡ kind' → placeOf f s ≡ o' → Entry f s' kind o → (kind ≡ kind') × (o ≡ o')
-entry-at f s' s kind kind' o o' q h p E = let F : Entry f s kind o = rw q at E in (sym (F .kindIs) ∙ h, sym (F .placeIs) ∙ p)
-
-pub record IsLeaf (s o : ℕ) (l : Lay) : Type 0 where
-  pub extent : ℕ
-  pub key : List ℕ
-  pub value : List ℕ
-  pub is : l ≡ leaf s o extent key value
-
-pub record IsPrefix (s o : ℕ) (l : Lay) : Type 0 where
-  pub bytes : List ℕ
-  pub below : Lay
-  pub is : l ≡ prefix s o bytes below
-
-pub record IsInner (f : List ℕ) (s : ℕ) (l : Lay) : Type 0 where
-  pub kids : LayKids
-  pub is : l ≡ node s (placeOf f s) (highOf f s) kids
-
-module _ (f path : List ℕ) (s o : ℕ) where
-  leaf-lay : (l : Lay) → Tree edition1 f path l → slotOf l ≡ s → highOf f s ≡ Leaf → placeOf f s ≡ o → IsLeaf s o l
-  unfolding Tree
-  leaf-lay (leaf s' o' e k v) T q h p = let w = entry-at f s' s Leaf Leaf o' o q h p (T .0) in let y = w .1 in record { extent = e; key = k; value = v; is = cc }
-  leaf-lay (prefix s' o' b l) T q h p = absurd (omega (arith, entry-at f s' s Prefix Leaf o' o q h p (T .0) .0))
-  leaf-lay (node s' o' kind ks) T q h p = absurd (omega (arith, entry-at f s' s kind Leaf o' o q h p (T .0) .0, T .1 .inner .range))
-
-  prefix-lay : (l : Lay) → Tree edition1 f path l → slotOf l ≡ s → highOf f s ≡ Prefix → placeOf f s ≡ o → IsPrefix s o l
-  unfolding Tree
-  prefix-lay (leaf s' o' e k v) T q h p = absurd (omega (arith, entry-at f s' s Leaf Prefix o' o q h p (T .0) .0))
-  prefix-lay (prefix s' o' b l) T q h p = let w = entry-at f s' s Prefix Prefix o' o q h p (T .0) in let y = w .1 in record { bytes = b; below = l; is = cc }
-  prefix-lay (node s' o' kind ks) T q h p = absurd (omega (arith, entry-at f s' s kind Prefix o' o q h p (T .0) .0, T .1 .inner .range))
-
-inner-lay : (f path : List ℕ) (s : ℕ) (l : Lay) → Tree edition1 f path l → slotOf l ≡ s → 4 ≤ highOf f s → IsInner f s l
-unfolding Tree
-inner-lay f path s (leaf s' o e k v) T q low = absurd (omega (arith, entry-at f s' s Leaf (highOf f s) o (placeOf f s) q refl refl (T .0) .0))
-inner-lay f path s (prefix s' o b l) T q low = absurd (omega (arith, entry-at f s' s Prefix (highOf f s) o (placeOf f s) q refl refl (T .0) .0))
-inner-lay f path s (node s' o kind ks) T q low = let w = entry-at f s' s kind (highOf f s) o (placeOf f s) q refl refl (T .0) in let y = w .0 in let z = w .1 in record { kids = ks; is = cc }
-
--- what is neither a Leaf nor a Prefix is an inner node
-is-node : (f path : List ℕ) (s : ℕ) (l : Lay) → Tree edition1 f path l → slotOf l ≡ s → (highOf f s ≡ Leaf → ⊥) → (highOf f s ≡ Prefix → ⊥) → IsNode l
-unfolding Tree
-is-node f path s (leaf s' o e k v) T q x y = absurd (x (rw q at (T .0 .kindIs)))
-is-node f path s (prefix s' o p l) T q x y = absurd (y (rw q at (T .0 .kindIs)))
-is-node f path s (node s' o kind ks) T q x y = tt
-
--- every slot's entry lies in the frame
-slot-in : (f : List ℕ) (s : ℕ) (l : Lay) → Inside f l → slotOf l ≡ s → SlotIn f s
-unfolding Inside
-slot-in f s (leaf s' o e k v) I q = rw q at (I .0)
-slot-in f s (prefix s' o p l) I q = rw q at (I .0)
-slot-in f s (node s' o kind ks) I q = rw q at (I .0)
 
 -- ---- lengths
 

@@ -13,6 +13,7 @@ use Rattle.model.specs.Image.{smallest, packed, packedKids, slots, slotsKids, s
 use Rattle.model.specs.Frame.{Lay, LayKids, slotOf, art, artKids, pairs, NodeOf, Tree, Trees}
 use Rattle.model.specs.Frame.Lay.{leaf, prefix, node}
 use Rattle.model.specs.Frame.LayKids.{nil, kid}
+use Rattle.inside.specs.Inside.{Inside, InsideAll}
 use Rattle.node.specs.Kids.{Reached}
 use Rattle.pack_body.specs.Part.{partBody}
 use Rattle.pack.specs.declared.bodies.Next.{Next}
@@ -21,22 +22,6 @@ use Rattle.pack.specs.Laid.{Room, Laid}
 -- the most bytes of a walked string: a key of 112 and one byte 0
 abbrev pub longestWalk : ℕ
 longestWalk = 113
-
--- the slot's entry lies in f
-pub record SlotIn (f : List ℕ) (s : ℕ) : Type 0 where
-  pub first : 1 ≤ s
-  pub last : entryAt s + 4 ≤ length f
-
--- every entry and every Leaf's body of a tree lies in f
-unfoldable mutual
-  pub Inside : List ℕ → Lay → Type 0
-  Inside f (leaf s o e k v) = SlotIn f s × (o + bodySize Leaf ≤ length f)
-  Inside f (prefix s o p l) = SlotIn f s × Inside f l
-  Inside f (node s o kind ks) = SlotIn f s × InsideAll f ks
-
-  pub InsideAll : List ℕ → LayKids → Type 0
-  InsideAll f nil = Unit {0}
-  InsideAll f (kid b j l ks) = Inside f l × InsideAll f ks
 
 -- ---- the packed trees of a tree and of children of the frame
 
