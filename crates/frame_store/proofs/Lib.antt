@@ -1,2 +1,3 @@
 pub mod LookUpLaws
 pub mod InfoLaws
+pub mod ListLaws

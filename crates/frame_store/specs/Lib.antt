@@ -1,3 +1,4 @@
 pub mod Tells
 pub mod LookUp
 pub mod Info
+pub mod List

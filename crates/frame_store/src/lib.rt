@@ -1,7 +1,9 @@
 // The calls for C and Rust: numbers and slices only. A slice passes as a pointer and a length.
 use answers;
 use answers::Info;
+use answers::List;
 use answers::LookUp;
+use names;
 use pack;
 use store::erase;
 use store::format;
@@ -10,13 +12,18 @@ use store::look;
 use store::put;
 ghost use Rattle.model.specs.Edition.{edition1};
 ghost use Rattle.model.specs.Promise.{FormatPromise, CheckPromise, PutPromise, ReplacePromise, ErasePromise, PackPromise};
+ghost use mathlib.Core.Path.{_≡_};
 ghost use mathlib.Core.List.{[], _∷_};
 ghost use Rattle.frame_store.specs.Tells.{Tells};
 ghost use Rattle.frame_store.specs.LookUp.{LookedUp};
 ghost use Rattle.frame_store.specs.Info.{Informed};
+ghost use Rattle.answers.specs.Number.{oneIf};
+ghost use Rattle.frame_store.specs.List.{Listed};
 
-// as many numbers as look-up tells, and as info does
+// as many numbers as look-up tells, as a listing does, and as info does
 const FOUND: usize = 3;
+
+const PAGE: usize = 2;
 
 const COUNTS: usize = 14;
 
@@ -120,5 +127,48 @@ pub extern "C" fn frame_info(frame: &[u8], counts: &mut [u64]) -> u32
         counts[12] = c.node256 as u64;
         counts[13] = c.empty_root as u64;
     }
+    n
+}
+
+// 1 if more remain, and else 0.
+fn one_if(more: bool) -> usize
+    ensures { λ r. ⌜ r ≡ oneIf more ⌝ }
+{
+    if more {
+        return 1;
+    }
+    0
+}
+
+// How many entries and whether more remain, where there is room for just two numbers.
+fn tell_page(page: &mut [u64], count: usize, more: usize)
+    ensures { λ r. ⌜ Tells (now (page .entry)) (count ∷ more ∷ []) (now (page .exit)) ⌝ }
+{
+    if page.len() == PAGE {
+        page[0] = count as u64;
+        page[1] = more as u64;
+    }
+}
+
+// A start key is given if `given` is not 0; a delimiter above 255 is none. How many and whether more remain go into the two numbers if there are two
+// and the call is not refused, and nothing otherwise.
+#[no_mangle]
+pub extern "C" fn frame_list(
+    frame: &[u8],
+    prefix: &[u8],
+    start: &[u8],
+    given: usize,
+    delimiter: usize,
+    buffer: &mut [u8],
+    page: &mut [u64],
+) -> u32
+    ensures { λ n. ⌜ Listed (now (frame .entry)) (now (prefix .entry)) (now (start .entry)) given delimiter (now (buffer .entry)) (now (page .entry)) n (now (buffer .exit)) (now (page .exit)) ⌝ }
+{
+    let told = names::list(frame, prefix, start, given != 0, delimiter, buffer);
+    let n = answers::list_number(told);
+    let List::Done(count, more) = told else {
+        return n;
+    };
+    tell_page(page, count, one_if(more));
     n
 }
