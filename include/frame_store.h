@@ -15,13 +15,14 @@
  *   1  FRAME_BAD_LENGTH    format: F or N against the limits, or frame_len is not F; else: frame_len is no F that a frame can have,
  *                          or is not the F that the frame holds
  *   2  FRAME_NOT_GOOD      the bytes are not a good frame
- *   3  FRAME_KEY_LENGTH    the key has no byte, or more than 112
+ *   3  FRAME_KEY_LENGTH    the key has no byte, or more than 112; list: the prefix has more than 112
  *   4  FRAME_KEY_ZERO      the key holds a byte 0
  *   5  FRAME_VALUE_LENGTH  the value has more than 65,535 bytes
  *   7  FRAME_OUT_LENGTH    pack: the output is not as long as the frame
  *   6  FRAME_NO_ROOM       not enough slots or bytes are left for what the call needs
+ *  10  FRAME_BUFFER        list: the buffer is too small for the first entry
  *
- * 1 to 7 are refusals: nothing was changed, not one byte. If several apply, the first in the order 1, 2, 3, 4, 5, 7, 6 is given;
+ * 1 to 7 and 10 are refusals: nothing was changed, not one byte. If several apply, the first in the order 1, 2, 3, 4, 5, 7, 6, 10 is given;
  * 0, 8, 9 and 11 only if none applies.
  *
  * Every call but format begins with a check of the whole frame, so any bytes may be lent: what is not a good frame is answered 2.
@@ -36,9 +37,9 @@
  * nothing leads to them. They are gone from the packed image; until it is used, and the frame overwritten, a secret is still there.
  *
  * What the caller answers for, because no call can test it:
- *   - each pointer leads to as many bytes (for found and counts: numbers) as the length after it says, and is not NULL even
+ *   - each pointer leads to as many bytes (for found, page and counts: numbers) as the length after it says, and is not NULL even
  *     if that length is 0;
- *   - what is lent for writing (frame in format, put, replace and erase; found; out; counts) overlaps nothing else that is lent to the
+ *   - what is lent for writing (frame in format, put, replace and erase; found; buffer; page; out; counts) overlaps nothing else that is lent to the
  *     same call: key and value do not lie in the frame that is written, and out is not the frame;
  *   - nobody else writes to lent bytes during the call, nor reads those that the call writes.
  */
@@ -66,6 +67,7 @@ enum {
     FRAME_OUT_LENGTH = 7,
     FRAME_ABSENT = 8,
     FRAME_REPLACED = 9,
+    FRAME_BUFFER = 10,
     FRAME_PRESENT = 11
 };
 
@@ -166,6 +168,57 @@ static inline uint32_t frame_fullness(const uint8_t *frame, frame_length frame_l
         }
     }
     return given;
+}
+
+/*
+ * Lists names in byte order: writes to the buffer, for each name that begins with the prefix and sorts after the start key, its length in
+ * two bytes, the lower one first, and the name; as many whole ones as fit, and nothing behind them. Gives 0, or a refusal of 1 to 4 or 10.
+ * The prefix has 0 to 112 bytes; has_start 0 is no start key, whatever start is. delimiter 0 to 255 is that byte, anything else none: with
+ * one, all names that share the text up to and including the first delimiter after the prefix give that text as one entry.
+ * page has room for two numbers, and two is 2: then page[0] is how many entries were written, and page[1] is 1 if more remain, else 0. If
+ * the call is refused, or two is not 2, nothing is written there. Where nothing is to be listed, 0 with no entry is given, for any buffer.
+ * The last entry is the start key of the next page, copied out of the buffer first: it may not lie in what is written. Over the pages every
+ * name appears once, if the frame is not changed meanwhile; if it is, each page is right for the frame that it saw.
+ */
+uint32_t frame_list(const uint8_t *frame, frame_length frame_len, const uint8_t *prefix, frame_length prefix_len, const uint8_t *start,
+                    frame_length start_len, frame_length has_start, frame_length delimiter, uint8_t *buffer, frame_length buffer_len,
+                    uint64_t *page, frame_length two);
+
+enum { FRAME_NO_DELIMITER = 256 };
+
+struct frame_page {
+    uint64_t count; /* entries written */
+    uint64_t more;  /* 1 if more remain, else 0 */
+};
+
+/*
+ * The same, with no count to get wrong: start NULL is none, delimiter FRAME_NO_DELIMITER is none, and a refused call leaves the page as it
+ * is.
+ */
+static inline uint32_t frame_names(const uint8_t *frame, frame_length frame_len, const uint8_t *prefix, frame_length prefix_len,
+                                   const uint8_t *start, frame_length start_len, unsigned delimiter, uint8_t *buffer,
+                                   frame_length buffer_len, struct frame_page *page) {
+    uint64_t told[2] = {0, 0};
+    uint32_t given = frame_list(frame, frame_len, prefix, prefix_len, start ? start : prefix, start ? start_len : 0, start ? 1 : 0,
+                                delimiter, buffer, buffer_len, told, 2);
+    if (given == 0) {
+        page->count = told[0];
+        page->more = told[1];
+    }
+    return given;
+}
+
+/* An entry of a page. */
+struct frame_entry {
+    const uint8_t *text;
+    uint32_t length; /* at most 112 */
+};
+
+/* Reads the entry that stands at a place of the buffer, its start at first, and gives the place of the next one. */
+static inline const uint8_t *frame_next_entry(const uint8_t *at, struct frame_entry *entry) {
+    entry->length = (uint32_t)at[0] | (uint32_t)at[1] << 8;
+    entry->text = at + 2;
+    return entry->text + entry->length;
 }
 
 #ifdef __cplusplus

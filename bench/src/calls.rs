@@ -17,10 +17,12 @@ pub enum Call {
     Replace,
     Erase,
     Pack,
+    /// A page of names, after the key if there is one.
+    List,
 }
 
 impl Call {
-    pub const ALL: [Call; 7] = [
+    pub const ALL: [Call; 8] = [
         Call::Format,
         Call::Check,
         Call::LookUp,
@@ -28,6 +30,7 @@ impl Call {
         Call::Replace,
         Call::Erase,
         Call::Pack,
+        Call::List,
     ];
 
     pub fn name(self) -> &'static str {
@@ -39,6 +42,7 @@ impl Call {
             Call::Replace => "replace",
             Call::Erase => "erase",
             Call::Pack => "pack",
+            Call::List => "list",
         }
     }
 
@@ -48,16 +52,20 @@ impl Call {
     }
 }
 
+/// As much of the output as a listing is lent.
+pub const PAGE_BYTES: usize = 2_048;
+
 /// What is lent to a call; each call takes what it needs.
 pub struct Lent<'a> {
     pub frame: &'a mut [u8],
-    /// The output of pack.
+    /// The output of pack, and the buffer of a listing.
     pub out: &'a mut [u8],
     pub key: &'a [u8],
     pub value: &'a [u8],
     /// The slot capacity for format.
     pub n: usize,
-    /// Place, length and slots that look-up gives.
+    /// Place, length and slots that look-up gives; count and whether more remain
+    /// that a listing gives.
     pub found: [u64; 3],
 }
 
@@ -77,7 +85,19 @@ pub fn plain(call: Call) -> Function {
         Call::Replace => |lent| plain::replace(lent.frame, lent.key, lent.value),
         Call::Erase => |lent| plain::erase(lent.frame, lent.key),
         Call::Pack => |lent| plain::pack(lent.frame, lent.out),
+        Call::List => |lent| {
+            let start = (!lent.key.is_empty()).then_some(lent.key);
+            let asked = plain::Asked { prefix: b"", start, delimiter: None };
+            let (number, [count, more]) = plain::list(lent.frame, &asked, page(lent.out));
+            lent.found = [count, more, 0];
+            number
+        },
     }
+}
+
+fn page(out: &mut [u8]) -> &mut [u8] {
+    let length = out.len().min(PAGE_BYTES);
+    &mut out[..length]
 }
 
 /// Every part is passed with its own length, and lives through the call.
@@ -133,10 +153,30 @@ pub fn proved(call: Call) -> Function {
             let (frame, out) = (lent.frame.as_ptr(), lent.out.as_mut_ptr());
             exported::frame_pack(frame, lent.frame.len(), out, lent.out.len())
         },
+        Call::List => |lent| unsafe {
+            let (frame, buffer) = (lent.frame.as_ptr(), page(lent.out));
+            exported::frame_list(
+                frame,
+                lent.frame.len(),
+                b"".as_ptr(),
+                0,
+                lent.key.as_ptr(),
+                lent.key.len(),
+                usize::from(!lent.key.is_empty()),
+                exported::NO_DELIMITER,
+                buffer.as_mut_ptr(),
+                buffer.len(),
+                lent.found.as_mut_ptr(),
+                exported::PAGE_NUMBERS,
+            )
+        },
     }
 }
 
 mod exported {
+    pub const NO_DELIMITER: usize = 256;
+    pub const PAGE_NUMBERS: usize = 2;
+
     extern "C" {
         pub fn frame_format(frame: *mut u8, length: usize, f: usize, n: usize) -> u32;
         pub fn frame_check(frame: *const u8, length: usize) -> u32;
@@ -167,5 +207,19 @@ mod exported {
         pub fn frame_erase(frame: *mut u8, length: usize, key: *const u8, key_length: usize)
             -> u32;
         pub fn frame_pack(frame: *const u8, length: usize, out: *mut u8, out_length: usize) -> u32;
+        pub fn frame_list(
+            frame: *const u8,
+            length: usize,
+            prefix: *const u8,
+            prefix_length: usize,
+            start: *const u8,
+            start_length: usize,
+            has_start: usize,
+            delimiter: usize,
+            buffer: *mut u8,
+            buffer_length: usize,
+            page: *mut u64,
+            numbers: usize,
+        ) -> u32;
     }
 }

@@ -2,19 +2,20 @@
 
 use store_bench::calls::{plain, proved, Call, Lent};
 use store_bench::deepest::{deep_trees, DeepTree};
-use store_bench::measure::measure;
+use store_bench::measure::{measure, page_times, page_to_check, page_to_page};
 use store_bench::plain::layout::MOST_SLOTS;
 use store_bench::stack::bytes_used;
-use store_bench::workload::{wide, workload, Fill, Workload, FRAMES, WIDTHS};
+use store_bench::workload::{page_starts, wide, workload, Fill, Workload, FRAMES, WIDTHS};
 
 fn main() {
     let arguments: Vec<String> = std::env::args().skip(1).collect();
     match arguments.iter().map(String::as_str).collect::<Vec<_>>()[..] {
         [] => times(),
         ["wide"] => wide_times(),
+        ["pages"] => pages(),
         ["stack"] => stacks(),
         _ => {
-            eprintln!("no argument: times; `wide`: those of trees of wide nodes; `stack`: the stack that each call uses");
+            eprintln!("no argument: times; `wide`: those of trees of wide nodes; `pages`: those of a listing; `stack`: the stack that each call uses");
             std::process::exit(2);
         }
     }
@@ -60,6 +61,25 @@ fn times_of(workload: &Workload, what: &str) {
             measured.proved / slots as f64,
         );
     }
+}
+
+/// Pages of names in a full frame of the longest length, beside a check of it.
+fn pages() {
+    let (frame, starts) = page_starts();
+    println!(
+        "{:<12} {:>6} {:>10} {:>10} {:>6} {:>14}",
+        "page", "names", "ns plain", "ns proved", "ratio", "proved / check"
+    );
+    for (name, start) in ["first", "middle", "last"].into_iter().zip(&starts) {
+        let (count, [plain, proved, ratio]) = page_times(&frame, start);
+        let [_, _, to_check] = page_to_check(&frame, start);
+        println!(
+            "{name:<12} {count:>6} {plain:>10.0} {proved:>10.0} {ratio:>6.2} {to_check:>14.2}"
+        );
+    }
+    let [first, _, last] = &starts;
+    let [_, _, ratio] = page_to_page(&frame, first, last);
+    println!("the last page takes {ratio:.2} of the first one's time");
 }
 
 fn stacks() {

@@ -4,8 +4,11 @@
 //! right after one another and in changing order, so that both meet the same
 //! disturbances. Frames are restored before a sample, outside its time.
 
-use crate::calls::{plain, proved, Function, Lent};
-use crate::workload::{Task, Workload};
+use crate::calls::{plain, proved, Call, Function, Lent, PAGE_BYTES};
+use crate::plain::layout::number::DONE;
+use crate::plain::layout::{get16, NAME_LENGTH_BYTES};
+use crate::plain::{list, Asked};
+use crate::workload::{Task, Workload, PAGE_NAMES};
 use std::hint::black_box;
 use std::time::{Duration, Instant};
 
@@ -68,6 +71,71 @@ pub fn alternate(mut first: impl FnMut() -> f64, mut second: impl FnMut() -> f64
         }
     }
     [firsts, seconds, ratios].map(median)
+}
+
+/// A page after the start key (no byte: from the beginning) with both stores:
+/// how many names it has, and the times of the plain and of the proved store
+/// with the ratio of the second to the first.
+pub fn page_times(frame: &[u8], start: &[u8]) -> (u64, [f64; 3]) {
+    let room = page_room(frame, start);
+    let (mut one, mut other) = (Paged::new(frame, start, room), Paged::new(frame, start, room));
+    let times = alternate(|| one.sample(plain(Call::List)), || other.sample(proved(Call::List)));
+    assert_eq!(one.found, other.found, "both stores list the same");
+    (one.found[0], times)
+}
+
+/// The same page beside a check, both of the proved store.
+pub fn page_to_check(frame: &[u8], start: &[u8]) -> [f64; 3] {
+    let room = page_room(frame, start);
+    let (mut check, mut page) = (Paged::new(frame, start, room), Paged::new(frame, start, room));
+    alternate(|| check.sample(proved(Call::Check)), || page.sample(proved(Call::List)))
+}
+
+/// Two pages of the proved store.
+pub fn page_to_page(frame: &[u8], first: &[u8], second: &[u8]) -> [f64; 3] {
+    let paged = |start| Paged::new(frame, start, page_room(frame, start));
+    let (mut one, mut other) = (paged(first), paged(second));
+    alternate(|| one.sample(proved(Call::List)), || other.sample(proved(Call::List)))
+}
+
+/// A buffer for just so many names as a measured page has.
+fn page_room(frame: &[u8], start: &[u8]) -> usize {
+    let mut buffer = [0; PAGE_BYTES];
+    let asked = Asked { prefix: b"", start: (!start.is_empty()).then_some(start), delimiter: None };
+    let (_, [count, _]) = list(frame, &asked, &mut buffer);
+    assert!(count as usize >= PAGE_NAMES, "there are as many names");
+    (0..PAGE_NAMES).fold(0, |at, _| at + NAME_LENGTH_BYTES + get16(&buffer, at))
+}
+
+struct Paged<'a> {
+    frame: Vec<u8>,
+    buffer: Vec<u8>,
+    start: &'a [u8],
+    found: [u64; 3],
+}
+
+impl Paged<'_> {
+    fn new<'a>(frame: &[u8], start: &'a [u8], room: usize) -> Paged<'a> {
+        Paged { frame: frame.to_vec(), buffer: vec![0; room], start, found: [0; 3] }
+    }
+
+    /// Nanoseconds of one call.
+    fn sample(&mut self, function: Function) -> f64 {
+        let mut lent = Lent {
+            frame: &mut self.frame,
+            out: &mut self.buffer,
+            key: self.start,
+            value: b"",
+            n: 0,
+            found: [0; 3],
+        };
+        let start = Instant::now();
+        let number = function(black_box(&mut lent));
+        let time = start.elapsed();
+        assert_eq!(number, DONE, "the call is done");
+        self.found = black_box(lent.found);
+        time.as_nanos() as f64
+    }
 }
 
 fn median(mut values: Vec<f64>) -> f64 {

@@ -8,11 +8,13 @@
 mod change;
 mod check;
 pub mod layout;
+mod list;
 mod pack;
 mod walk;
 
 pub use change::{erase, put, replace};
 pub use check::check;
+pub use list::{list, Asked};
 pub use pack::pack;
 
 use layout::number::*;
@@ -59,8 +61,16 @@ pub fn look_up(frame: &[u8], key: &[u8]) -> (u32, [u64; 3]) {
 /// Refusals 1 to 4, in their order.
 fn refusal(frame: &[u8], key: &[u8]) -> u32 {
     match check(frame) {
-        DONE if !(1..=LONGEST_KEY).contains(&key.len()) => KEY_LENGTH,
-        DONE if key.contains(&END_BYTE) => KEY_HOLDS_ZERO,
-        checked => checked,
+        DONE => key_refusal(key),
+        refused => refused,
+    }
+}
+
+/// Refusals 3 and 4.
+fn key_refusal(key: &[u8]) -> u32 {
+    match key {
+        _ if !(1..=LONGEST_KEY).contains(&key.len()) => KEY_LENGTH,
+        _ if key.contains(&END_BYTE) => KEY_HOLDS_ZERO,
+        _ => DONE,
     }
 }

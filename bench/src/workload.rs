@@ -122,6 +122,19 @@ pub fn sought_text() -> (Vec<u8>, Vec<Record>) {
     (frame, records)
 }
 
+/// The names on a page that is measured.
+pub const PAGE_NAMES: usize = 50;
+
+/// A full frame of the longest length, and the start keys of a page at its
+/// beginning (none: no byte), in its middle and at its end.
+pub fn page_starts() -> (Vec<u8>, [Vec<u8>; 3]) {
+    let (frame, mut records) = sought_text();
+    records.sort_by(|one, other| one.key.cmp(&other.key));
+    let before = |place: usize| records[place - 1].key.clone();
+    let starts = [Vec::new(), before(records.len() / 2), before(records.len() - PAGE_NAMES)];
+    (frame, starts)
+}
+
 pub fn workload(f: usize, n: usize, fill: Fill) -> Workload {
     let (records, absent, frame) = filled(f, n, fill);
     let tasks = tasks(&frame, n, &records, &absent);
@@ -194,6 +207,7 @@ fn tasks(frame: &[u8], n: usize, present: &[Record], absent: &[Record]) -> Vec<T
         ("replace, other length", Call::Replace, REPLACED, with(present, other_length)),
         ("erase", Call::Erase, DONE, keys(present)),
         ("pack", Call::Pack, DONE, nothing()),
+        ("list, first page", Call::List, DONE, nothing()),
     ];
     tasks
         .into_iter()

@@ -4,7 +4,7 @@
 use second_store::compare::{Calls, Comparer};
 use second_store::layout::INFO_NUMBERS;
 use second_store::run::{all_stages, Effort};
-use second_store::{history, store};
+use second_store::{history, names, store};
 use store_bench::plain;
 
 struct Plain;
@@ -28,6 +28,12 @@ impl Calls for Plain {
     }
     fn erase(&self, frame: &mut [u8], key: &[u8]) -> u32 {
         plain::erase(frame, key)
+    }
+    fn list(&self, frame: &[u8], asked: &names::Asked, buffer: &mut [u8]) -> names::Page {
+        let names::Asked { prefix, start, delimiter } = *asked;
+        let asked = plain::Asked { prefix, start, delimiter };
+        let (number, [count, more]) = plain::list(frame, &asked, buffer);
+        names::Page { number, count, more }
     }
     fn pack(&self, frame: &[u8], out: &mut [u8]) -> u32 {
         plain::pack(frame, out)

@@ -4,9 +4,10 @@
 use second_store::check::{check, read};
 use second_store::decode;
 use second_store::layout::number::{DONE, NO_ROOM};
+use second_store::names::{list, Asked};
 use second_store::slotless::Tree;
 use second_store::store;
-use store_bench::calls::Call;
+use store_bench::calls::{Call, PAGE_BYTES};
 use store_bench::deepest::deep_trees;
 use store_bench::workload::{wide, workload, Fill, Workload, ABSENT_OF_WIDE, FRAMES, WIDTHS};
 
@@ -47,6 +48,10 @@ fn gives_the_numbers_it_tells(workload: &Workload, what: &str) {
             Call::Replace => store::replace(&mut frame, &input.key, &input.value),
             Call::Erase => store::erase(&mut frame, &input.key),
             Call::Pack => store::pack(&frame, &mut vec![0; f]),
+            Call::List => {
+                let asked = Asked { prefix: b"", start: None, delimiter: None };
+                list(&frame, &asked, &mut vec![0; f.min(PAGE_BYTES)]).number
+            }
         };
         assert_eq!(number, task.number, "{} of {f} bytes, {what}", task.name);
     }

@@ -1,6 +1,6 @@
 /*
- * A frame of 1,024 bytes with 8 slots: three settings put, one replaced, one read, one erased, the rest packed, and how full the frame is before and
- * after that. README.md says how to build it.
+ * A frame of 1,024 bytes with 8 slots: three settings put, one replaced, one read, all listed, one erased, the rest packed, and how full the frame
+ * is before and after that. README.md says how to build it.
  */
 #include <stdio.h>
 #include <string.h>
@@ -9,6 +9,7 @@
 
 #define F 1024
 #define N 8
+#define LONGEST 112 /* name */
 
 static uint8_t frame[F];
 static uint8_t packed[F];
@@ -35,6 +36,31 @@ static void show(const uint8_t *from, const char *key) {
     printf("\n");
 }
 
+/* All names with a prefix, a page at a time: the buffer holds any name, and small ones two or three. */
+static void list(const char *prefix, unsigned delimiter) {
+    uint8_t buffer[2 + LONGEST], last[LONGEST];
+    struct frame_page page = {0, 0};
+    struct frame_entry entry = {NULL, 0};
+    const uint8_t *start = NULL;
+    printf("list %s:", prefix);
+    do {
+        const uint8_t *at = buffer;
+        uint32_t given = frame_names(frame, F, bytes(prefix), strlen(prefix), start, entry.length, delimiter, buffer, sizeof buffer, &page);
+        if (given != FRAME_DONE) {
+            printf(" %u", (unsigned)given);
+            break;
+        }
+        for (uint64_t i = 0; i < page.count; i++) {
+            at = frame_next_entry(at, &entry);
+            printf(" %.*s", (int)entry.length, (const char *)entry.text);
+        }
+        if (page.more) {
+            start = memcpy(last, entry.text, entry.length); /* the next page starts after the last entry */
+        }
+    } while (page.more);
+    printf("\n");
+}
+
 static void tell(const uint8_t *of) {
     struct frame_counts counts;
     uint32_t given = frame_fullness(of, F, &counts);
@@ -55,6 +81,8 @@ int main(void) {
     show(frame, "line.mode");
     replace("line.mode", "adsl");
     show(frame, "line.mode");
+    list("line.", FRAME_NO_DELIMITER);
+    list("", '.');
     printf("erase host: %u\n", (unsigned)frame_erase(frame, F, bytes("host"), 4));
     show(frame, "host");
     tell(frame);

@@ -86,6 +86,8 @@ pub const PREFIX_START: usize = 16;
 pub const INNER_COUNT: usize = 0;
 pub const INNER_ZERO: usize = 2;
 pub const INDEX_ENTRIES: usize = 256;
+/// The length that stands before a name of a listing.
+pub const NAME_LENGTH_BYTES: usize = 2;
 
 /// The numbers a call can give.
 pub mod number {
@@ -99,6 +101,7 @@ pub mod number {
     pub const OUTPUT_LENGTH: u32 = 7;
     pub const ABSENT: u32 = 8;
     pub const REPLACED: u32 = 9;
+    pub const BUFFER: u32 = 10;
     pub const PRESENT: u32 = 11;
 }
 

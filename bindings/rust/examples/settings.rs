@@ -1,4 +1,4 @@
-//! Settings of a modem in a frame of 1,024 bytes: put, replaced, read, erased, packed, and read again from the packed bytes.
+//! Settings of a modem in a frame of 1,024 bytes: put, replaced, read, listed, erased, packed, and read again from the packed bytes.
 #![forbid(unsafe_code)]
 
 use frame_store::{Frame, Refusal, View};
@@ -12,6 +12,11 @@ fn main() -> Result<(), Refusal> {
     println!("put line.mode=adsl: {:?}", frame.put(b"line.mode", b"adsl")?);
     println!("replace line.mode=adsl: {:?}", frame.replace(b"line.mode", b"adsl")?);
     show(frame.view(), "line.mode")?;
+    let mut buffer = [0; 114];
+    let mut names = frame.names(b"line.", &mut buffer);
+    while let Some(entry) = names.next_entry()? {
+        println!("name {}", String::from_utf8_lossy(entry.text()));
+    }
     println!("erase host: {:?}", frame.erase(b"host")?);
     show(frame.view(), "host")?;
 

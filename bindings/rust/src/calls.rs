@@ -53,6 +53,20 @@ mod c {
             out: *mut u8,
             out_len: Length,
         ) -> u32;
+        pub fn frame_list(
+            frame: *const u8,
+            frame_len: Length,
+            prefix: *const u8,
+            prefix_len: Length,
+            start: *const u8,
+            start_len: Length,
+            has_start: Length,
+            delimiter: Length,
+            buffer: *mut u8,
+            buffer_len: Length,
+            page: *mut u64,
+            two: Length,
+        ) -> u32;
         pub fn frame_info(
             frame: *const u8,
             frame_len: Length,
@@ -102,6 +116,40 @@ pub fn erase(frame: &mut [u8], key: &[u8]) -> u32 {
 pub fn pack(frame: &[u8], out: &mut [u8]) -> u32 {
     let (frame_len, out_len) = (length(frame.len()), length(out.len()));
     unsafe { c::frame_pack(frame.as_ptr(), frame_len, out.as_mut_ptr(), out_len) }
+}
+
+/// As a delimiter: none.
+const NO_DELIMITER: Length = 256;
+
+pub fn list(
+    frame: &[u8],
+    prefix: &[u8],
+    start: Option<&[u8]>,
+    delimiter: Option<u8>,
+    buffer: &mut [u8],
+) -> (u32, [u64; 2]) {
+    let mut page = [0; 2];
+    let (has_start, start) = (Length::from(start.is_some()), start.unwrap_or_default());
+    let delimiter = delimiter.map_or(NO_DELIMITER, Length::from);
+    let (buffer_len, two) = (length(buffer.len()), length(page.len()));
+    let (buffer, lent) = (buffer.as_mut_ptr(), page.as_mut_ptr());
+    let number = unsafe {
+        c::frame_list(
+            frame.as_ptr(),
+            length(frame.len()),
+            prefix.as_ptr(),
+            length(prefix.len()),
+            start.as_ptr(),
+            length(start.len()),
+            has_start,
+            delimiter,
+            buffer,
+            buffer_len,
+            lent,
+            two,
+        )
+    };
+    (number, page)
 }
 
 pub fn info(frame: &[u8]) -> (u32, [u64; 14]) {

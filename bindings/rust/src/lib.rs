@@ -29,6 +29,9 @@
 #![deny(unsafe_code)]
 
 mod calls;
+mod names;
+
+pub use names::{Entries, Entry, Names, Page};
 
 use core::fmt;
 use core::ops::Range;
@@ -40,7 +43,7 @@ pub enum Refusal {
     Length,
     /// 2: the bytes are not a good frame.
     Frame,
-    /// 3: the key has no byte, or more than 112.
+    /// 3: the key has no byte, or more than 112; in a listing also: the prefix has more than 112.
     KeyLength,
     /// 4: the key holds a byte 0.
     KeyZero,
@@ -50,6 +53,8 @@ pub enum Refusal {
     Output,
     /// 6: not enough slots or bytes are left for what the call needs.
     Room,
+    /// 10: a listing's buffer is too small for the first entry.
+    Buffer,
 }
 
 impl Refusal {
@@ -63,10 +68,11 @@ impl Refusal {
             Refusal::ValueLength => 5,
             Refusal::Room => 6,
             Refusal::Output => 7,
+            Refusal::Buffer => 10,
         }
     }
 
-    const ALL: [Refusal; 7] = [
+    const ALL: [Refusal; 8] = [
         Refusal::Length,
         Refusal::Frame,
         Refusal::KeyLength,
@@ -74,6 +80,7 @@ impl Refusal {
         Refusal::ValueLength,
         Refusal::Output,
         Refusal::Room,
+        Refusal::Buffer,
     ];
 
     fn of_number(number: u32) -> Refusal {
@@ -90,11 +97,12 @@ impl fmt::Display for Refusal {
                  and an even number of slots from 8 to 10,240, for each of which 4 bytes are taken"
             }
             Refusal::Frame => "the bytes are not a good frame",
-            Refusal::KeyLength => "the key has no byte, or more than 112",
+            Refusal::KeyLength => "the key has no byte, or it or the prefix has more than 112",
             Refusal::KeyZero => "the key holds a byte 0",
             Refusal::ValueLength => "the value has more than 65,535 bytes",
             Refusal::Output => "the output is not as long as the frame",
             Refusal::Room => "too few slots or bytes are left for this call; `Info::lacked` tells which, and packing gives back what is no longer used",
+            Refusal::Buffer => "the buffer is too small for the first entry",
         })
     }
 }
@@ -281,6 +289,50 @@ impl<'a> View<'a> {
         }
     }
 
+    /// One page of names: those that begin with the prefix (0 to 112 bytes) and sort after the start key, in byte order, as many as fit
+    /// the buffer; [`Page::entries`] reads them there. With a delimiter all names that share the text up to and including the first
+    /// delimiter after the prefix give that text as one entry. The last entry is the start key of the next page.
+    pub fn list(
+        self,
+        prefix: &[u8],
+        start: Option<&[u8]>,
+        delimiter: Option<u8>,
+        buffer: &mut [u8],
+    ) -> Result<Page, Refusal> {
+        match calls::list(self.bytes, prefix, start, delimiter, buffer) {
+            (DONE, [count, more]) => Ok(Page { count: in_frame(count), more: more != 0 }),
+            (refused, _) => Err(Refusal::of_number(refused)),
+        }
+    }
+
+    /// All names that begin with the prefix, in byte order, a page at a time through the buffer: [`Names::next_entry`] gives them one by
+    /// one. A buffer of 114 bytes is enough for any name; each page costs a check of the frame, so a larger one is quicker.
+    ///
+    /// ```
+    /// # use frame_store::{Entry, Frame, Refusal};
+    /// # let mut frame = Frame::format([0; 1024], 8)?;
+    /// # frame.put(b"host", b"modem")?;
+    /// # frame.put(b"line.mode", b"vdsl")?;
+    /// # frame.put(b"line.rate", b"100")?;
+    /// let mut buffer = [0; 114];
+    /// let mut names = frame.view().names(b"line.", &mut buffer);
+    /// assert_eq!(names.next_entry()?, Some(Entry::Name(b"line.mode")));
+    /// assert_eq!(names.next_entry()?, Some(Entry::Name(b"line.rate")));
+    /// assert_eq!(names.next_entry()?, None);
+    ///
+    /// let mut groups = frame.view().names(b"", &mut buffer).grouped(b'.');
+    /// assert_eq!(groups.next_entry()?, Some(Entry::Name(b"host")));
+    /// assert_eq!(groups.next_entry()?, Some(Entry::Group(b"line.")));
+    /// assert_eq!(groups.next_entry()?, None);
+    /// # Ok::<(), Refusal>(())
+    /// ```
+    pub fn names<'n>(self, prefix: &'n [u8], buffer: &'n mut [u8]) -> Names<'n>
+    where
+        'a: 'n,
+    {
+        Names::new(self, prefix, buffer)
+    }
+
     /// The frame's bytes, to be stored.
     pub fn bytes(self) -> &'a [u8] {
         self.bytes
@@ -374,6 +426,11 @@ impl<B: AsRef<[u8]> + AsMut<[u8]>> Frame<B> {
     /// Writes the packed image of the records to `out`; see [`View::pack`]. This frame stays as it is.
     pub fn pack<O: AsMut<[u8]>>(&self, out: O) -> Result<Frame<O>, Refusal> {
         self.view().pack(out)
+    }
+
+    /// All names that begin with the prefix, in byte order, a page at a time through the buffer; see [`View::names`].
+    pub fn names<'n>(&'n self, prefix: &'n [u8], buffer: &'n mut [u8]) -> Names<'n> {
+        self.view().names(prefix, buffer)
     }
 
     /// How full the frame is.

@@ -1,7 +1,7 @@
 //! Every answer of every call, through the safe calls.
 #![forbid(unsafe_code)]
 
-use frame_store::{check, Erase, Frame, Info, Lack, Put, Refusal, Replace, View};
+use frame_store::{check, Entry, Erase, Frame, Info, Lack, Page, Put, Refusal, Replace, View};
 
 const F: usize = 1_024;
 const N: usize = 8;
@@ -106,10 +106,79 @@ fn bytes_that_were_not_looked_at_are_refused_by_each_call() {
         assert_eq!(frame.look_up(b"a"), Err(refusal));
         assert_eq!(View::over(&bytes).place(b"a"), Err(refusal));
         assert_eq!(frame.visits(b"a"), Err(refusal));
+        assert_eq!(frame.view().list(b"", None, None, &mut [0; 114]), Err(refusal));
+        assert_eq!(frame.names(b"", &mut [0; 114]).next_entry(), Err(refusal));
         assert_eq!(frame.pack([0; F]).err(), Some(refusal));
         assert_eq!(frame.info(), Err(refusal));
         assert_eq!(frame.into_bytes(), bytes);
     }
+}
+
+/// Document 02's words in small: names, groups and what shares their letters.
+const NAMES: [&[u8]; 7] = [b"a", b"a/b", b"a/c", b"ab", b"b/x", b"b/y", b"c"];
+
+fn named() -> Result<Frame<[u8; F]>, Refusal> {
+    let mut frame = Frame::format([0; F], 32)?;
+    for name in NAMES.iter().rev() {
+        frame.put(name, b"1")?;
+    }
+    Ok(frame)
+}
+
+#[test]
+fn a_page_of_names() -> Result<(), Refusal> {
+    let frame = named()?;
+    let listed = |prefix: &[u8], start: Option<&[u8]>, delimiter, room: usize| {
+        let mut buffer = [0xEE; 32];
+        let page = frame.view().list(prefix, start, delimiter, &mut buffer[..room])?;
+        let texts: Vec<Vec<u8>> =
+            page.entries(&buffer, prefix, delimiter).map(|entry| entry.text().to_vec()).collect();
+        let written = texts.iter().map(|text| 2 + text.len()).sum::<usize>();
+        assert!(buffer[written..].iter().all(|byte| *byte == 0xEE), "nothing behind the entries");
+        Ok((page, texts.join(&b' ')))
+    };
+    let page = |count, more| Page { count, more };
+    for (prefix, start, delimiter, room, expected) in [
+        (&b""[..], None, None, 12, Ok((page(2, true), &b"a a/b"[..]))),
+        (b"", Some(&b"a/b"[..]), None, 8, Ok((page(1, true), b"a/c"))),
+        (b"", None, Some(b'/'), 18, Ok((page(5, false), b"a a/ ab b/ c"))),
+        (b"", Some(b"a/"), Some(b'/'), 18, Ok((page(3, false), b"ab b/ c"))),
+        (b"", Some(b"a/b"), Some(b'/'), 18, Ok((page(3, false), b"ab b/ c"))),
+        (b"a/", None, Some(b'/'), 18, Ok((page(2, false), b"a/b a/c"))),
+        (b"a", Some(b"b"), None, 18, Ok((page(0, false), b""))),
+        (b"d", None, None, 0, Ok((page(0, false), b""))),
+        (b"", None, None, 2, Err(Refusal::Buffer)),
+        (b"\0", None, None, 18, Ok((page(0, false), b""))),
+        (&[b'a'; 113], Some(b"\0"), None, 18, Err(Refusal::KeyLength)),
+        (b"", Some(b"a\0"), None, 18, Err(Refusal::KeyZero)),
+        (b"", Some(b""), None, 18, Err(Refusal::KeyLength)),
+    ] {
+        let expected = expected.map(|(page, texts)| (page, texts.to_vec()));
+        assert_eq!(listed(prefix, start, delimiter, room), expected);
+    }
+    Ok(())
+}
+
+#[test]
+fn names_page_by_themselves() -> Result<(), Refusal> {
+    let frame = named()?;
+    for room in [5, 6, 8, 11, 64] {
+        let mut buffer = vec![0; room];
+        let mut names = frame.names(b"", &mut buffer);
+        for name in NAMES {
+            assert_eq!(names.next_entry()?, Some(Entry::Name(name)), "in {room} bytes");
+        }
+        assert_eq!(names.next_entry()?, None);
+        assert_eq!(names.next_entry()?, None, "and none after that");
+        let mut groups = frame.names(b"", &mut buffer).grouped(b'/').after(b"a");
+        assert_eq!(groups.next_entry()?, Some(Entry::Group(b"a/")));
+        assert_eq!(groups.next_entry()?, Some(Entry::Name(b"ab")));
+        assert_eq!(groups.next_entry()?, Some(Entry::Group(b"b/")));
+        assert_eq!(groups.next_entry()?, Some(Entry::Name(b"c")));
+        assert_eq!(groups.next_entry()?, None);
+    }
+    assert_eq!(frame.names(b"a/", &mut [0; 4]).next_entry(), Err(Refusal::Buffer));
+    Ok(())
 }
 
 fn no_good_frame() -> [u8; F] {
@@ -244,6 +313,7 @@ fn every_refusal_has_its_number_and_words() {
         (Refusal::ValueLength, 5),
         (Refusal::Room, 6),
         (Refusal::Output, 7),
+        (Refusal::Buffer, 10),
     ];
     for (refusal, number) in all {
         assert_eq!(refusal.number(), number);

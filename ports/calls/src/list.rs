@@ -15,8 +15,12 @@ pub const LONGEST_VALUE: usize = 65_535;
 pub const LONGEST_KEY: usize = 112;
 /// A look-up writes its numbers only if it is lent so many.
 pub const LOOK_UP_NUMBERS: usize = 3;
-/// So does an info.
+/// So does an info,
 pub const INFO_NUMBERS: usize = 14;
+/// and a listing.
+pub const LIST_NUMBERS: usize = 2;
+/// As a delimiter: none.
+pub const NO_DELIMITER: u64 = 256;
 
 // Room for the longest thing that stands there, for an odd place, and for what the runner looks at beyond its ends.
 const BESIDE: usize = 64;
@@ -24,7 +28,8 @@ const FRAME_AT: usize = BESIDE;
 const OUT_AT: usize = FRAME_AT + LONGEST_FRAME + BESIDE;
 const KEPT_AT: usize = OUT_AT + LONGEST_FRAME + BESIDE;
 const KEY_AT: usize = KEPT_AT + LONGEST_FRAME + BESIDE;
-const VALUE_AT: usize = KEY_AT + 256 + BESIDE;
+const START_AT: usize = KEY_AT + 256 + BESIDE;
+const VALUE_AT: usize = START_AT + 256 + BESIDE;
 const END: usize = VALUE_AT + LONGEST_VALUE + 1 + BESIDE;
 const NUMBERS_AT: usize = (END + BESIDE) / 8 * 8;
 
@@ -35,6 +40,14 @@ const DIRT: u8 = 0xA5;
 pub struct Value {
     pub length: usize,
     pub seed: u32,
+}
+
+/// What names are asked for.
+#[derive(Clone, Copy)]
+pub struct Names<'a> {
+    pub prefix: &'a [u8],
+    pub start: Option<&'a [u8]>,
+    pub delimiter: u64,
 }
 
 /// The list, and the frame that its calls are about.
@@ -174,6 +187,20 @@ impl List {
         self.line(format_args!("call frame_info {} {NUMBERS_AT}*{numbers}", List::lent(frame)));
     }
 
+    pub fn list_of(&mut self, frame: Bytes, names: Names, buffer: usize, numbers: usize) {
+        let prefix = self.key(names.prefix);
+        let start = names.start.unwrap_or_default();
+        let lent = Bytes { at: START_AT + self.odd[3], length: start.len() };
+        self.set(lent.at, start);
+        self.dirty(numbers);
+        let (given, delimiter) = (u64::from(names.start.is_some()), names.delimiter);
+        let (frame, prefix, start) = (List::lent(frame), List::lent(prefix), List::lent(lent));
+        let buffer = List::lent(self.out(buffer));
+        self.line(format_args!(
+            "call frame_list {frame} {prefix} {start} ={given} ={delimiter} {buffer} {NUMBERS_AT}*{numbers}"
+        ));
+    }
+
     /// Known bytes where so many numbers are lent, and one beside them.
     fn dirty(&mut self, numbers: usize) {
         self.line(format_args!("fill {} {} {DIRT}", NUMBERS_AT - 8, (numbers + 2) * 8));
@@ -215,6 +242,10 @@ impl List {
         self.pack_of(self.frame, self.out(self.frame.length));
     }
 
+    pub fn list(&mut self, names: Names, buffer: usize) {
+        self.list_of(self.frame, names, buffer, LIST_NUMBERS);
+    }
+
     pub fn info(&mut self) {
         self.info_of(self.frame, INFO_NUMBERS);
     }
@@ -224,6 +255,7 @@ impl List {
         self.check();
         self.info();
         self.look_up(key);
+        self.list(Names { prefix: key, start: Some(key), delimiter: NO_DELIMITER }, value.length);
         self.pack();
         self.put(key, value);
         self.replace(key, value);

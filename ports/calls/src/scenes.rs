@@ -4,7 +4,8 @@
 //! runs out. Which answers a run must have met stands in `ports/answers.txt`.
 
 use crate::list::{
-    Bytes, List, Value, INFO_NUMBERS, LONGEST_FRAME, LONGEST_KEY, LONGEST_VALUE, LOOK_UP_NUMBERS,
+    Bytes, List, Names, Value, INFO_NUMBERS, LIST_NUMBERS, LONGEST_FRAME, LONGEST_KEY,
+    LONGEST_VALUE, LOOK_UP_NUMBERS, NO_DELIMITER,
 };
 use crate::random::Random;
 
@@ -79,6 +80,7 @@ fn history(list: &mut List, random: &mut Random, keys: &Keys, steps: usize) {
         match random.below(16) {
             0 => list.check(),
             4 => list.info(),
+            5 => listing(list, random, &key),
             1 | 2 => list.look_up(&key),
             3 => {
                 list.pack();
@@ -90,6 +92,19 @@ fn history(list: &mut List, random: &mut Random, keys: &Keys, steps: usize) {
         }
     }
     list.pack();
+}
+
+/// Names that begin as a key does, or all; after a key that may be there, or from the first; with a delimiter, one that no key has, or none.
+fn listing(list: &mut List, random: &mut Random, key: &[u8]) {
+    let cut = random.below(key.len() + 1);
+    let start = random.pick::<[u8]>(&[b"a", b"line.1", b"m\x40", b"pppp", b"\xff"]);
+    let names = Names {
+        prefix: if random.one_in(2) { b"" } else { &key[..cut.min(LONGEST_KEY)] },
+        start: (!random.one_in(3)).then_some(start),
+        delimiter: [b'.'.into(), b'p'.into(), b'b'.into(), 0, NO_DELIMITER, u64::MAX]
+            [random.below(6)],
+    };
+    list.list(names, [0, 2, 3, 9, 40, 700][random.below(6)]);
 }
 
 fn odd(random: &mut Random) -> [usize; 4] {
@@ -130,6 +145,8 @@ fn refusals(list: &mut List) {
         list.check_of(long(length));
         list.info_of(long(length), INFO_NUMBERS);
         list.look_up_of(long(length), b"", LOOK_UP_NUMBERS);
+        let names = Names { prefix: &[b'k'; 113], start: Some(b""), delimiter: NO_DELIMITER };
+        list.list_of(long(length), names, 0, LIST_NUMBERS);
         list.put_of(long(length), b"", Value { length: LONGEST_VALUE + 1, seed: 5 });
         list.replace_of(long(length), b"", Value { length: LONGEST_VALUE + 1, seed: 5 });
         list.erase_of(long(length), b"a\0");
@@ -150,6 +167,11 @@ fn refusals(list: &mut List) {
     for numbers in [0, 1, 2, 3, 4] {
         list.look_up_of(frame, b"a", numbers);
         list.look_up_of(frame, b"b", numbers);
+    }
+    for numbers in [0, 1, 2, 3] {
+        for (start, buffer) in [(None, 2), (None, 3), (Some(&b"a"[..]), 0), (Some(b"a\0"), 9)] {
+            list.list_of(frame, Names { prefix: b"", start, delimiter: 0 }, buffer, numbers);
+        }
     }
     for numbers in [0, 1, INFO_NUMBERS - 1, INFO_NUMBERS, INFO_NUMBERS + 1] {
         list.info_of(frame, numbers);
@@ -354,6 +376,8 @@ pub fn deepest(list: &mut List) {
         list.info();
         list.look_up(&[DOWN; LONGEST_KEY]);
         list.look_up(&[DOWN; LONGEST_KEY - 1]);
+        list.list(Names { prefix: b"", start: None, delimiter: NO_DELIMITER }, 4_096);
+        list.list(Names { prefix: b"z", start: Some(&[DOWN; 100]), delimiter: 1 }, 4_096);
         list.pack();
         let mut aside = vec![DOWN; LONGEST_KEY - 1];
         aside.push(children);
@@ -383,6 +407,7 @@ pub fn times(list: &mut List) {
         list.check();
         list.info();
         list.look_up(b"line.rate");
+        list.list(Names { prefix: b"", start: None, delimiter: NO_DELIMITER }, 1_000);
         list.put(b"line.rates", Value { length: 8, seed: 61 });
         list.replace(b"line.rate", Value { length: 8, seed: 61 });
         list.erase(b"line.rate");
