@@ -3,9 +3,10 @@
 use crate::args::Given;
 use crate::ended::Ended;
 use crate::image;
-use crate::names::{self, Asked, Entry};
+use crate::names::{self, Asked};
 use crate::output;
 use crate::text;
+use frame_store::Entry;
 
 /// Ends a raw name: no key holds it.
 const END: u8 = 0;
@@ -20,16 +21,13 @@ pub fn run(given: &Given) -> Result<(), Ended> {
     let prefix = given.bytes_operand(1)?.unwrap_or_default();
     let asked = Asked { prefix, delimiter, after: given.bytes_option("--after")? };
     let frame = image::open(path)?;
-    let refused = |refusal: frame_store::Refusal| {
-        Ended::at(path, format!("list refused (answer {}): {refusal}", refusal.number()))
-    };
     let mut listed = Vec::new();
-    for entry in names::entries(&frame, &asked).map_err(refused)? {
+    let done = names::each(&frame, &asked, |entry| {
         if given.flag("--long") {
-            let columns = match &entry {
+            let columns = match entry {
                 Entry::Name(key) => {
-                    let place = frame.place(key).map_err(refused)?.unwrap_or_default();
-                    let slots = frame.visits(key).map_err(refused)?;
+                    let place = frame.place(key)?.unwrap_or_default();
+                    let slots = frame.visits(key)?;
                     format!("{:>5} {:>6} {slots:>3}  ", place.len(), place.start)
                 }
                 Entry::Group(_) => format!("{:>5} {:>6} {:>3}  ", "-", "-", "-"),
@@ -43,6 +41,10 @@ pub fn run(given: &Given) -> Result<(), Ended> {
             listed.extend(text::shown(entry.text(), b"").bytes());
             listed.push(b'\n');
         }
-    }
+        Ok(())
+    });
+    done.map_err(|refusal| {
+        Ended::at(path, format!("list refused (answer {}): {refusal}", refusal.number()))
+    })?;
     output::write(&listed)
 }
