@@ -5,6 +5,7 @@
 use crate::compare::Calls;
 use crate::layout::number::{ABSENT, DONE, LENGTHS, PRESENT, REPLACED};
 use crate::layout::INFO_NUMBERS;
+use crate::names::{Asked, Page};
 use crate::store::Found;
 use frame_store::{check, Erase, Frame, Info, Put, Refusal, Replace, View};
 
@@ -67,6 +68,17 @@ impl Calls for Bindings {
 
     fn pack(&self, frame: &[u8], out: &mut [u8]) -> u32 {
         number(View::over(frame).pack(out).map(|_| DONE))
+    }
+
+    fn list(&self, frame: &[u8], asked: &Asked, buffer: &mut [u8]) -> Page {
+        let Asked { prefix, start, delimiter } = *asked;
+        match View::over(frame).list(prefix, start, delimiter, buffer) {
+            Ok(page) => {
+                let (count, more) = (page.count as u64, u64::from(page.more));
+                Page { number: DONE, count, more }
+            }
+            Err(refused) => Page::refused(refused.number()),
+        }
     }
 
     fn info(&self, frame: &[u8]) -> (u32, [u64; INFO_NUMBERS]) {

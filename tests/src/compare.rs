@@ -9,10 +9,11 @@
 use crate::check::{self, Reading};
 use crate::decode;
 use crate::image::image;
-use crate::layout::{key_refusal, number::*, Kind, INFO_NUMBERS};
+use crate::layout::{key_refusal, number::*, Kind, END_BYTE, INFO_NUMBERS};
+use crate::names::{self, Asked, Page, LENGTH_BYTES};
 use crate::slotless::{bodies, State};
 use crate::store::{self, Found, Records};
-use crate::tally::{Call, Entry, Tally};
+use crate::tally::{Call, Entry, Listing, Tally};
 use crate::touched;
 use std::fmt;
 use std::hint::black_box;
@@ -30,6 +31,7 @@ pub trait Calls {
     fn pack(&self, frame: &[u8], out: &mut [u8]) -> u32;
     /// The number, and what is told; all 0 of a refusal.
     fn info(&self, frame: &[u8]) -> (u32, [u64; INFO_NUMBERS]);
+    fn list(&self, frame: &[u8], asked: &Asked, buffer: &mut [u8]) -> Page;
 }
 
 /// The second store itself.
@@ -59,6 +61,9 @@ impl Calls for Second {
     }
     fn info(&self, frame: &[u8]) -> (u32, [u64; INFO_NUMBERS]) {
         store::info(frame)
+    }
+    fn list(&self, frame: &[u8], asked: &Asked, buffer: &mut [u8]) -> Page {
+        names::list(frame, asked, buffer)
     }
 }
 
@@ -478,6 +483,160 @@ impl<'a> Comparer<'a> {
         }
         self.same_number(&call, given, number)?;
         self.demand(told == expected, || format!("{call} tells {told:?}, not {expected:?}"))
+    }
+
+    /// Gives the page and the entries that were written.
+    pub fn list(
+        &mut self,
+        held: &Held,
+        asked: &Asked,
+        buffer: &[u8],
+    ) -> Compared<(Page, Vec<Vec<u8>>)> {
+        self.step += 1;
+        let start = asked.start.map_or("none".to_string(), shown);
+        let Asked { prefix, delimiter, .. } = *asked;
+        let room = buffer.len();
+        let call = format!(
+            "listing of {} after {start}, delimiter {delimiter:?}, into {room} bytes",
+            shown(prefix)
+        );
+        let mut frame = self.lend(&held.bytes);
+        let mut lent_prefix = self.lend(prefix);
+        let mut lent_start = self.lend(asked.start.unwrap_or_default());
+        let mut lent_buffer = self.lend(buffer);
+        let lent = Asked {
+            prefix: lent_prefix.part(),
+            start: asked.start.map(|_| lent_start.part()),
+            delimiter,
+        };
+        let given = self.calls.list(frame.part(), &lent, lent_buffer.part_mut());
+        let lent = [&mut frame, &mut lent_prefix, &mut lent_start, &mut lent_buffer];
+        self.margins(&call, &mut { lent })?;
+        self.unchanged(&call, "frame", &mut frame, &held.bytes)?;
+        self.unchanged(&call, "prefix", &mut lent_prefix, prefix)?;
+        self.unchanged(&call, "start key", &mut lent_start, asked.start.unwrap_or_default())?;
+        let expected = match (held.refusal().or(asked.refusal()), &held.known) {
+            (None, Ok(state)) => {
+                let expected = Expected::of(state, asked, room);
+                for case in expected.cases(state, asked, room) {
+                    self.tally.add(Entry::Listing(case));
+                }
+                expected
+            }
+            (refused, _) => {
+                let page = Page::refused(refused.expect("a frame that is not good is refused"));
+                Expected { page, written: Vec::new(), left: Vec::new() }
+            }
+        };
+        self.tally.add(Entry::Number(Call::List, expected.page.number));
+        let mut after = buffer.to_vec();
+        let text = expected.text();
+        after[..text.len()].copy_from_slice(&text);
+        let mut again = buffer.to_vec();
+        if (names::list(&held.bytes, asked, &mut again), &again) != (expected.page, &after) {
+            return self.differs(format!("{call}: the two readings of a listing differ"));
+        }
+        let page = expected.page;
+        self.demand(given == page, || format!("{call} gave {given:?}, not {page:?}"))?;
+        self.unchanged(&call, "buffer as it should be", &mut lent_buffer, &after)?;
+        Ok((page, expected.written))
+    }
+}
+
+/// A page as the set of entries gives it, for this room.
+struct Expected {
+    page: Page,
+    /// The entries that are written, and those that are left.
+    written: Vec<Vec<u8>>,
+    left: Vec<Vec<u8>>,
+}
+
+impl Expected {
+    fn of(state: &State, asked: &Asked, room: usize) -> Expected {
+        let mut left: Vec<Vec<u8>> = state.entries(asked).into_iter().collect();
+        let ends = left.iter().scan(0, |end, entry| {
+            *end += LENGTH_BYTES + entry.len();
+            Some(*end)
+        });
+        let fitting = ends.take_while(|end| *end <= room).count();
+        if fitting == 0 && !left.is_empty() {
+            return Expected { page: Page::refused(BUFFER), written: Vec::new(), left };
+        }
+        let written: Vec<Vec<u8>> = left.drain(..fitting).collect();
+        let more = u64::from(!left.is_empty());
+        let page = Page { number: DONE, count: written.len() as u64, more };
+        Expected { page, written, left }
+    }
+
+    fn text(&self) -> Vec<u8> {
+        let laid = |entry: &Vec<u8>| [&(entry.len() as u16).to_le_bytes()[..], entry].concat();
+        self.written.iter().flat_map(laid).collect()
+    }
+
+    /// Which cases this is.
+    fn cases(&self, state: &State, asked: &Asked, room: usize) -> Vec<Listing> {
+        let keys: Vec<Vec<u8>> = state.records().into_keys().collect();
+        let matching: Vec<&Vec<u8>> =
+            keys.iter().filter(|key| key.starts_with(asked.prefix)).collect();
+        let none = self.written.is_empty() && self.left.is_empty();
+        let taken = self.text().len();
+        let short = |entry: &Vec<u8>| (taken + LENGTH_BYTES + entry.len()).checked_sub(room);
+        let first_short = self.left.first().and_then(short);
+        let stands_for = |entry: &Vec<u8>| {
+            let group =
+                entry.len() > asked.prefix.len() && entry.last() == asked.delimiter.as_ref();
+            if group {
+                matching.iter().filter(|key| key.starts_with(entry)).count()
+            } else {
+                1
+            }
+        };
+        let in_group = |start: &[u8]| {
+            start.starts_with(asked.prefix) && asked.entry(start).len() < start.len()
+        };
+        let is_group = |start: &[u8]| {
+            start.starts_with(asked.prefix) && start.last() == asked.delimiter.as_ref()
+        };
+        let started = |case: &dyn Fn(&[u8]) -> bool| asked.start.is_some_and(case);
+        let outside = |start: &[u8]| !start.starts_with(asked.prefix);
+        let last_group = self.written.last().is_some_and(|entry| stands_for(entry) > 1);
+        let holds = [
+            (Listing::NoneMatches, matching.is_empty()),
+            (Listing::NoneAfterStart, none && !matching.is_empty()),
+            (Listing::NoBuffer, none && room == 0),
+            (Listing::EndsWithBuffer, !none && self.left.is_empty() && taken == room),
+            (Listing::ByteShort, taken > 0 && first_short == Some(1)),
+            (Listing::FirstByteShort, taken == 0 && first_short == Some(1)),
+            (
+                Listing::ShorterLater,
+                taken > 0
+                    && self.left.iter().skip(1).any(|entry| short(entry).is_none_or(|n| n == 0)),
+            ),
+            (Listing::Group, self.written.iter().any(|entry| stands_for(entry) > 1)),
+            (
+                Listing::GroupIsKey,
+                self.written.iter().any(|entry| stands_for(entry) > 1 && keys.contains(entry)),
+            ),
+            (Listing::EndsWithGroup, last_group && self.left.is_empty()),
+            (Listing::PrefixIsKey, keys.iter().any(|key| key == asked.prefix)),
+            (Listing::ZeroInPrefix, asked.prefix.contains(&END_BYTE)),
+            (
+                Listing::DelimiterInPrefix,
+                !none && asked.delimiter.is_some_and(|byte| asked.prefix.contains(&byte)),
+            ),
+            (Listing::StartIsNoKey, started(&|start| !keys.iter().any(|key| key == start))),
+            (Listing::StartIsGroup, started(&is_group)),
+            (Listing::StartInGroup, started(&in_group) && !none),
+            (
+                Listing::StartBelowPrefix,
+                started(&|start| outside(start) && start < asked.prefix) && !none,
+            ),
+            (
+                Listing::StartAbovePrefix,
+                started(&|start| outside(start) && start > asked.prefix) && !matching.is_empty(),
+            ),
+        ];
+        holds.into_iter().filter(|(_, holds)| *holds).map(|(case, _)| case).collect()
     }
 }
 

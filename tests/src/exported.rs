@@ -6,6 +6,7 @@
 use crate::compare::Calls;
 use crate::layout::number::{ABSENT, DONE};
 use crate::layout::INFO_NUMBERS;
+use crate::names::{Asked, Page};
 use crate::store::Found;
 use frame_store as _;
 
@@ -40,6 +41,20 @@ mod c {
         pub fn frame_erase(frame: *mut u8, frame_len: usize, key: *const u8, key_len: usize)
             -> u32;
         pub fn frame_pack(frame: *const u8, frame_len: usize, out: *mut u8, out_len: usize) -> u32;
+        pub fn frame_list(
+            frame: *const u8,
+            frame_len: usize,
+            prefix: *const u8,
+            prefix_len: usize,
+            start: *const u8,
+            start_len: usize,
+            has_start: usize,
+            delimiter: usize,
+            buffer: *mut u8,
+            buffer_len: usize,
+            count_and_more: *mut u64,
+            two: usize,
+        ) -> u32;
         pub fn frame_info(
             frame: *const u8,
             frame_len: usize,
@@ -102,6 +117,60 @@ impl Calls for Exported {
     fn info(&self, frame: &[u8]) -> (u32, [u64; INFO_NUMBERS]) {
         info_by_all_lengths(frame)
     }
+
+    fn list(&self, frame: &[u8], asked: &Asked, buffer: &mut [u8]) -> Page {
+        list_by_all_lengths(frame, asked, buffer)
+    }
+}
+
+/// Count and more go into two numbers if two are lent and the call is not
+/// refused, and nowhere else; the buffer is written by each of these calls
+/// alike. Whatever says that there is a start key or no delimiter says so, and
+/// what stands for a start key that there is not is not looked at.
+fn list_by_all_lengths(frame: &[u8], asked: &Asked, buffer: &mut [u8]) -> Page {
+    use std::hint::black_box;
+    let (prefix, start) = (asked.prefix, asked.start);
+    let call = |buffer: &mut [u8], none: (&[u8], usize), is: usize, two: usize| {
+        let mut numbers = [KNOWN; 5];
+        let key = start.unwrap_or(none.0);
+        let number = unsafe {
+            c::frame_list(
+                frame.as_ptr(),
+                frame.len(),
+                prefix.as_ptr(),
+                prefix.len(),
+                key.as_ptr(),
+                key.len(),
+                start.map_or(0, |_| is),
+                asked.delimiter.map_or(none.1, usize::from),
+                buffer.as_mut_ptr(),
+                buffer.len(),
+                numbers.as_mut_ptr().add(1),
+                two,
+            )
+        };
+        (number, *black_box(&mut numbers))
+    };
+    let before = buffer.to_vec();
+    let (number, [first, count, more, last @ ..]) = call(buffer, (b"", 256), 1, 2);
+    assert_eq!((first, last), (KNOWN, [KNOWN; 2]), "a listing wrote beside its two numbers");
+    let others: [(&[u8], usize, usize, usize); 3] = [
+        (&[0; 200], 256 + 47, 2, 0),
+        (b"\0", 1 << 32, 1 << 32, 1),
+        (b"zzz", usize::MAX, usize::MAX, 3),
+    ];
+    for (no_start, no_delimiter, is, other) in others {
+        let mut again = before.clone();
+        let (same, numbers) = call(&mut again, (no_start, no_delimiter), is, other);
+        assert_eq!(same, number, "a listing with {other} numbers gives another answer");
+        assert_eq!(numbers, [KNOWN; 5], "a listing wrote though {other} numbers were lent");
+        assert!(again == buffer, "a listing with {other} numbers writes another buffer");
+    }
+    if number != DONE {
+        assert_eq!([count, more], [KNOWN; 2], "a listing refused with {number} wrote");
+        return Page::refused(number);
+    }
+    Page { number, count, more }
 }
 
 /// What lent numbers hold before a call.

@@ -8,6 +8,7 @@
 use crate::compare::{Compared, Comparer, Held};
 use crate::crafted::{build, Spare};
 use crate::layout::*;
+use crate::names::Asked;
 use crate::random::Random;
 use crate::slotless::{bodies, ByKind, State, Tree};
 use crate::store;
@@ -267,6 +268,8 @@ fn all_calls(comparer: &mut Comparer, random: &mut Random, held: &Held) -> Compa
     comparer.put(&mut held.clone(), b"a", b"value")?;
     comparer.replace(&mut held.clone(), b"a", b"value")?;
     comparer.erase(&mut held.clone(), b"a")?;
+    let asked = Asked { prefix: b"", start: None, delimiter: Some(b'/') };
+    comparer.list(held, &asked, &random.bytes(40))?;
     let out = random.bytes(held.bytes().len());
     comparer.pack(held, &out)?;
     Ok(())

@@ -2,7 +2,7 @@
 //! that compares any store with it.
 //!
 //! `layout` and `check`, which have a package of their own (`tools/rules`), and
-//! `store` are the second store. `slotless` and `image` are two further
+//! `store` and `names` are the second store. `slotless` and `image` are two further
 //! readings of document 01, and the store is held to both.
 //! `compare` holds any store's calls to all of them; `run` is what the gate runs.
 
@@ -16,6 +16,8 @@ pub mod decode;
 pub mod exported;
 pub mod history;
 pub mod image;
+pub mod listings;
+pub mod names;
 pub mod orders;
 pub mod random;
 pub mod run;

@@ -5,7 +5,7 @@
 
 use crate::compare::{Calls, Compared, Comparer};
 use crate::tally::Tally;
-use crate::{damage, history, orders, worked};
+use crate::{damage, history, listings, orders, worked};
 use std::env;
 
 /// Which random calls are made, and how many.
@@ -37,22 +37,29 @@ impl Effort {
 pub fn all_stages(calls: &dyn Calls, effort: Effort) -> Compared<Tally> {
     let Effort { seed, rounds } = effort;
     let mut comparer = Comparer::new(calls);
+    worked_cases(&mut comparer)?;
     damages(&mut comparer)?;
-    printed_figures(&mut comparer)?;
+    limits(&mut comparer)?;
     history::crafted_frames(&mut comparer, seed, rounds * 2_000)?;
     history::histories(&mut comparer, seed, rounds * 12)?;
     history::scratched_frames(&mut comparer, seed, rounds * 100)?;
     history::arbitrary_bytes(&mut comparer, seed, rounds * 500)?;
     history::large_frames(&mut comparer, seed, rounds * 2)?;
+    listings::listings(&mut comparer, seed, rounds * 250)?;
     orders::same_records(&mut comparer, seed, rounds * 4)?;
     orders::any_order(&mut comparer, seed, rounds * 400)?;
     Ok(std::mem::take(&mut comparer.tally))
 }
 
-pub fn printed_figures(comparer: &mut Comparer) -> Compared<()> {
+/// What is told beforehand of small cases; most wrong stores go no further.
+pub fn worked_cases(comparer: &mut Comparer) -> Compared<()> {
     worked::worked_frames(comparer)?;
     worked::puts_and_replacements(comparer)?;
     worked::slots_visited(comparer)?;
+    worked::worked_listings(comparer)
+}
+
+pub fn limits(comparer: &mut Comparer) -> Compared<()> {
     worked::order_of_refusals(comparer)?;
     worked::format_limits(comparer)?;
     worked::lengths_at_the_limits(comparer)?;

@@ -8,8 +8,9 @@
 
 use crate::layout::number::*;
 use crate::layout::*;
+use crate::names::Asked;
 use crate::store::Records;
-use std::collections::BTreeMap;
+use std::collections::{BTreeMap, BTreeSet};
 use std::rc::Rc;
 
 /// A count for each kind number; 0 is not used.
@@ -174,6 +175,23 @@ impl State {
         }
         // An EmptyRoot is one slot too.
         self.tree.as_ref().map_or(1, |tree| below(tree, &walked(key)))
+    }
+
+    /// All entries of a listing, whatever its buffer.
+    pub fn entries(&self, asked: &Asked) -> BTreeSet<Vec<u8>> {
+        let cut = |key: Vec<u8>| {
+            let (prefix, behind) = key.split_at(asked.prefix.len());
+            match asked.delimiter {
+                Some(delimiter) => {
+                    let part = behind.split_inclusive(|byte| *byte == delimiter).next();
+                    [prefix, part.unwrap_or_default()].concat()
+                }
+                None => key,
+            }
+        };
+        let matching = self.records().into_keys().filter(|key| key.starts_with(asked.prefix));
+        let after = |entry: &Vec<u8>| asked.start.is_none_or(|start| &entry[..] > start);
+        matching.map(cut).filter(after).collect()
     }
 
     pub fn put(&mut self, key: &[u8], value: &[u8]) -> Told {

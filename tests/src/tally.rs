@@ -18,6 +18,7 @@ pub enum Call {
     Erase,
     Pack,
     Info,
+    List,
 }
 
 /// How a case ended.
@@ -34,6 +35,65 @@ pub enum Outcome {
     NoBytes,
     /// Refused for slots and for bytes.
     NoSlotsNorBytes,
+}
+
+/// What a listing can meet.
+#[derive(Clone, Copy, PartialEq, Eq, PartialOrd, Ord, Debug)]
+pub enum Listing {
+    /// No key begins with the prefix.
+    NoneMatches,
+    /// Keys begin with the prefix, and no entry sorts after the start key.
+    NoneAfterStart,
+    /// Nothing is to be listed, and the buffer has not one byte.
+    NoBuffer,
+    /// The last entry of all ends with the buffer.
+    EndsWithBuffer,
+    /// An entry does not fit for one byte.
+    ByteShort,
+    /// The first entry does not fit for one byte.
+    FirstByteShort,
+    /// An entry does not fit, and a later one would.
+    ShorterLater,
+    /// An entry written stands for several keys.
+    Group,
+    /// An entry written stands for a group, and is a key.
+    GroupIsKey,
+    /// All that is left are keys of the last entry written.
+    EndsWithGroup,
+    PrefixIsKey,
+    ZeroInPrefix,
+    DelimiterInPrefix,
+    StartIsNoKey,
+    StartIsGroup,
+    /// The start key lies in a group and is longer than its text.
+    StartInGroup,
+    /// The start key does not begin with the prefix, and shuts nothing out.
+    StartBelowPrefix,
+    /// The start key does not begin with the prefix, and shuts all out.
+    StartAbovePrefix,
+}
+
+impl Listing {
+    pub const ALL: [Listing; 18] = [
+        Listing::NoneMatches,
+        Listing::NoneAfterStart,
+        Listing::NoBuffer,
+        Listing::EndsWithBuffer,
+        Listing::ByteShort,
+        Listing::FirstByteShort,
+        Listing::ShorterLater,
+        Listing::Group,
+        Listing::GroupIsKey,
+        Listing::EndsWithGroup,
+        Listing::PrefixIsKey,
+        Listing::ZeroInPrefix,
+        Listing::DelimiterInPrefix,
+        Listing::StartIsNoKey,
+        Listing::StartIsGroup,
+        Listing::StartInGroup,
+        Listing::StartBelowPrefix,
+        Listing::StartAbovePrefix,
+    ];
 }
 
 #[derive(Clone, Copy, PartialEq, Eq, PartialOrd, Ord, Debug)]
@@ -60,6 +120,8 @@ pub enum Entry {
     MostSlots {
         present: bool,
     },
+    /// A listing that is not refused for its frame, its prefix or its start key.
+    Listing(Listing),
     /// An info tells that this kind's list is not empty.
     Listed(Kind),
 }
@@ -190,7 +252,8 @@ pub fn expected() -> Vec<Entry> {
     all.extend([DONE, ABSENT, REPLACED, PRESENT].map(Entry::ShuffledAnswer));
     all.push(Entry::ShuffledFramesDiffer);
     all.extend([true, false].map(|present| Entry::MostSlots { present }));
-    let numbers: [(Call, &[u32]); 8] = [
+    all.extend(Listing::ALL.map(Entry::Listing));
+    let numbers: [(Call, &[u32]); 9] = [
         (Call::Format, &[DONE, LENGTHS]),
         (Call::Check, &[DONE, LENGTHS, NOT_GOOD]),
         (Call::LookUp, &[DONE, ABSENT, LENGTHS, NOT_GOOD, KEY_LENGTH, KEY_HOLDS_ZERO]),
@@ -214,6 +277,7 @@ pub fn expected() -> Vec<Entry> {
         (Call::Erase, &[DONE, ABSENT, LENGTHS, NOT_GOOD, KEY_LENGTH, KEY_HOLDS_ZERO, NO_ROOM]),
         (Call::Pack, &[DONE, LENGTHS, NOT_GOOD, OUTPUT_LENGTH]),
         (Call::Info, &[DONE, LENGTHS, NOT_GOOD]),
+        (Call::List, &[DONE, LENGTHS, NOT_GOOD, KEY_LENGTH, KEY_HOLDS_ZERO, BUFFER]),
     ];
     for (call, given) in numbers {
         all.extend(given.iter().map(|number| Entry::Number(call, *number)));

@@ -7,6 +7,7 @@
 
 use crate::compare::{Compared, Comparer, Held};
 use crate::layout::*;
+use crate::names::Asked;
 
 const SMALL: (usize, usize) = (1_024, 8);
 const LARGE: (usize, usize) = (524_288, 10_240);
@@ -312,6 +313,76 @@ fn visited(comparer: &mut Comparer, held: &Held, key: &[u8], slots: u64) -> Comp
     Ok(())
 }
 
+/// What is asked (prefix, start key, delimiter, bytes of the buffer), and what is
+/// told (number, whether more remain, entries).
+type Worked<'a> = (&'a [u8], Option<&'a [u8]>, Option<u8>, usize, u32, u64, &'a [&'a [u8]]);
+
+const LISTED_KEYS: [&[u8]; 7] = [b"a", b"a/b", b"a/c", b"ab", b"b/x", b"b/y", b"c"];
+const SLASH: Option<u8> = Some(b'/');
+const LISTINGS: [Worked; 20] = [
+    // 8 of 12 bytes; a/c needs 5
+    (b"", None, None, 12, 0, 1, &[b"a", b"a/b"]),
+    (b"", Some(b"a/b"), None, 8, 0, 1, &[b"a/c"]),
+    // 18 bytes exactly
+    (b"", None, SLASH, 18, 0, 0, &[b"a", b"a/", b"ab", b"b/", b"c"]),
+    (b"", None, SLASH, 17, 0, 1, &[b"a", b"a/", b"ab", b"b/"]),
+    (b"", Some(b"a/"), SLASH, 18, 0, 0, &[b"ab", b"b/", b"c"]),
+    // a/ does not sort after a/b
+    (b"", Some(b"a/b"), SLASH, 18, 0, 0, &[b"ab", b"b/", b"c"]),
+    // a delimiter within the prefix does not count
+    (b"a/", None, SLASH, 18, 0, 0, &[b"a/b", b"a/c"]),
+    // the prefix itself matches
+    (b"a", None, SLASH, 18, 0, 0, &[b"a", b"a/", b"ab"]),
+    // all that match sort before the start key
+    (b"a", Some(b"b"), None, 18, 0, 0, &[]),
+    (b"b", Some(b"a"), None, 5, 0, 1, &[b"b/x"]),
+    (b"d", None, None, 0, 0, 0, &[]),
+    // the first entry needs 3
+    (b"", None, None, 2, 10, 0, &[]),
+    (b"", None, None, 3, 0, 1, &[b"a"]),
+    (b"", Some(b"c"), None, 0, 0, 0, &[]),
+    // a byte 0 in the prefix is no fault
+    (b"\0", None, None, 18, 0, 0, &[]),
+    (b"", Some(b"a\0"), None, 18, 4, 0, &[]),
+    (b"", Some(b""), None, 18, 3, 0, &[]),
+    // the order of refusals
+    (&[b'p'; 113], Some(b"a\0"), None, 0, 3, 0, &[]),
+    (b"", Some(b"a\0"), None, 0, 4, 0, &[]),
+    (&[b'p'; 112], None, None, 0, 0, 0, &[]),
+];
+
+/// Bytes of 128 and more sort last; a group that is the last entry.
+const HIGH_KEYS: [&[u8]; 4] = [b"\x7f", b"\x80", b"\xff/a", b"\xff/b"];
+const HIGH_LISTINGS: [Worked; 2] = [
+    (b"", None, SLASH, 20, 0, 0, &[b"\x7f", b"\x80", b"\xff/"]),
+    (b"", Some(b"\x7f"), SLASH, 7, 0, 0, &[b"\x80", b"\xff/"]),
+];
+
+/// listings of a few keys, told beforehand.
+pub fn worked_listings(comparer: &mut Comparer) -> Compared<()> {
+    comparer.begin("worked listings".to_string());
+    listed(comparer, &LISTED_KEYS, &LISTINGS)?;
+    listed(comparer, &HIGH_KEYS, &HIGH_LISTINGS)
+}
+
+fn listed(comparer: &mut Comparer, keys: &[&[u8]], listings: &[Worked]) -> Compared<()> {
+    let mut held = formatted(comparer, (2_048, 40), 0)?;
+    for key in keys {
+        let figures = Figures { name: "a listed key", number: 0, fields: &[] };
+        put(comparer, &mut held, key, b"v", figures)?;
+    }
+    for (prefix, start, delimiter, room, number, more, entries) in listings.iter().copied() {
+        let asked = Asked { prefix, start, delimiter };
+        let (page, written) = comparer.list(&held, &asked, &vec![0xEE; room])?;
+        let told = (page.number, page.more, page.count);
+        let count = entries.len() as u64;
+        if told != (number, more, count) || !written.iter().eq(entries.iter()) {
+            return comparer.differs(format!("{asked:?} in {room} bytes: {told:?}, {written:?}"));
+        }
+    }
+    Ok(())
+}
+
 /// F and N around their limits, and slices of another length.
 pub fn format_limits(comparer: &mut Comparer) -> Compared<()> {
     comparer.begin("format around the limits".to_string());
@@ -363,6 +434,9 @@ pub fn order_of_refusals(comparer: &mut Comparer) -> Compared<()> {
         }
         for out in [0, 1, 1_016, 1_023, 1_025, 1_032, 524_288, 1_024] {
             comparer.pack(&held, &vec![0xEE; out])?;
+        }
+        for (prefix, start) in [(&[b'p'; 113][..], None), (b"", Some(&b""[..])), (b"", None)] {
+            comparer.list(&held, &Asked { prefix, start, delimiter: None }, &[])?;
         }
         comparer.check(&held)?;
         comparer.info(&held)?;

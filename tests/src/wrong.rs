@@ -8,6 +8,7 @@ use crate::check::{self, Rule};
 use crate::compare::{Calls, Second};
 use crate::layout::number::*;
 use crate::layout::*;
+use crate::names::{self, Asked, Page, LENGTH_BYTES};
 use crate::store::{self, body_at, children, release, set_link, take, Found, Step};
 
 type Format = dyn Fn(&mut [u8], usize, usize) -> u32;
@@ -16,6 +17,7 @@ type LookUp = dyn Fn(&[u8], &[u8]) -> Found;
 type Put = dyn Fn(&mut [u8], &[u8], &[u8]) -> u32;
 type Erase = dyn Fn(&mut [u8], &[u8]) -> u32;
 type Pack = dyn Fn(&[u8], &mut [u8]) -> u32;
+type List = dyn Fn(&[u8], &Asked, &mut [u8]) -> Page;
 type Info = dyn Fn(&[u8]) -> (u32, [u64; INFO_NUMBERS]);
 
 /// The second store with some calls exchanged.
@@ -29,6 +31,7 @@ pub struct Altered {
     erase: Box<Erase>,
     pack: Box<Pack>,
     info: Box<Info>,
+    list: Box<List>,
 }
 
 impl Altered {
@@ -43,6 +46,7 @@ impl Altered {
             erase: Box::new(|frame, key| Second.erase(frame, key)),
             pack: Box::new(|frame, out| Second.pack(frame, out)),
             info: Box::new(|frame| Second.info(frame)),
+            list: Box::new(|frame, asked, buffer| Second.list(frame, asked, buffer)),
         }
     }
 }
@@ -71,6 +75,9 @@ impl Calls for Altered {
     }
     fn info(&self, frame: &[u8]) -> (u32, [u64; INFO_NUMBERS]) {
         (self.info)(frame)
+    }
+    fn list(&self, frame: &[u8], asked: &Asked, buffer: &mut [u8]) -> Page {
+        (self.list)(frame, asked, buffer)
     }
 }
 
@@ -104,6 +111,10 @@ fn with_pack(name: &str, pack: impl Fn(&[u8], &mut [u8]) -> u32 + 'static) -> Al
 
 fn with_info(name: &str, info: impl Fn(&[u8]) -> (u32, [u64; INFO_NUMBERS]) + 'static) -> Altered {
     Altered { info: Box::new(info), ..Altered::named(name) }
+}
+
+fn with_list(name: &str, list: impl Fn(&[u8], &Asked, &mut [u8]) -> Page + 'static) -> Altered {
+    Altered { list: Box::new(list), ..Altered::named(name) }
 }
 
 pub fn checks() -> Vec<Altered> {
@@ -876,6 +887,230 @@ fn pack_keeping_node16(frame: &[u8], slot: usize, out: &mut [u8]) -> usize {
             packed
         }
     }
+}
+
+/// A listing of entries that are given in their order: whole ones as they fit.
+fn laid(entries: &[Vec<u8>], buffer: &mut [u8]) -> Page {
+    let mut written = 0;
+    for (count, entry) in entries.iter().enumerate() {
+        let end = written + LENGTH_BYTES + entry.len();
+        if end > buffer.len() {
+            let page = Page { number: DONE, count: count as u64, more: 1 };
+            return if count == 0 { Page::refused(BUFFER) } else { page };
+        }
+        set16(buffer, written, entry.len());
+        buffer[written + LENGTH_BYTES..end].copy_from_slice(entry);
+        written = end;
+    }
+    Page { number: DONE, count: entries.len() as u64, more: 0 }
+}
+
+/// The keys that begin with the prefix, of a listing that is not refused.
+fn matching(frame: &[u8], asked: &Asked) -> Option<Vec<Vec<u8>>> {
+    let legal = check::check(frame) == DONE && asked.refusal().is_none();
+    let keys = || store::records(frame).into_keys();
+    legal.then(|| keys().filter(|key| key.starts_with(asked.prefix)).collect())
+}
+
+/// What is written and what is left, by the second store.
+fn entries(frame: &[u8], asked: &Asked) -> Option<Vec<Vec<u8>>> {
+    let after = |entry: &Vec<u8>| asked.start.is_none_or(|start| entry[..] > *start);
+    let cut = |key: &Vec<u8>| asked.entry(key).to_vec();
+    let mut all: Vec<Vec<u8>> = matching(frame, asked)?.iter().map(cut).filter(after).collect();
+    all.dedup();
+    Some(all)
+}
+
+fn taken(buffer: &[u8], count: u64) -> usize {
+    (0..count).fold(0, |at, _| at + LENGTH_BYTES + get16(buffer, at))
+}
+
+/// None of a listing that is refused.
+type Entries = fn(&[u8], &Asked) -> Option<Vec<Vec<u8>>>;
+
+pub fn lists() -> Vec<Altered> {
+    // Other entries than those that document 02 names.
+    let listing = |name: &str, other: Entries| {
+        with_list(name, move |frame, asked, buffer| match other(frame, asked) {
+            Some(entries) => laid(&entries, buffer),
+            None => Second.list(frame, asked, buffer),
+        })
+    };
+    // The right entries, and something else told of them.
+    let told = |name: &str, change: fn(&mut Page, &[u8], &Asked, &mut [u8])| {
+        with_list(name, move |frame, asked, buffer| {
+            let mut page = Second.list(frame, asked, buffer);
+            change(&mut page, frame, asked, buffer);
+            page
+        })
+    };
+    vec![
+        listing("a listing with a group for each of its keys", |frame, asked| {
+            let after = |entry: &Vec<u8>| asked.start.is_none_or(|start| entry[..] > *start);
+            let cut = |key: &Vec<u8>| asked.entry(key).to_vec();
+            Some(matching(frame, asked)?.iter().map(cut).filter(after).collect())
+        }),
+        listing("a listing that repeats the group in which the start key lies", |frame, asked| {
+            let mut keys = matching(frame, asked)?;
+            keys.retain(|key| asked.start.is_none_or(|start| key[..] > *start));
+            let mut all: Vec<Vec<u8>> = keys.iter().map(|key| asked.entry(key).to_vec()).collect();
+            all.dedup();
+            Some(all)
+        }),
+        listing("a listing that loses the entry after the start key's group", |frame, asked| {
+            let mut all = entries(frame, asked)?;
+            let in_group = asked.start.is_some_and(|start| {
+                start.starts_with(asked.prefix) && asked.entry(start).len() < start.len()
+            });
+            if in_group && !all.is_empty() {
+                all.remove(0);
+            }
+            Some(all)
+        }),
+        listing("a listing that lists the start key again", |frame, asked| {
+            let mut all = entries(frame, &Asked { start: None, ..*asked })?;
+            all.retain(|entry| asked.start.is_none_or(|start| entry[..] >= *start));
+            Some(all)
+        }),
+        listing("a listing that counts a delimiter within the prefix", |frame, asked| {
+            let after = |entry: &Vec<u8>| asked.start.is_none_or(|start| entry[..] > *start);
+            let cut = |key: &Vec<u8>| Asked { prefix: b"", ..*asked }.entry(key).to_vec();
+            let mut all: Vec<Vec<u8>> =
+                matching(frame, asked)?.iter().map(cut).filter(after).collect();
+            all.dedup();
+            Some(all)
+        }),
+        listing("a listing of groups without their delimiter", |frame, asked| {
+            let keys = matching(frame, asked)?;
+            let short = |entry: Vec<u8>| {
+                let cut = keys.iter().any(|key| key != &entry && asked.entry(key) == &entry[..]);
+                if cut {
+                    entry[..entry.len() - 1].to_vec()
+                } else {
+                    entry
+                }
+            };
+            Some(entries(frame, asked)?.into_iter().map(short).collect())
+        }),
+        listing("a listing that does not match the prefix itself", |frame, asked| {
+            let mut all = entries(frame, asked)?;
+            all.retain(|entry| entry != asked.prefix);
+            Some(all)
+        }),
+        listing("a listing that takes bytes for signed", |frame, asked| {
+            let mut all = entries(frame, asked)?;
+            all.sort_by_key(|entry| entry.iter().map(|byte| *byte as i8).collect::<Vec<i8>>());
+            Some(all)
+        }),
+        listing("a listing that wants the start key to begin with the prefix", |frame, asked| {
+            let all = entries(frame, asked)?;
+            let begins = asked.start.is_none_or(|start| start.starts_with(asked.prefix));
+            Some(if begins { all } else { Vec::new() })
+        }),
+        listing("a listing that forgets a start key outside the prefix", |frame, asked| {
+            let inside = asked.start.filter(|start| start.starts_with(asked.prefix));
+            entries(frame, &Asked { start: inside, ..*asked })
+        }),
+        listing("a listing that takes a shorter entry in place of one", |frame, asked| {
+            // Sorted by length, so that as many as can be fit.
+            let mut all = entries(frame, asked)?;
+            all.sort_by_key(Vec::len);
+            Some(all)
+        }),
+        told("a listing that says more at the exact end", |page, _, _, buffer| {
+            if page.count > 0 && taken(buffer, page.count) == buffer.len() {
+                page.more = 1;
+            }
+        }),
+        told("a listing that never says more", |page, _, _, _| page.more = 0),
+        told("a listing that says more for the keys of its last group", |page, frame, asked, _| {
+            let all = matching(frame, asked).unwrap_or_default();
+            let last = entries(frame, asked).unwrap_or_default().last().cloned();
+            let same = all.iter().filter(|key| last.as_deref() == Some(asked.entry(key))).count();
+            if page.number == DONE && same > 1 {
+                page.more = 1;
+            }
+        }),
+        told("a listing that counts keys", |page, frame, asked, _| {
+            if page.number == DONE && page.more == 0 && page.count > 0 {
+                let keys = matching(frame, asked).unwrap_or_default();
+                let after =
+                    |key: &&Vec<u8>| asked.start.is_none_or(|start| asked.entry(key) > start);
+                page.count = keys.iter().filter(after).count() as u64;
+            }
+        }),
+        told("a listing that counts the entries that are left", |page, frame, asked, _| {
+            if page.number == DONE {
+                page.count = entries(frame, asked).unwrap_or_default().len() as u64;
+            }
+        }),
+        told("a listing that says 10 where nothing matches", |page, _, _, buffer| {
+            if page.number == DONE && page.count == 0 && buffer.len() <= LENGTH_BYTES {
+                *page = Page::refused(BUFFER);
+            }
+        }),
+        told("a listing that says 0 and more for a buffer too small", |page, _, _, _| {
+            if page.number == BUFFER {
+                *page = Page { number: DONE, count: 0, more: 1 };
+            }
+        }),
+        told("a listing that says more with 10", |page, _, _, _| {
+            if page.number == BUFFER {
+                page.more = 1;
+            }
+        }),
+        told("a listing that writes a byte past its entries", |page, _, _, buffer| {
+            let end = taken(buffer, page.count);
+            if page.number == DONE && end < buffer.len() {
+                buffer[end] = 0;
+            }
+        }),
+        told("a listing that clears the rest of its buffer", |page, _, _, buffer| {
+            if page.number == DONE {
+                let end = taken(buffer, page.count);
+                buffer[end..].fill(0);
+            }
+        }),
+        told("a listing that begins an entry that does not fit", |page, _, _, buffer| {
+            let end = taken(buffer, page.count);
+            if page.more == 1 && end + LENGTH_BYTES <= buffer.len() {
+                set16(buffer, end, 1);
+            }
+        }),
+        told("a listing that writes a buffer it refuses", |page, _, _, buffer| {
+            if page.number == BUFFER {
+                buffer.fill(0);
+            }
+        }),
+        told("a listing with the higher byte of a length first", |page, _, _, buffer| {
+            let mut at = 0;
+            for _ in 0..page.count {
+                let next = at + LENGTH_BYTES + get16(buffer, at);
+                buffer.swap(at, at + 1);
+                at = next;
+            }
+        }),
+        told("a listing that says 10 before 3 and 4", |page, _, _, buffer| {
+            if matches!(page.number, KEY_LENGTH | KEY_HOLDS_ZERO) && buffer.is_empty() {
+                page.number = BUFFER;
+            }
+        }),
+        told("a listing that refuses a byte 0 in the prefix", |page, _, asked, _| {
+            if page.number == DONE && asked.prefix.contains(&END_BYTE) {
+                *page = Page::refused(KEY_HOLDS_ZERO);
+            }
+        }),
+        with_list("a listing that takes a prefix of any length", |frame, asked, buffer| {
+            if check::check(frame) == DONE && asked.prefix.len() > LONGEST_KEY {
+                return names::list(frame, &Asked { prefix: &[END_BYTE], ..*asked }, buffer);
+            }
+            Second.list(frame, asked, buffer)
+        }),
+        with_list("a listing that takes an empty start key for none", |frame, asked, buffer| {
+            let start = asked.start.filter(|start| !start.is_empty());
+            Second.list(frame, &Asked { start, ..*asked }, buffer)
+        }),
+    ]
 }
 
 /// Stores whose answers or images hang on the order of calls on several keys.

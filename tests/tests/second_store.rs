@@ -4,7 +4,7 @@
 use second_store::compare::{Compared, Comparer, Held, Second};
 use second_store::image::image;
 use second_store::layout::{get32, AT_B};
-use second_store::run::{all_stages, printed_figures, Effort};
+use second_store::run::{all_stages, limits, worked_cases, Effort};
 use second_store::store::{self, Records};
 use second_store::{check, history, worked};
 
@@ -37,6 +37,11 @@ fn puts_and_replacements_hold() {
 #[test]
 fn slots_visited_hold() {
     passes(worked::slots_visited(&mut Comparer::new(&Second)));
+}
+
+#[test]
+fn worked_listings_hold() {
+    passes(worked::worked_listings(&mut Comparer::new(&Second)));
 }
 
 #[test]
@@ -122,5 +127,7 @@ fn every_cutting_of_a_slice_is_refused_with_1() {
 
 #[test]
 fn printed_figures_hold_in_one_run() {
-    passes(printed_figures(&mut Comparer::new(&Second)));
+    let mut comparer = Comparer::new(&Second);
+    passes(worked_cases(&mut comparer));
+    passes(limits(&mut comparer));
 }

@@ -1,12 +1,13 @@
 //! W1 to W11, the lengths and children that document 01 lists under "Run and
-//! compared", and puts and replacements of document 02, told step by step: the
-//! number given and U, B, R and X after it. The exported calls and the second
-//! store are held to the stored lines, and these to the figures that document
-//! 01 prints.
+//! compared", and puts, replacements and listings of document 02, told step by
+//! step: the number given and U, B, R and X after it, or what is listed. The
+//! exported calls and the second store are held to the stored lines, and these
+//! to the figures that document 01 prints.
 
 use second_store::compare::{Calls, Second};
 use second_store::exported::Exported;
 use second_store::layout::{get16, get32, get_entry, AT_B, AT_R, AT_ROOT, AT_U, AT_X};
+use second_store::names::{Asked, Page};
 use second_store::store::Found;
 use std::fmt::Write;
 
@@ -181,12 +182,61 @@ impl Told<'_> {
     }
 }
 
+/// A prefix, a start key, a delimiter, and the bytes of the buffer.
+type Listing<'a> = (&'a [u8], Option<&'a [u8]>, Option<u8>, usize);
+
+/// Q-1.
+impl Told<'_> {
+    fn list(&mut self, frame: &[u8], asked: Asked, room: usize) {
+        let mut buffer = vec![0; room];
+        let Page { number, count, more } = self.calls.list(frame, &asked, &mut buffer);
+        let delimiter = asked.delimiter.map(|byte| vec![byte]);
+        let [start, delimiter] = [asked.start, delimiter.as_deref()]
+            .map(|text| text.map_or("none".to_string(), |text| text.escape_ascii().to_string()));
+        let prefix = asked.prefix.escape_ascii();
+        let step = format!("Q-1 list '{prefix}' after {start} by {delimiter} in {room}");
+        write!(self.text, "{step}: {number} count {count} more {more}").expect("a text");
+        let mut rest = &buffer[..];
+        for _ in 0..count {
+            let (entry, left) = rest[2..].split_at(get16(rest, 0));
+            write!(self.text, " {}", entry.escape_ascii()).expect("a text takes more");
+            rest = left;
+        }
+        self.text += "\n";
+    }
+
+    fn listings(&mut self) {
+        let mut frame = self.format("Q-1 format", WIDE);
+        for key in ["a", "a/b", "a/c", "ab", "b/x", "b/y", "c"] {
+            self.put(&format!("Q-1 put {key}=v"), &mut frame, key.as_bytes(), b"v");
+        }
+        let asked: [Listing; 12] = [
+            (b"", None, None, 12),
+            (b"", Some(b"a/b"), None, 8),
+            (b"", None, Some(b'/'), 18),
+            (b"", Some(b"a/"), Some(b'/'), 18),
+            (b"", Some(b"a/b"), Some(b'/'), 17),
+            (b"a/", None, Some(b'/'), 18),
+            (b"a", None, Some(b'/'), 18),
+            (b"a", Some(b"b"), None, 18),
+            (b"d", None, None, 0),
+            (b"", None, None, 2),
+            (b"", Some(b"a\0"), None, 18),
+            (b"", Some(b""), None, 18),
+        ];
+        for (prefix, start, delimiter, room) in asked {
+            self.list(&frame, Asked { prefix, start, delimiter }, room);
+        }
+    }
+}
+
 fn told(calls: &dyn Calls) -> String {
     let mut told = Told { calls, text: String::new() };
     told.worked();
     told.lengths();
     told.growth_and_shrinking();
     told.puts_and_replacements();
+    told.listings();
     told.text
 }
 

@@ -59,6 +59,11 @@ fn wrong_packs_are_caught() {
 }
 
 #[test]
+fn wrong_listings_are_caught() {
+    all_caught(wrong::lists(), 28);
+}
+
+#[test]
 fn wrong_infos_are_caught() {
     all_caught(wrong::infos(), 9);
 }

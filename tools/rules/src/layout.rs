@@ -70,6 +70,8 @@ pub mod number {
     pub const OUTPUT_LENGTH: u32 = 7;
     pub const ABSENT: u32 = 8;
     pub const REPLACED: u32 = 9;
+    /// A listing's buffer is too small for the first entry (document 02, Q-1).
+    pub const BUFFER: u32 = 10;
     /// A plain put finds its key present, and changes nothing (document 02, Q-5).
     pub const PRESENT: u32 = 11;
 }
