@@ -1,13 +1,13 @@
 -- An entry sorts after the start key exactly if its key is at or above the start key's bound. Assumes nothing.
-use Prim.Native.Nat.{ℕ, suc, _+_, _<_, _≤_}
+use Prim.Native.Nat.{ℕ, _+_, _<_}
 use native.Mathlib.Omega.{arith}
 use mathlib.Core.Path.{_≡_, refl, ap, sym, _∙_}
 use mathlib.Core.List.{List, [], _∷_, _++_}
-use mathlib.Core.Bool.{Bool, true, false}
+use mathlib.Core.Bool.{true, false}
 use mathlib.Core.Option.{Option, none, some}
-use lib.Dec.{ltb, leb, eqb}
-use borrow.Author.Tests.{lt-ltb, le-ltb, le-leb, eq-eqb, ne-eqb}
-use Rattle.model.specs.Strings.{pick, before, All, Byte}
+use lib.Dec.{leb, eqb}
+use borrow.Author.Tests.{le-ltb, le-leb, ne-eqb}
+use Rattle.model.specs.Strings.{before, All, Byte}
 use Rattle.model.specs.Edition.{edition1}
 use Rattle.model.proofs.StringLaws.{bool-cases, eqb-cases, ltb-cases, leb-cases, clash}
 use Rattle.model.proofs.Edition1.{Positive}

@@ -4,3 +4,4 @@ pub mod SeekLaws
 pub mod BoundLaws
 pub mod PagesLaws
 pub mod PageLaws
+pub mod DemandLaws

@@ -1,17 +1,17 @@
 -- Names ascend, so that each stands once, and a page's last entry as the next start key gives exactly what is left. Assumes nothing.
-use Prim.Native.Nat.{ℕ, zero, suc, _+_, _<_, _≤_}
+use Prim.Native.Nat.{ℕ, zero, suc, _+_, _<_}
 use native.Mathlib.Omega.{arith}
 use mathlib.Core.Path.{_≡_, refl, ap, sym, _∙_}
-use mathlib.Core.List.{List, [], _∷_, _++_}
-use mathlib.Core.Bool.{Bool, true, false}
+use mathlib.Core.List.{List, [], _∷_}
+use mathlib.Core.Bool.{true, false}
 use mathlib.Core.Option.{Option, none, some}
 use mathlib.Core.Logic.{_⊎_, inl, inr}
 use lib.ListN.{length, take, drop}
-use lib.Dec.{ltb, leb, eqb}
-use borrow.Author.Tests.{lt-ltb, le-ltb, eq-eqb, ne-eqb}
-use Rattle.model.specs.Strings.{pick, same, before}
+use lib.Dec.{eqb}
+use borrow.Author.Tests.{lt-ltb, le-ltb, eq-eqb}
+use Rattle.model.specs.Strings.{same, before}
 use Rattle.model.specs.Records.{Record, AllKeys, Ahead, Ascending}
-use Rattle.model.proofs.StringLaws.{bool-cases, eqb-cases, ltb-cases, clash, same-refl, same-true, before-ne, before-trans, before-asym}
+use Rattle.model.proofs.StringLaws.{bool-cases, eqb-cases, ltb-cases, clash, same-refl, same-true, before-trans, before-asym}
 use Rattle.listing.specs.Listing.{begins, upto, entryFor, addName, names, afterStart}
 use Rattle.listing.specs.Pages.{Over, Rising, lastOf}
 

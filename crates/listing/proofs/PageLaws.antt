@@ -1,29 +1,27 @@
 -- A listing by seeks: the first key at or above a bound gives the next entry, the entry's own bound what is left behind it, and a key that does not
 -- match ends the listing. Assumes nothing.
-use Prim.Native.Nat.{ℕ, zero, suc, _+_, _-_, _<_, _≤_}
+use Prim.Native.Nat.{ℕ, _+_, _-_, _<_, _≤_}
 use native.Mathlib.Omega.{arith}
 use mathlib.Core.Path.{_≡_, refl, ap, sym, _∙_}
 use mathlib.Core.List.{List, [], _∷_, _++_, append-assoc, append-nil}
-use mathlib.Core.Bool.{Bool, true, false}
+use mathlib.Core.Bool.{true, false}
 use mathlib.Core.Option.{Option, none, some}
-use mathlib.Core.Logic.{_⊎_, inl, inr}
+use mathlib.Core.Logic.{inl, inr}
 use lib.ListN.{length, take, drop, length-append, length-drop}
-use lib.Seq.{take-all, take-at, drop-at, drop-drop}
-use lib.Dec.{ltb, leb, eqb}
+use lib.Seq.{take-at, drop-at, drop-drop}
+use lib.Dec.{leb}
 use borrow.Author.Tests.{lt-ltb, le-ltb, le-leb, eq-eqb, ne-eqb}
 use Rattle.model.specs.Strings.{pick, same, before, All, Byte}
-use Rattle.model.specs.Edition.{Edition, edition1, Legal}
+use Rattle.model.specs.Edition.{Edition, edition1}
 use Rattle.model.specs.Records.{Record, AllKeys, Ahead, Ascending}
 use Rattle.model.specs.Image.{digits}
-use Rattle.model.proofs.StringLaws.{bool-cases, eqb-cases, ltb-cases, leb-cases, clash, same-refl, same-true, before-trans}
-use Rattle.model.proofs.Edition1.{Positive, key-passes}
-use Rattle.model.proofs.TextLaws.{length-digits}
-use Rattle.listing.specs.Listing.{begins, upto, entryFor, addName, names, afterStart, fitting, laid, Listed, refusedAs, written, page, Gave}
-use Rattle.listing.specs.Pages.{Rising, lastOf}
+use Rattle.model.proofs.StringLaws.{bool-cases, eqb-cases, ltb-cases, leb-cases, clash, same-true, before-trans}
+use Rattle.model.proofs.Edition1.{Positive}
+use Rattle.listing.specs.Listing.{begins, entryFor, addName, names, afterStart, fitting, laid, Listed, refusedAs, written, page, Gave}
 use Rattle.listing.specs.Seek.{Leafy, weigh, reach, firstFrom}
-use Rattle.listing.specs.Bound.{tailUp, tailFor, above, KeysAlike}
-use Rattle.listing.proofs.ListingLaws.{NotAfter, First, names-first, names-rising, start-rising, page-next}
-use Rattle.listing.proofs.BoundLaws.{entry-bound, prefix-bound, upto-twice}
+use Rattle.listing.specs.Bound.{tailFor, above, KeysAlike}
+use Rattle.listing.proofs.ListingLaws.{NotAfter, First, names-first, names-rising, page-next}
+use Rattle.listing.proofs.BoundLaws.{entry-bound, prefix-bound}
 
 -- ---- the keys at or above a bound
 

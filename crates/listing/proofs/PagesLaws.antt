@@ -1,30 +1,29 @@
 -- The pages of one frame, glued together, are all entries in order; an entry read back from a buffer is the one written; every matching key gives
 -- an entry, every entry comes from a matching key, and may be the next start key. Assumes nothing.
-use Prim.Native.Nat.{ℕ, zero, suc, _+_, _*_, _-_, _/_, _%_, _<_, _≤_}
+use Prim.Native.Nat.{ℕ, zero, suc, _+_, _*_, _-_, _/_, _%_, _≤_}
 use native.Mathlib.Omega.{arith}
 use mathlib.Core.Path.{_≡_, refl, ap, sym, _∙_}
 use mathlib.Core.List.{List, [], _∷_, _++_, append-assoc, append-nil}
-use mathlib.Core.Bool.{Bool, true, false}
+use mathlib.Core.Bool.{true, false}
 use mathlib.Core.Option.{Option, none, some}
-use lib.ListN.{length, take, drop, length-append, take-append-drop}
+use lib.ListN.{length, take, drop, take-append-drop}
 use lib.Seq.{take-all, take-at, drop-at}
 use lib.Dec.{ltb, leb, eqb}
-use borrow.Author.Tests.{lt-ltb, le-ltb, ne-eqb}
 use Rattle.layout.specs.Number.{le}
 use Rattle.model.specs.Strings.{pick, same, before, All}
-use Rattle.model.specs.Edition.{Edition, edition1, Legal, Value, FitsFields, Lawful}
+use Rattle.model.specs.Edition.{Edition, edition1, FitsFields, Lawful}
 use Rattle.model.specs.Tree.{Art}
-use Rattle.model.specs.Records.{Record, recordsOf, lookup, absent, Ascending}
+use Rattle.model.specs.Records.{Record, recordsOf, lookup, absent}
 use Rattle.model.specs.State.{State}
 use Rattle.model.specs.Image.{digits}
 use Rattle.model.specs.Frame.{Stands}
-use Rattle.model.proofs.StringLaws.{bool-cases, eqb-cases, ltb-cases, leb-cases, clash, same-refl, same-true}
-use Rattle.model.proofs.Edition1.{Positive, Key1, key-passes, key-taken}
+use Rattle.model.proofs.StringLaws.{bool-cases, eqb-cases, ltb-cases, clash, same-refl, same-true}
+use Rattle.model.proofs.Edition1.{Positive, key-passes, key-taken}
 use Rattle.model.proofs.PackedLaws.{LegalRecords, legal-records}
 use Rattle.model.proofs.GoodState.{TreeOk}
 use Rattle.model.proofs.StateLaws.{tree-ascending}
 use Rattle.model.proofs.StandsGood.{stands-good}
-use Rattle.listing.specs.Listing.{begins, upto, entryFor, addName, names, afterStart, fitting, laid, Listed, refusedAs, written, page, prefixFault, startFault, listing, ListPromise}
+use Rattle.listing.specs.Listing.{begins, upto, entryFor, addName, names, afterStart, fitting, laid, Listed, written, page, prefixFault, startFault, listing, ListPromise}
 use Rattle.listing.specs.Pages.{Rising, among, lastOf, entriesIn, Page, entries, Pages, glued}
 use Rattle.listing.proofs.ListingLaws.{names-rising, page-next}
 

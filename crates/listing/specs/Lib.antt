@@ -3,3 +3,4 @@ pub mod Pages
 pub mod Worked
 pub mod Seek
 pub mod Bound
+pub mod Demand

@@ -5,18 +5,17 @@ use native.Mathlib.Numerals.{add-one}
 use mathlib.Core.Path.{_≡_, refl, sym, ap, _∙_}
 use mathlib.Core.List.{List, [], _∷_, _++_, append-assoc, append-nil}
 use mathlib.Core.Bool.{Bool, true, false, not}
-use mathlib.Core.Option.{Option, none, some}
+use mathlib.Core.Option.{Option}
 use lib.ListN.{length, take, drop, getD, length-append, drop-of-length-le, List·getD-append}
 use lib.Seq.{drop-cons, take-suc, take-take}
 use lib.Dec.{ltb, eqb}
 use borrow.Author.Tests.{lt-ltb, eq-eqb, ne-eqb, not-true, not-false}
-use Rattle.layout.specs.Number.{byteAt, le}
+use Rattle.layout.specs.Number.{le}
 use Rattle.layout.specs.Place.{leafExtent, leafKey}
 use Rattle.layout.proofs.NumberLaws.{le1}
 use Rattle.pieces.specs.Decides.{Decides}
 use Rattle.pieces.specs.Range.{Alike}
-use Rattle.model.specs.Strings.{pick}
-use Rattle.model.specs.Body.{LeafAt, Text}
+use Rattle.model.specs.Body.{LeafAt}
 use Rattle.model.proofs.StringLaws.{bool-cases, eqb-cases, clash}
 use Rattle.listing.specs.Listing.{begins, upto, entryFor, delimiterOf}
 use Rattle.listing.specs.Bound.{tailUp, tailFor}
@@ -24,7 +23,7 @@ use Rattle.listing.proofs.BoundLaws.{upto-twice}
 use Rattle.seek.proofs.LeafLaws.{text-part}
 use Rattle.names.specs.declared.entry.Cut.{Cut}
 use Rattle.names.specs.declared.entry.Entry.{Entry}
-use Rattle.names.specs.Entry.{CutAt, CutOut, OfKey}
+use Rattle.names.specs.Entry.{CutAt, OfKey}
 
 -- ---- does the key begin with the prefix?
 

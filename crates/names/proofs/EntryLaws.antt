@@ -1,18 +1,17 @@
 -- The first key at or above a bound in a good frame's tree, and the entry that it gives of a listing. Assumes nothing.
 use Prim.Native.Nat.{ℕ, _+_, _≤_}
-use native.Mathlib.Omega.{arith}
-use mathlib.Core.Path.{_≡_, refl, sym, ap, subst, _∙_}
+use mathlib.Core.Path.{_≡_, refl, sym, subst, _∙_}
 use mathlib.Core.List.{List, [], _∷_, _++_}
-use mathlib.Core.Bool.{Bool, true, false}
-use mathlib.Core.Option.{Option, none, some}
-use lib.ListN.{length, take, drop}
+use mathlib.Core.Bool.{true, false}
+use mathlib.Core.Option.{Option, some}
+use lib.ListN.{length}
 use Rattle.layout.specs.Number.{Bytes}
 use Rattle.layout.specs.Kind.{Leaf, bodySize}
 use Rattle.model.specs.Edition.{Edition, edition1}
 use Rattle.model.specs.Tree.{Art}
 use Rattle.model.specs.Records.{Record, records, recordsKids, AllKeys, Ascending}
 use Rattle.model.specs.Body.{LeafAt}
-use Rattle.model.specs.Frame.{Lay, LayKids, slotOf, atop, art, artKids, LeafOf, Tree, Trees}
+use Rattle.model.specs.Frame.{Lay, LayKids, slotOf, atop, art, artKids, Tree, Trees}
 use Rattle.model.specs.Frame.Lay.{leaf, prefix, node}
 use Rattle.model.specs.Frame.LayKids.{nil, kid}
 use Rattle.model.proofs.StringLaws.{bool-cases, clash}
@@ -23,7 +22,7 @@ use Rattle.model.proofs.StandsGood.{tree-well}
 use Rattle.model.proofs.UniqueLaws.{tree-unique}
 use Rattle.listing.specs.Listing.{begins, entryFor, names, afterStart}
 use Rattle.listing.specs.Seek.{Leafy, leaves, leavesAll, reach, firstFrom}
-use Rattle.listing.specs.Bound.{tailFor, above, KeysAlike}
+use Rattle.listing.specs.Bound.{above, KeysAlike}
 use Rattle.listing.proofs.PagesLaws.{entry-legal}
 use Rattle.listing.proofs.PageLaws.{Plain, first-none, first-some, left-none, left-past, left-some}
 use Rattle.inside.specs.Inside.{Inside, InsideAll}
@@ -31,7 +30,7 @@ use Rattle.seek.specs.declared.Sought.{Sought}
 use Rattle.seek.specs.Sub.{Sub, Placed}
 use Rattle.seek.specs.Seek.{SoughtAt, LeafSome}
 use Rattle.names.specs.declared.entry.Entry.{Entry}
-use Rattle.names.specs.Entry.{CutOut, OfKey, Heads, Next, EntryFrom}
+use Rattle.names.specs.Entry.{OfKey, Next, EntryFrom}
 use Rattle.names.proofs.CutLaws.{entry-twice}
 
 -- ---- the records of a tree, and its Leaves

@@ -3,24 +3,24 @@ use Prim.Native.Nat.{ℕ, _<_, _≤_}
 use native.Mathlib.Omega.{arith}
 use native.Mathlib.Decide.{ℕ-discrete}
 use mathlib.Core.Path.{_≡_, refl, sym, ap, _∙_}
-use mathlib.Core.List.{List, [], _∷_, _++_}
+use mathlib.Core.List.{List, [], _∷_}
 use mathlib.Core.Bool.{Bool, true, false, not}
 use mathlib.Core.Option.{Option, none, some}
-use lib.ListN.{length, drop}
-use lib.Dec.{ltb, eqb}
+use lib.ListN.{length}
+use lib.Dec.{eqb}
 use borrow.Author.Tests.{lt-ltb, le-ltb, ne-eqb, not-true, not-false}
 use Rattle.answers.specs.declared.List.{List as Listing}
 use Rattle.answers.specs.Number.{listNumber, listCount, listMore}
 use Rattle.layout.specs.Number.{le}
 use Rattle.layout.specs.Place.{atR, atRoot}
-use Rattle.model.specs.Strings.{pick, hasZero}
+use Rattle.model.specs.Strings.{hasZero}
 use Rattle.model.specs.Edition.{edition1}
 use Rattle.model.specs.Tree.{Art}
 use Rattle.model.specs.Records.{Record, records, recordsOf}
 use Rattle.model.specs.State.{State}
 use Rattle.model.specs.Frame.{Lay, Root, bare, tree, slotOf, art, rootArt, rootSlot, RootAt, Tree, Good, Stands}
 use Rattle.model.specs.Promise.{Told, CheckPromise}
-use Rattle.model.proofs.StringLaws.{bool-cases, eqb-cases, ltb-cases, clash}
+use Rattle.model.proofs.StringLaws.{bool-cases, eqb-cases, ltb-cases}
 use Rattle.model.proofs.Edition1.{lawful1}
 use Rattle.model.proofs.StandsGood.{stands-heads}
 use Rattle.model.proofs.PackStands.{empty-none}

@@ -1,7 +1,7 @@
 -- The first entry of a listing by where its start key stands to the prefix, and a page as it fills: one law for each exit of the code. Assumes nothing.
 use Prim.Native.Nat.{ℕ, _+_, _-_, _<_, _≤_}
 use native.Mathlib.Omega.{arith}
-use mathlib.Core.Path.{_≡_, refl, sym, ap, subst, _∙_}
+use mathlib.Core.Path.{_≡_, sym, ap, subst, _∙_}
 use mathlib.Core.List.{List, [], _∷_, _++_}
 use mathlib.Core.Bool.{Bool, true, false}
 use mathlib.Core.Option.{Option, none, some}
@@ -10,14 +10,13 @@ use lib.Seq.{take-all}
 use lib.Dec.{eqb, lit≤}
 use Rattle.answers.specs.declared.List.the-variants as list
 use Rattle.answers.specs.declared.Refusal.the-variants as refusal
-use Rattle.model.specs.Strings.{pick}
 use Rattle.model.specs.Edition.{edition1}
 use Rattle.model.specs.Records.{Record, records, Ascending}
 use Rattle.model.specs.Image.{digits}
-use Rattle.model.specs.Frame.{Lay, slotOf, art, Tree}
+use Rattle.model.specs.Frame.{Lay, art}
 use Rattle.model.proofs.StringLaws.{bool-cases, clash}
 use Rattle.model.proofs.Edition1.{key-passes}
-use Rattle.listing.specs.Listing.{begins, entryFor, names, afterStart, laid, page, startOf, startFault, Gave}
+use Rattle.listing.specs.Listing.{begins, entryFor, names, afterStart, laid, page, startOf, Gave}
 use Rattle.listing.specs.Seek.{weigh}
 use Rattle.listing.specs.Bound.{tailUp, tailFor, above}
 use Rattle.listing.proofs.PageLaws.{above-prefix, above-start, below-prefix, above-none, start-all, start-none, Filled, fill-start, fill-long, fill-end, fill-more, fill-ten, fill-one}

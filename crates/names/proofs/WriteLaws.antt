@@ -1,14 +1,13 @@
 -- An entry written into a buffer: its length, then its bytes, and no other byte. Assumes nothing.
 use Prim.Native.Nat.{ℕ, zero, suc, _+_, _-_, _/_, _%_, _<_, _≤_}
 use native.Mathlib.Omega.{arith}
-use mathlib.Core.Path.{_≡_, refl, sym, ap, _∙_}
-use mathlib.Core.List.{List, [], _∷_, _++_}
-use lib.ListN.{length, take, drop, getD, set, length-set, length-append, length-take, length-drop, take-append-drop}
+use mathlib.Core.Path.{_≡_, sym, ap, _∙_}
+use mathlib.Core.List.{List, _++_}
+use lib.ListN.{length, take, drop, getD, set, length-set, length-take, length-drop, take-append-drop}
 use lib.Seq.{ext-getD, getD-take, getD-drop, getD-set-same, getD-set-other, drop-drop}
 use Rattle.layout.specs.Number.{byteAt, put}
 use Rattle.layout.proofs.NumberLaws.{length-put}
 use Rattle.model.specs.Image.{digits}
-use Rattle.moves.specs.Moved.{Only}
 use Rattle.moves.specs.Pasted.{Pasted}
 
 -- a list that has x at a place, and else the bytes of b

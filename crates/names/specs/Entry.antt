@@ -2,12 +2,11 @@
 use Prim.Native.Nat.{ℕ, _+_, _≤_}
 use mathlib.Core.Path.{_≡_}
 use mathlib.Core.List.{List, [], _∷_, _++_}
-use mathlib.Core.Bool.{Bool, true, false}
+use mathlib.Core.Bool.{true, false}
 use mathlib.Core.Option.{Option, none, some}
 use lib.ListN.{length, take, drop}
 use Rattle.answers.specs.declared.List.{List as Listing}
 use Rattle.answers.specs.Number.{listNumber, listCount, listMore}
-use Rattle.model.specs.Strings.{All}
 use Rattle.model.specs.Edition.{edition1}
 use Rattle.model.specs.Records.{Record, records}
 use Rattle.model.specs.Frame.{Lay, slotOf, art, Tree}

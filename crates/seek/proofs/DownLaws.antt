@@ -1,23 +1,22 @@
 -- One law for each step down: a Leaf, a Prefix, an inner node. Assumes nothing.
-use Prim.Native.Nat.{ℕ, suc, _+_, _<_, _≤_}
+use Prim.Native.Nat.{ℕ, _+_, _≤_}
 use native.Mathlib.Omega.{arith}
 use native.Mathlib.Decide.{ℕ-discrete}
-use mathlib.Core.Path.{_≡_, refl, sym, ap, _∙_}
+use mathlib.Core.Path.{_≡_, refl, sym, _∙_}
 use mathlib.Core.List.{List, [], _∷_, _++_}
-use mathlib.Core.Option.{Option, none, some}
+use mathlib.Core.Option.{some}
 use lib.ListN.{length, length-append}
 use borrow.Author.Tests.{le-ltb}
 use Rattle.layout.specs.Number.{le, Bytes}
 use Rattle.layout.specs.Place.{entryAt, prefixChild, prefixLength}
-use Rattle.layout.specs.Kind.{Leaf, Prefix, bodySize, fewest}
+use Rattle.layout.specs.Kind.{Leaf, Prefix, fewest}
 use Rattle.layout.specs.Entry.{highOf, placeOf}
 use Rattle.model.specs.Edition.{edition1}
 use Rattle.model.specs.Body.{InnerAt, PrefixAt}
-use Rattle.model.specs.Frame.{Lay, LayKids, slotOf, art, artKids, pairs, IsNode, Entry, NodeOf, LeafOf, Tree, Trees}
+use Rattle.model.specs.Frame.{Lay, LayKids, slotOf, pairs, Tree, Trees}
 use Rattle.model.specs.Frame.Lay.{leaf, prefix, node}
 use Rattle.model.specs.Frame.LayKids.{nil, kid}
 use Rattle.model.proofs.OneBody.{below-short}
-use Rattle.model.proofs.UniqueLaws.{tree-unique}
 use Rattle.node.specs.Kids.{nextKid}
 use Rattle.inner.specs.Inner.{NodeSome}
 use Rattle.listing.specs.Seek.{Leafy, leaves, leavesAll, firstOf}

@@ -1,14 +1,14 @@
 -- A Leaf's key against a bound: its bytes, and the 0 behind them. Assumes nothing.
-use Prim.Native.Nat.{ℕ, suc, _+_, _<_, _≤_}
+use Prim.Native.Nat.{ℕ, _+_, _<_, _≤_}
 use native.Mathlib.Omega.{arith}
-use mathlib.Core.Path.{_≡_, refl, sym, ap, _∙_}
-use mathlib.Core.List.{List, [], _∷_, _++_}
-use mathlib.Core.Bool.{Bool, true, false}
+use mathlib.Core.Path.{_≡_, sym, _∙_}
+use mathlib.Core.List.{List, [], _∷_}
+use mathlib.Core.Bool.{false}
 use lib.ListN.{length, take, drop, getD, length-append, length-take, length-drop, List·getD-append, drop-of-length-le}
 use lib.Seq.{ext-getD, getD-take, getD-drop, drop-cons}
 use lib.Dec.{leb, ltb, eqb, lit≤}
-use borrow.Author.Tests.{le-leb, lt-ltb, le-ltb, eq-eqb, ne-eqb}
-use Rattle.layout.specs.Number.{byteAt, le}
+use borrow.Author.Tests.{le-leb, le-ltb, eq-eqb, ne-eqb}
+use Rattle.layout.specs.Number.{le}
 use Rattle.layout.specs.Place.{leafExtent, leafKey}
 use Rattle.model.specs.Strings.{pick}
 use Rattle.model.specs.Edition.{edition1}

@@ -1,24 +1,19 @@
 -- One law for each way that the seek goes in a frame. Assumes nothing.
-use Prim.Native.Nat.{ℕ, suc, _+_, _<_, _≤_}
+use Prim.Native.Nat.{ℕ, suc, _+_, _≤_}
 use native.Mathlib.Omega.{arith}
 use mathlib.Core.Path.{_≡_, refl, sym, ap, _∙_}
 use mathlib.Core.List.{List, [], _∷_, _++_, append-assoc}
-use mathlib.Core.Bool.{true, false}
-use mathlib.Core.Option.{Option, none, some}
-use lib.ListN.{length, length-append, take, drop, take-append-drop}
-use lib.Dec.{ltb, eqb}
-use borrow.Author.Tests.{le-ltb, lt-ltb}
+use mathlib.Core.Option.{none}
+use lib.ListN.{length, length-append, drop, take-append-drop}
 use Rattle.layout.specs.Number.{Bytes}
-use Rattle.layout.specs.Place.{entryAt}
-use Rattle.layout.specs.Entry.{highOf, placeOf}
 use Rattle.model.specs.Edition.{edition1}
-use Rattle.model.specs.Body.{InnerAt, Asc, lookKid}
-use Rattle.model.specs.Frame.{Lay, LayKids, slotOf, pairs, Entry, NodeOf, LeafOf, Tree, Trees}
+use Rattle.model.specs.Body.{Asc, lookKid}
+use Rattle.model.specs.Frame.{Lay, LayKids, slotOf, pairs, Tree, Trees}
 use Rattle.model.specs.Frame.Lay.{leaf, prefix, node}
 use Rattle.model.specs.Frame.LayKids.{nil, kid}
-use Rattle.model.proofs.StringLaws.{bool-cases, eqb-cases, ltb-cases, clash}
+use Rattle.model.proofs.StringLaws.{eqb-cases, ltb-cases}
 use Rattle.node.specs.Kids.{nextKid, orZero}
-use Rattle.listing.specs.Seek.{Leafy, leaves, leavesAll, weigh, firstFrom, firstOf, orElse, kidsFrom, leavesAt, AllL, From, Under, Kept}
+use Rattle.listing.specs.Seek.{Leafy, leaves, leavesAll, firstOf, kidsFrom, leavesAt, AllL, From, Under, Kept}
 use Rattle.listing.proofs.SeekLaws.{all-append, all-map}
 use Rattle.inside.specs.Inside.{Inside, InsideAll}
 use Rattle.inside.proofs.InsideLaws.{slot-in}

@@ -5,34 +5,33 @@ use mathlib.Core.Path.{_≡_, refl, sym, ap, _∙_}
 use mathlib.Core.List.{List, [], _∷_, _++_}
 use mathlib.Core.Bool.{true, false}
 use mathlib.Core.Option.{Option, none, some}
-use lib.ListN.{length, length-append, take, drop, getD, drop-of-length-le, length-take, length-drop}
-use lib.Seq.{ext-getD, getD-take, getD-drop, drop-cons}
+use lib.ListN.{length, length-append, take, drop, getD, drop-of-length-le}
+use lib.Seq.{drop-cons}
 use native.Mathlib.Decide.{ℕ-discrete}
 use lib.Dec.{ltb, eqb, leb}
-use borrow.Author.Tests.{le-ltb, lt-ltb, eq-eqb, ne-eqb}
-use Rattle.layout.specs.Number.{Bytes, le}
-use Rattle.layout.specs.Place.{entryAt, prefixChild, prefixLength, prefixBytes}
+use borrow.Author.Tests.{le-ltb, eq-eqb}
+use Rattle.layout.specs.Number.{le}
+use Rattle.layout.specs.Place.{prefixChild, prefixLength, prefixBytes}
 use Rattle.layout.specs.Kind.{Leaf, Prefix}
 use Rattle.layout.specs.Entry.{highOf, placeOf}
 use Rattle.model.specs.Edition.{edition1}
-use Rattle.model.specs.Body.{InnerAt, Asc, lookKid, LeafAt, PrefixAt, Text}
-use Rattle.model.specs.Frame.{Lay, LayKids, slotOf, pairs, Entry, NodeOf, LeafOf, Tree, Trees}
+use Rattle.model.specs.Body.{InnerAt, Asc, lookKid, LeafAt, PrefixAt}
+use Rattle.model.specs.Frame.{Lay, LayKids, slotOf, pairs, Tree, Trees}
 use Rattle.model.specs.Frame.Lay.{leaf, prefix, node}
-use Rattle.model.specs.Frame.LayKids.{nil, kid}
 use Rattle.model.proofs.StringLaws.{bool-cases, clash}
 use Rattle.model.proofs.OneBody.{below-short}
 use Rattle.model.proofs.UniqueLaws.{tree-unique}
 use Rattle.node.specs.Kids.{nextKid, orZero}
-use Rattle.listing.specs.Seek.{Leafy, leaves, leavesAll, weigh, reach, firstFrom, firstOf, orElse, kidsFrom, leavesAt, Under, Kept}
+use Rattle.listing.specs.Seek.{Leafy, leaves, leavesAll, weigh, reach, firstFrom, firstOf, orElse, kidsFrom, leavesAt, Kept}
 use Rattle.listing.proofs.SeekLaws.{weigh-append, weigh-byte, seek-above, seek-below, node-tail, node-byte}
 use Rattle.seek.specs.declared.Spare.{Spare}
 use Rattle.seek.specs.declared.Sought.{Sought}
 use Rattle.inside.specs.Inside.{Inside, InsideAll}
 use Rattle.inside.proofs.InsideLaws.{entry-at}
 use Rattle.audit.proofs.TreeLaws.{node-short}
-use Rattle.seek.specs.Sub.{Sub, Placed}
+use Rattle.seek.specs.Sub.{Sub}
 use Rattle.seek.specs.Seek.{Fallback, Falls, Is, SoughtAt, Seeking, Nearer, LeafSome}
-use Rattle.seek.proofs.DownLaws.{Full, tree-full, sub-slot, first-append}
+use Rattle.seek.proofs.DownLaws.{Full, tree-full, sub-slot}
 use Rattle.seek.proofs.LeafLaws.{text-part, weigh-most}
 use Rattle.seek.proofs.SeekLaws.{tree-under, trees-kept, kids-none, kids-some, kid-gone, kid-there}
 

@@ -1,8 +1,8 @@
 -- The seek in a frame: what stands where it goes on, and what it falls back on.
-use Prim.Native.Nat.{ℕ, _+_, _<_, _≤_}
+use Prim.Native.Nat.{ℕ, _+_, _≤_}
 use mathlib.Core.Path.{_≡_}
 use mathlib.Core.List.{List}
-use mathlib.Core.Bool.{Bool, true, false}
+use mathlib.Core.Bool.{true, false}
 use mathlib.Core.Option.{Option, none}
 use lib.ListN.{length}
 use Rattle.model.specs.Edition.{edition1}

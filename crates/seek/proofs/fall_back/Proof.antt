@@ -1,8 +1,7 @@
 -- None, or the first Leaf of that tree. Assumes nothing.
 use Prim.Native.Nat.{_≤_}
-use mathlib.Core.Path.{_≡_, refl, sym, _∙_}
+use mathlib.Core.Path.{_∙_}
 use native.Mathlib.Omega.{arith}
-use borrow.Author.Needs.{needs}
 use Rattle.model.proofs.StringLaws.{clash}
 use Rattle.seek.proofs.fall_back.Statement.{statement}
 use Rattle.seek.proofs.fall_back.Tie as tie

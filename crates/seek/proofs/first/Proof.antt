@@ -1,13 +1,12 @@
 -- The first Leaf is that of the tree where the walk stands. Assumes nothing.
-use Prim.Native.Nat.{ℕ, _+_, _-_, _<_, _≤_}
-use mathlib.Core.Path.{_≡_, refl, sym, ap, _∙_}
+use Prim.Native.Nat.{_-_, _≤_}
+use mathlib.Core.Path.{sym, ap, _∙_}
 use native.Mathlib.Omega.{arith}
-use borrow.Author.Needs.{needs}
 use Rattle.model.specs.Edition.{edition1}
 use Rattle.model.specs.Frame.{Lay}
 use Rattle.model.proofs.UniqueLaws.{tree-unique}
 use Rattle.listing.specs.Seek.{leaves, firstOf}
-use Rattle.seek.specs.Sub.{Sub, Down}
+use Rattle.seek.specs.Sub.{Down}
 use Rattle.seek.proofs.DownLaws.{sub-slot, down-leaf, prefix-room, prefix-below, down-to, node-some, node-below}
 use Rattle.seek.proofs.first.Statement.{statement}
 use Rattle.seek.proofs.first.Tie as tie

@@ -1,6 +1,5 @@
 -- The key's bytes decide, or the 0 behind them. Assumes nothing.
-use Prim.Native.Nat.{_≤_}
-use mathlib.Core.Path.{_≡_, refl, sym, _∙_}
+use mathlib.Core.Path.{_∙_}
 use native.Mathlib.Omega.{arith}
 use borrow.Author.Needs.{needs}
 use Rattle.seek.proofs.LeafLaws.{leaf-decided, leaf-inner, leaf-tail}

@@ -1,27 +1,15 @@
 -- The seek's invariant: the whole gives what this tree gives, or else the spare. Assumes nothing.
-use Prim.Native.Nat.{ℕ, suc, _+_, _-_, _<_, _≤_}
-use mathlib.Core.Path.{_≡_, refl, sym, ap, _∙_}
+use Prim.Native.Nat.{suc, _-_}
+use mathlib.Core.Path.{sym, _∙_}
 use native.Mathlib.Omega.{arith}
 use native.Mathlib.Numerals.{add-one}
-use borrow.Author.Needs.{needs}
-use mathlib.Core.List.{List}
 use lib.ListN.{getD}
 use Rattle.model.specs.Frame.{pairs}
-use Rattle.seek.specs.Seek.{Seeking, Falls, Nearer}
+use Rattle.seek.specs.Seek.{Seeking, Nearer}
 use Rattle.seek.proofs.DownLaws.{sub-slot}
-use Rattle.seek.proofs.WayLaws.{start, spare-falls, this-falls, fell, leaf-some, leaf-hit, leaf-miss, prefix-room, prefix-fits, prefix-some, prefix-above, prefix-below, prefix-on, at-node, nearer-falls, node-end, node-miss, node-on}
+use Rattle.seek.proofs.WayLaws.{start, spare-falls, this-falls, leaf-some, leaf-hit, leaf-miss, prefix-room, prefix-fits, prefix-some, prefix-above, prefix-below, prefix-on, at-node, nearer-falls, node-end, node-miss, node-on}
 use Rattle.seek.proofs.seek.Statement.{statement}
 use Rattle.seek.proofs.seek.Tie as tie
-use Rattle.seek.proofs.seek.Reads as reads
-use Rattle.seek.proofs.seek.Lts as lts
-use Rattle.fields.proofs.body.Prefix.child.Reads as child-reads
-use Rattle.fields.proofs.body.Prefix.length.Reads as length-reads
-use Rattle.inner.proofs.look.seat.Reads as seat-reads
-use Rattle.layout.proofs.entry.Entry.read.Reads as read-reads
-use Rattle.seek.proofs.fall_back.Reads as fall-back-reads
-use Rattle.seek.proofs.leaf_reaches.Reads as leaf-reaches-reads
-use Rattle.seek.proofs.nearer.Reads as nearer-reads
-use Rattle.seek.proofs.weigh_bytes.Reads as weigh-bytes-reads
 
 abbrev Inv-loop : tie.InvT-loop
 Inv-loop f root text tail s₀ d₀ spare₀ s d spare = Seeking f text tail root s d spare

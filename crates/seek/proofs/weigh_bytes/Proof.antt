@@ -1,8 +1,6 @@
 -- What is left weighs what the whole weighs. Assumes nothing.
-use Prim.Native.Nat.{ℕ, _+_, _-_, _<_, _≤_}
-use mathlib.Core.Path.{_≡_, refl, sym, _∙_}
+use Prim.Native.Nat.{_+_, _-_, _≤_}
 use native.Mathlib.Omega.{arith}
-use borrow.Author.Needs.{needs}
 use Rattle.seek.proofs.WeighLaws.{Weighed, weighed-start, weighed-end, tail-above, tail-below, byte-above, byte-below, byte-same}
 use Rattle.seek.proofs.weigh_bytes.Statement.{statement}
 use Rattle.seek.proofs.weigh_bytes.Tie as tie
