@@ -1,0 +1,2 @@
+// Many changes, checked once.
+pub mod laid;
