@@ -111,11 +111,11 @@ module _ (b : List ℕ) where
   pub offsetless : countSize ≤ length b → length b < offsetAt (countIn b) → false ≡ laid (changesOf b)
   offsetless h g = rw (le-leb countSize (length b) h, lt-leb (offsetAt (countIn b)) (length b) g) refl
 
-  pub headed : countSize ≤ length b → offsetAt (countIn b) ≤ length b → laid (changesOf b) ≡ laid (changesFrom b (countIn b) 0 (offsetAt (countIn b)))
-  headed h g = rw (le-leb countSize (length b) h, le-leb (offsetAt (countIn b)) (length b) g) refl
+  pub headed-is : countSize ≤ length b → offsetAt (countIn b) ≤ length b → changesOf b ≡ changesFrom b (countIn b) 0 (offsetAt (countIn b))
+  headed-is h g = rw (le-leb countSize (length b) h, le-leb (offsetAt (countIn b)) (length b) g) refl
 
   pub first : (n low : ℕ) → n ≡ countIn b → low ≡ offsetAt n → countSize ≤ length b → low ≤ length b → laid (changesOf b) ≡ laid (changesFrom b (n - 0) 0 low)
   first n low e d h g =
       let z : n - 0 ≡ countIn b = omega arith in
       let y : low ≡ offsetAt (countIn b) = omega arith in
-      rw (z, y) (headed h (omega arith))
+      rw (z, y) (ap laid (headed-is h (omega arith)))

@@ -1,1 +1,4 @@
 pub mod LayoutLaws
+pub mod ChangeLaws
+pub mod RunLaws
+pub mod ApplyLaws

@@ -1,2 +1,5 @@
 pub mod Layout
 pub mod Layouts
+pub mod Fault
+pub mod Batch
+pub mod Run

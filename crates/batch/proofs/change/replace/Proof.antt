@@ -1,0 +1,41 @@
+-- `replace`: refused for its key or value, or what the core has made. Assumes nothing.
+use native.Mathlib.Omega.{arith}
+use Rattle.model.specs.State.{replacing}
+use Rattle.batch.proofs.ChangeLaws.{barred, asked, write-done, replace-small}
+use borrow.Author.Needs.{needs}
+use Rattle.batch.proofs.change.replace.Statement.{statement}
+use Rattle.batch.proofs.change.replace.Tie as tie
+
+fault-requires : tie.Need-fault-requires
+fault-requires c κs = search needs
+
+returns : tie.Need-returns
+returns c = let z = c .before .before .before .before .before in barred (z .pre) (z .args .key .now) (z .args .value .now) _ (c .before .fault .ensures) (c .if1 .taken) replacing
+
+replace-requires : tie.Need-replace-requires
+replace-requires c κs =
+    let z = c .before .before .before .before .before .before in
+    asked (z .pre) (z .args .key .now) (z .args .value .now) _ (c .before .before .fault .ensures) (c .before .if1 .left)
+    (λ a. omega (arith, c .before .before .before .before .shared-slice-known .given a)) (λ a. omega (arith, c .before .before .before .shared-slice-known2 .given a))
+
+replace-number-requires : tie.Need-replace-number-requires
+replace-number-requires c κs = search needs
+
+cast-result : tie.Need-cast-result
+cast-result c = search needs
+
+same-length : tie.Need-same-length
+same-length c = search needs
+
+returns-2 : tie.Need-returns-2
+returns-2 c =
+    let z = c .before .before .before .before .before .before .before .before .before .before in
+    let k = z .args .key .now in
+    let v = z .args .value .now in
+    let call = c .before .before .before .replace in
+    let A = asked (z .pre) k v _ (c .before .before .before .before .before .before .fault .ensures) (c .before .before .before .before .before .if1 .left)
+    (λ a. omega (arith, c .before .before .before .before .before .before .before .before .shared-slice-known .given a)) (λ a. omega (arith, c .before .before .before .before .before .before .before .shared-slice-known2 .given a)) in
+    rw (c .replace-number .ensures) (write-done _ k v replacing A (call .ensures), replace-small (call .result))
+
+pub replace-spec : {M : Type 1} → statement M
+replace-spec = tie.close (tie.spec fault-requires returns replace-requires replace-number-requires cast-result same-length returns-2)

@@ -1,0 +1,9 @@
+-- The refusal that a key and a value get, in the order 3, 4, 5, and 0 if both are legal.
+use Prim.Native.Nat.{ℕ}
+use mathlib.Core.List.{List}
+use lib.Dec.{eqb}
+use Rattle.model.specs.Strings.{pick}
+use Rattle.model.specs.Edition.{edition1, Value, valueFault}
+
+abbrev pub faultOf : List ℕ → Value → ℕ
+faultOf k v = pick (eqb (edition1 .keyFault k) 0) (valueFault v) (edition1 .keyFault k)
