@@ -1,3 +1,4 @@
 pub mod LookUpLaws
 pub mod InfoLaws
 pub mod ListLaws
+pub mod BatchLaws

@@ -2,3 +2,4 @@ pub mod Tells
 pub mod LookUp
 pub mod Info
 pub mod List
+pub mod Batch

@@ -19,6 +19,7 @@ ghost use Rattle.frame_store.specs.LookUp.{LookedUp};
 ghost use Rattle.frame_store.specs.Info.{Informed};
 ghost use Rattle.answers.specs.Number.{oneIf};
 ghost use Rattle.frame_store.specs.List.{Listed};
+ghost use Rattle.frame_store.specs.Batch.{Batched};
 
 // as many numbers as look-up tells, as a listing does, and as info does
 const FOUND: usize = 3;
@@ -26,6 +27,9 @@ const FOUND: usize = 3;
 const PAGE: usize = 2;
 
 const COUNTS: usize = 14;
+
+// the place of a refused change stands above the number's byte
+const PLACE_UNIT: u64 = 256;
 
 #[no_mangle]
 pub extern "C" fn frame_format(frame: &mut [u8], length: usize, capacity: usize) -> u32
@@ -171,4 +175,18 @@ pub extern "C" fn frame_list(
     };
     tell_page(page, count, one_if(more));
     n
+}
+
+// A batch: the number, and 256 times the place of the first refused change, counted from 1.
+#[no_mangle]
+pub extern "C" fn frame_batch(
+    frame: &mut [u8],
+    second: &mut [u8],
+    changes: &[u8],
+    answers: &mut [u8],
+) -> u64
+    ensures { λ r. ⌜ Batched (now (frame .entry)) (now (second .entry)) (now (changes .entry)) (now (answers .entry)) r (now (frame .exit)) (now (second .exit)) (now (answers .exit)) ⌝ }
+{
+    let end = batch::apply(frame, second, changes, answers);
+    end.number as u64 + PLACE_UNIT * (end.place as u64)
 }
