@@ -1,9 +1,9 @@
-//! A second settings store, written from document 01 alone, and the harness
+//! A second settings store, written from documents 01 and 02 alone, and the harness
 //! that compares any store with it.
 //!
 //! `layout` and `check`, which have a package of their own (`tools/rules`), and
 //! `store` and `names` are the second store. `slotless` and `image` are two further
-//! readings of document 01, and the store is held to both.
+//! readings of the documents, and the store is held to both.
 //! `compare` holds any store's calls to all of them; `run` is what the gate runs.
 
 pub use frame_rules::{check, layout};

@@ -4,7 +4,7 @@
 //! call needs and frees, of each kind, exactly the bodies by which the tree
 //! after differs from the tree before. The model holds the tree, U, B, R, X
 //! and the eight list lengths, and predicts them with the number for each
-//! call. It is another reading of document 01 than the store's list of needs.
+//! call. It is another reading of the documents than the store's list of needs.
 
 use crate::layout::number::*;
 use crate::layout::*;
