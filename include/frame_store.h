@@ -18,11 +18,13 @@
  *   3  FRAME_KEY_LENGTH    the key has no byte, or more than 112; list: the prefix has more than 112
  *   4  FRAME_KEY_ZERO      the key holds a byte 0
  *   5  FRAME_VALUE_LENGTH  the value has more than 65,535 bytes
- *   7  FRAME_OUT_LENGTH    pack: the output is not as long as the frame
+ *   7  FRAME_OUT_LENGTH    pack: the output is not as long as the frame; batch: the second frame is not
+ *  12  FRAME_LAYOUT        batch: not laid out as docs/FORMAT.md says
  *   6  FRAME_NO_ROOM       not enough slots or bytes are left for what the call needs
  *  10  FRAME_BUFFER        list: the buffer is too small for the first entry
  *
- * 1 to 7 and 10 are refusals: nothing was changed, not one byte. If several apply, the first in the order 1, 2, 3, 4, 5, 7, 6, 10 is given;
+ * 1 to 7, 10 and 12 are refusals: nothing was changed, not one byte (batch: of the second frame some were). If several apply, the first in
+ * the order 1, 2, 3, 4, 5, 7, 6, 10 is given (batch: 1, 2, 7, 12, and then what its first refused change gets);
  * 0, 8, 9 and 11 only if none applies.
  *
  * Every call but format begins with a check of the whole frame, so any bytes may be lent: what is not a good frame is answered 2.
@@ -39,7 +41,7 @@
  * What the caller answers for, because no call can test it:
  *   - each pointer leads to as many bytes (for found, page and counts: numbers) as the length after it says, and is not NULL even
  *     if that length is 0;
- *   - what is lent for writing (frame in format, put, replace and erase; found; buffer; page; out; counts) overlaps nothing else that is lent to the
+ *   - what is lent for writing (frame in format, put, replace, erase and batch; second; answers; found; buffer; page; out; counts) overlaps nothing else that is lent to the
  *     same call: key and value do not lie in the frame that is written, and out is not the frame;
  *   - nobody else writes to lent bytes during the call, nor reads those that the call writes.
  */
@@ -68,7 +70,8 @@ enum {
     FRAME_ABSENT = 8,
     FRAME_REPLACED = 9,
     FRAME_BUFFER = 10,
-    FRAME_PRESENT = 11
+    FRAME_PRESENT = 11,
+    FRAME_LAYOUT = 12
 };
 
 /* Makes an empty frame of f bytes with n slots out of whatever stands there. frame_len is f. Gives 0 or 1. */
@@ -219,6 +222,76 @@ static inline const uint8_t *frame_next_entry(const uint8_t *at, struct frame_en
     entry->length = (uint32_t)at[0] | (uint32_t)at[1] << 8;
     entry->text = at + 2;
     return entry->text + entry->length;
+}
+
+/*
+ * Makes many changes with one check: puts, replacements and erases, in their order, in the second frame, which is as long as the frame and
+ * may hold anything; and if none is refused, the result goes to the frame. docs/FORMAT.md has the layout of a batch; frame_changes below
+ * writes it. Gives the number, and 256 times the place, from 1, of the first refused change: 0 if all were made; 1, 2, 7 or 12 alone if
+ * nothing was begun; or a change's refusal of 3 to 6 with its place, and then the frame is as it was. 8, 9 and 11 are no refusals and stop
+ * nothing. After 0 the second frame is the frame, and answers has what each change answered, a byte each, as many as answers_len has room
+ * for. After a refused change the second frame holds what the changes before it made, and answers is as it was.
+ */
+uint64_t frame_batch(uint8_t *frame, frame_length frame_len, uint8_t *second, frame_length second_len, const uint8_t *batch,
+                     frame_length batch_len, uint8_t *answers, frame_length answers_len);
+
+static inline uint32_t frame_batch_number(uint64_t given) { return (uint32_t)(given & 255); }
+
+/* The place of the first refused change, from 1; 0 if no change was refused. */
+static inline uint64_t frame_batch_place(uint64_t given) { return given >> 8; }
+
+enum { FRAME_CHANGE_PUT = 1, FRAME_CHANGE_REPLACE = 2, FRAME_CHANGE_ERASE = 3 };
+
+/* A batch as it is written into lent bytes: begun once, then one change after the other. The batch is bytes, length. */
+struct frame_changes {
+    uint8_t *bytes;
+    frame_length room;   /* of bytes */
+    frame_length length; /* of the batch so far */
+    uint32_t count;      /* of changes so far */
+    uint32_t most;       /* of changes */
+};
+
+static inline void frame_set4(uint8_t *at, uint32_t number) {
+    for (int i = 0; i < 4; i++) at[i] = (uint8_t)(number >> (8 * i));
+}
+
+/* Begins a batch of at most so many changes: 4 bytes and 4 for each come first. Gives 0, or 1 if there is no room even for these. */
+static inline int frame_changes_begin(struct frame_changes *changes, uint8_t *bytes, frame_length room, uint32_t most) {
+    changes->bytes = bytes;
+    changes->room = room;
+    changes->count = 0;
+    changes->most = most;
+    changes->length = 4 + 4 * (frame_length)most;
+    if (changes->length > room) {
+        changes->most = 0;
+        changes->length = 0;
+        return 1;
+    }
+    frame_set4(bytes, 0);
+    return 0;
+}
+
+/* Adds a change; an erase has no value (0 bytes). Gives 0, or 1 if it has no room: then the batch is as it was. */
+static inline int frame_changes_add(struct frame_changes *changes, int kind, const uint8_t *key, frame_length key_len,
+                                    const uint8_t *value, frame_length value_len) {
+    frame_length left = changes->room - changes->length;
+    uint8_t *at = changes->bytes + changes->length;
+    if (changes->count == changes->most || key_len > 65535 || left < 8 || left - 8 < key_len || left - 8 - key_len < value_len ||
+        value_len > 4294967295u || changes->length > 4294967295u) {
+        return 1;
+    }
+    frame_set4(changes->bytes + 4 + 4 * (size_t)changes->count, (uint32_t)changes->length);
+    at[0] = (uint8_t)kind;
+    at[1] = 0;
+    at[2] = (uint8_t)(key_len & 255);
+    at[3] = (uint8_t)(key_len >> 8);
+    frame_set4(at + 4, (uint32_t)value_len);
+    for (frame_length i = 0; i < key_len; i++) at[8 + i] = key[i];
+    for (frame_length i = 0; i < value_len; i++) at[8 + key_len + i] = value[i];
+    changes->length += 8 + key_len + value_len;
+    changes->count += 1;
+    frame_set4(changes->bytes, changes->count);
+    return 0;
 }
 
 #ifdef __cplusplus

@@ -67,6 +67,16 @@ mod c {
             page: *mut u64,
             two: Length,
         ) -> u32;
+        pub fn frame_batch(
+            frame: *mut u8,
+            frame_len: Length,
+            second: *mut u8,
+            second_len: Length,
+            batch: *const u8,
+            batch_len: Length,
+            answers: *mut u8,
+            answers_len: Length,
+        ) -> u64;
         pub fn frame_info(
             frame: *const u8,
             frame_len: Length,
@@ -150,6 +160,20 @@ pub fn list(
         )
     };
     (number, page)
+}
+
+/// What a number of the batch's stands for: the answer in its lowest byte, the place of the refused change above it.
+const PLACE: u64 = 256;
+
+pub fn batch(frame: &mut [u8], second: &mut [u8], batch: &[u8], answers: &mut [u8]) -> (u32, u64) {
+    let (frame_len, second_len) = (length(frame.len()), length(second.len()));
+    let (batch_len, answers_len) = (length(batch.len()), length(answers.len()));
+    let (frame, second) = (frame.as_mut_ptr(), second.as_mut_ptr());
+    let (batch, answers) = (batch.as_ptr(), answers.as_mut_ptr());
+    let given = unsafe {
+        c::frame_batch(frame, frame_len, second, second_len, batch, batch_len, answers, answers_len)
+    };
+    ((given % PLACE) as u32, given / PLACE)
 }
 
 pub fn info(frame: &[u8]) -> (u32, [u64; 14]) {

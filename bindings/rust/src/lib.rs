@@ -28,9 +28,11 @@
 #![warn(missing_docs)]
 #![deny(unsafe_code)]
 
+mod batch;
 mod calls;
 mod names;
 
+pub use batch::{Batch, Full, Stopped};
 pub use names::{Entries, Entry, Names, Page};
 
 use core::fmt;
@@ -49,12 +51,14 @@ pub enum Refusal {
     KeyZero,
     /// 5: the value has more than 65,535 bytes.
     ValueLength,
-    /// 7: pack: the output is not as long as the frame.
+    /// 7: pack: the output is not as long as the frame. Batch: the second frame is not.
     Output,
     /// 6: not enough slots or bytes are left for what the call needs.
     Room,
     /// 10: a listing's buffer is too small for the first entry.
     Buffer,
+    /// 12: the bytes are not laid out as a batch.
+    Layout,
 }
 
 impl Refusal {
@@ -69,10 +73,11 @@ impl Refusal {
             Refusal::Room => 6,
             Refusal::Output => 7,
             Refusal::Buffer => 10,
+            Refusal::Layout => 12,
         }
     }
 
-    const ALL: [Refusal; 8] = [
+    const ALL: [Refusal; 9] = [
         Refusal::Length,
         Refusal::Frame,
         Refusal::KeyLength,
@@ -81,6 +86,7 @@ impl Refusal {
         Refusal::Output,
         Refusal::Room,
         Refusal::Buffer,
+        Refusal::Layout,
     ];
 
     fn of_number(number: u32) -> Refusal {
@@ -100,9 +106,10 @@ impl fmt::Display for Refusal {
             Refusal::KeyLength => "the key has no byte, or it or the prefix has more than 112",
             Refusal::KeyZero => "the key holds a byte 0",
             Refusal::ValueLength => "the value has more than 65,535 bytes",
-            Refusal::Output => "the output is not as long as the frame",
+            Refusal::Output => "the output, or the second frame, is not as long as the frame",
             Refusal::Room => "too few slots or bytes are left for this call; `Info::lacked` tells which, and packing gives back what is no longer used",
             Refusal::Buffer => "the buffer is too small for the first entry",
+            Refusal::Layout => "the bytes are not laid out as a batch",
         })
     }
 }
@@ -400,6 +407,36 @@ impl<B: AsRef<[u8]> + AsMut<[u8]>> Frame<B> {
             DONE => Ok(Erase::Done),
             ABSENT => Ok(Erase::Absent),
             refused => Err(Refusal::of_number(refused)),
+        }
+    }
+
+    /// Makes all changes of a batch with one check of the frame, or none. They are made in `second`, which is as long as the frame and
+    /// may hold anything, and go to the frame if none is refused; then `answers` has what each change answered, a byte each (0, 8, 9 or 11),
+    /// as many as it has room for. If a change is refused, the frame and `answers` are as they were, and `second` holds what the changes
+    /// before it made. A [`Batch`] writes the bytes; docs/FORMAT.md has their layout.
+    ///
+    /// ```
+    /// # use frame_store::{Batch, Frame, Refusal, Stopped};
+    /// # let mut frame = Frame::format([0; 1024], 8).unwrap();
+    /// let (mut lent, mut second, mut answers) = ([0; 128], [0; 1024], [0; 2]);
+    /// let mut batch = Batch::new(&mut lent, 2).unwrap();
+    /// batch.put(b"line.rate", b"100").unwrap();
+    /// batch.erase(b"line.mode").unwrap();
+    /// assert_eq!(frame.apply(&batch, &mut second, &mut answers), Ok(()));
+    /// assert_eq!(answers, [0, 8]);
+    /// ```
+    pub fn apply<C: AsRef<[u8]> + ?Sized>(
+        &mut self,
+        batch: &C,
+        second: &mut [u8],
+        answers: &mut [u8],
+    ) -> Result<(), Stopped> {
+        match calls::batch(self.bytes.as_mut(), second, batch.as_ref(), answers) {
+            (DONE, _) => Ok(()),
+            (refused, place) => {
+                let change = usize::try_from(place).expect("a batch has at most 2^32 changes");
+                Err(Stopped { change, refusal: Refusal::of_number(refused) })
+            }
         }
     }
 

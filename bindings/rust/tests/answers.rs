@@ -1,7 +1,9 @@
 //! Every answer of every call, through the safe calls.
 #![forbid(unsafe_code)]
 
-use frame_store::{check, Entry, Erase, Frame, Info, Lack, Page, Put, Refusal, Replace, View};
+use frame_store::{
+    check, Batch, Entry, Erase, Frame, Full, Info, Lack, Page, Put, Refusal, Replace, Stopped, View,
+};
 
 const F: usize = 1_024;
 const N: usize = 8;
@@ -181,6 +183,48 @@ fn names_page_by_themselves() -> Result<(), Refusal> {
     Ok(())
 }
 
+#[test]
+fn a_batch_is_made_whole_or_not_at_all() -> Result<(), Refusal> {
+    let mut frame = Frame::format([0; F], N)?;
+    frame.put(b"a", b"1")?;
+    let before = frame;
+    let (mut lent, mut second, mut answers) = ([0; 256], [7; F], [7; 5]);
+    let mut batch = Batch::new(&mut lent, 4).expect("there is room");
+    batch.put(b"a", b"2").expect("there is room");
+    batch.put(b"b", b"2").expect("there is room");
+    batch.replace(b"a", b"3").expect("there is room");
+    batch.erase(b"c").expect("there is room");
+    assert_eq!(batch.erase(b"a"), Err(Full), "four were asked for");
+    assert_eq!(batch.len(), 4);
+    assert_eq!(frame.apply(&batch, &mut second, &mut answers), Ok(()));
+    assert_eq!(answers, [11, 0, 9, 8, 7]);
+    assert_eq!(frame.bytes(), second, "both frames are the same now");
+    assert_eq!((frame.look_up(b"a")?, frame.look_up(b"b")?), (Some(&b"3"[..]), Some(&b"2"[..])));
+
+    let mut frame = before;
+    let mut lent = [0; 256];
+    let mut batch = Batch::new(&mut lent, 2).expect("there is room");
+    batch.put(b"b", b"2").expect("there is room");
+    batch.erase(b"").expect("there is room");
+    let (mut second, mut answers) = ([7; F], [7; 5]);
+    let stopped = Stopped { change: 2, refusal: Refusal::KeyLength };
+    assert_eq!(frame.apply(&batch, &mut second, &mut answers), Err(stopped));
+    assert!(stopped.to_string().starts_with("change 2: "));
+    assert_eq!((frame.bytes(), answers), (before.bytes(), [7; 5]));
+    assert_eq!(View::open(&second)?.look_up(b"b")?, Some(&b"2"[..]), "made before the refusal");
+
+    let (mut second, mut unknown) = ([7; F], batch.bytes().to_vec());
+    unknown[12] = 4;
+    let layout = Stopped { change: 0, refusal: Refusal::Layout };
+    assert_eq!(frame.apply(&unknown, &mut second, &mut answers), Err(layout));
+    let length = Stopped { change: 0, refusal: Refusal::Output };
+    assert_eq!(frame.apply(&unknown, &mut [7; F + 8], &mut answers), Err(length), "7 before 12");
+    assert_eq!((frame.bytes(), second), (before.bytes(), [7; F]));
+    assert_eq!(Batch::new(&mut [0; 11], 2).err(), Some(Full));
+    assert_eq!(frame.apply(&[0; 4], &mut second, &mut []), Ok(()), "no change at all");
+    Ok(())
+}
+
 fn no_good_frame() -> [u8; F] {
     let mut bytes = [0; F];
     empty(&mut bytes);
@@ -314,6 +358,7 @@ fn every_refusal_has_its_number_and_words() {
         (Refusal::Room, 6),
         (Refusal::Output, 7),
         (Refusal::Buffer, 10),
+        (Refusal::Layout, 12),
     ];
     for (refusal, number) in all {
         assert_eq!(refusal.number(), number);
