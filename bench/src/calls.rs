@@ -173,7 +173,34 @@ pub fn proved(call: Call) -> Function {
     }
 }
 
+/// A batch by the proved store; gives its number and the place of the change
+/// that was refused.
+pub fn proved_batch(
+    frame: &mut [u8],
+    second: &mut [u8],
+    batch: &[u8],
+    answers: &mut [u8],
+) -> (u32, u64) {
+    // SAFETY: every part is passed with its own length, and lives through the
+    // call.
+    let given = unsafe {
+        exported::frame_batch(
+            frame.as_mut_ptr(),
+            frame.len(),
+            second.as_mut_ptr(),
+            second.len(),
+            batch.as_ptr(),
+            batch.len(),
+            answers.as_mut_ptr(),
+            answers.len(),
+        )
+    };
+    ((given % exported::BATCH_PLACE) as u32, given / exported::BATCH_PLACE)
+}
+
 mod exported {
+    /// What the place of a refused change is multiplied by.
+    pub const BATCH_PLACE: u64 = 256;
     pub const NO_DELIMITER: usize = 256;
     pub const PAGE_NUMBERS: usize = 2;
 
@@ -207,6 +234,16 @@ mod exported {
         pub fn frame_erase(frame: *mut u8, length: usize, key: *const u8, key_length: usize)
             -> u32;
         pub fn frame_pack(frame: *const u8, length: usize, out: *mut u8, out_length: usize) -> u32;
+        pub fn frame_batch(
+            frame: *mut u8,
+            length: usize,
+            second: *mut u8,
+            second_length: usize,
+            batch: *const u8,
+            batch_length: usize,
+            answers: *mut u8,
+            answers_length: usize,
+        ) -> u64;
         pub fn frame_list(
             frame: *const u8,
             length: usize,

@@ -2,10 +2,12 @@
 
 use store_bench::calls::{plain, proved, Call, Lent};
 use store_bench::deepest::{deep_trees, DeepTree};
-use store_bench::measure::{measure, page_times, page_to_check, page_to_page};
+use store_bench::measure::{
+    measure, page_times, page_to_check, page_to_page, visit_times, visit_to_check,
+};
 use store_bench::plain::layout::MOST_SLOTS;
 use store_bench::stack::bytes_used;
-use store_bench::workload::{page_starts, wide, workload, Fill, Workload, FRAMES, WIDTHS};
+use store_bench::workload::{page_starts, visit, wide, workload, Fill, Workload, FRAMES, WIDTHS};
 
 fn main() {
     let arguments: Vec<String> = std::env::args().skip(1).collect();
@@ -13,9 +15,10 @@ fn main() {
         [] => times(),
         ["wide"] => wide_times(),
         ["pages"] => pages(),
+        ["visit"] => visits(),
         ["stack"] => stacks(),
         _ => {
-            eprintln!("no argument: times; `wide`: those of trees of wide nodes; `pages`: those of a listing; `stack`: the stack that each call uses");
+            eprintln!("no argument: times; `wide`: those of trees of wide nodes; `pages`: those of a listing; `visit`: those of many changes; `stack`: the stack that each call uses");
             std::process::exit(2);
         }
     }
@@ -80,6 +83,18 @@ fn pages() {
     let [first, _, last] = &starts;
     let [_, _, ratio] = page_to_page(&frame, first, last);
     println!("the last page takes {ratio:.2} of the first one's time");
+}
+
+/// A visit's changes in a full frame of the longest length, one by one and in
+/// one batch.
+fn visits() {
+    let (frame, changes) = visit();
+    let [singly, at_once, ratio] = visit_times(&frame, &changes);
+    let [_, _, to_check] = visit_to_check(&frame, &changes);
+    println!("{} changes: {singly:.0} ns one by one, {at_once:.0} ns in a batch", changes.len());
+    println!(
+        "the batch takes {ratio:.3} of the single calls' time, and that of {to_check:.2} checks"
+    );
 }
 
 fn stacks() {

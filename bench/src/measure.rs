@@ -4,11 +4,11 @@
 //! right after one another and in changing order, so that both meet the same
 //! disturbances. Frames are restored before a sample, outside its time.
 
-use crate::calls::{plain, proved, Call, Function, Lent, PAGE_BYTES};
+use crate::calls::{plain, proved, proved_batch, Call, Function, Lent, PAGE_BYTES};
 use crate::plain::layout::number::DONE;
 use crate::plain::layout::{get16, NAME_LENGTH_BYTES};
 use crate::plain::{list, Asked};
-use crate::workload::{Task, Workload, PAGE_NAMES};
+use crate::workload::{batch, Record, Task, Workload, PAGE_NAMES};
 use std::hint::black_box;
 use std::time::{Duration, Instant};
 
@@ -136,6 +136,55 @@ impl Paged<'_> {
         self.found = black_box(lent.found);
         time.as_nanos() as f64
     }
+}
+
+/// A visit's changes one by one, and in one batch: nanoseconds of each, and the
+/// ratio of the batch to the single calls. Frames are restored before each.
+pub fn visit_times(frame: &[u8], changes: &[(Call, Record)]) -> [f64; 3] {
+    let batch = batch(changes);
+    let (mut singly, mut at_once) = (frame.to_vec(), frame.to_vec());
+    let (mut second, mut answers) = (vec![0; frame.len()], vec![0; changes.len()]);
+    let mut one_by_one = Vec::new();
+    let times = alternate(
+        || {
+            singly.copy_from_slice(frame);
+            one_by_one.clear();
+            let start = Instant::now();
+            for (call, Record { key, value }) in changes {
+                let mut lent =
+                    Lent { frame: &mut singly, out: &mut [], key, value, n: 0, found: [0; 3] };
+                one_by_one.push(proved(*call)(black_box(&mut lent)) as u8);
+            }
+            start.elapsed().as_nanos() as f64
+        },
+        || {
+            at_once.copy_from_slice(frame);
+            let start = Instant::now();
+            let given = proved_batch(&mut at_once, &mut second, &batch, &mut answers);
+            let time = start.elapsed();
+            assert_eq!(given, (DONE, 0), "no change is refused");
+            time.as_nanos() as f64
+        },
+    );
+    assert_eq!((singly, one_by_one), (at_once, answers), "both make the same changes");
+    times
+}
+
+/// The same batch beside a check, both of the proved store.
+pub fn visit_to_check(frame: &[u8], changes: &[(Call, Record)]) -> [f64; 3] {
+    let batch = batch(changes);
+    let mut checked = Paged::new(frame, b"", 0);
+    let (mut at_once, mut second) = (frame.to_vec(), vec![0; frame.len()]);
+    let mut answers = vec![0; changes.len()];
+    alternate(
+        || checked.sample(proved(Call::Check)),
+        || {
+            at_once.copy_from_slice(frame);
+            let start = Instant::now();
+            proved_batch(&mut at_once, &mut second, &batch, &mut answers);
+            start.elapsed().as_nanos() as f64
+        },
+    )
 }
 
 fn median(mut values: Vec<f64>) -> f64 {

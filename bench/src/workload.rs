@@ -8,6 +8,7 @@ use crate::plain;
 use crate::plain::layout::number::{ABSENT, DONE, NO_ROOM, REPLACED};
 use crate::plain::layout::{get32, AT_U, LONGEST_FRAME, MOST_SLOTS};
 use crate::random::Random;
+use frame_store::Batch;
 
 /// Frame lengths with their slot capacities.
 pub const FRAMES: [(usize, usize); 3] = [(1_024, 16), (16_384, 300), (524_288, MOST_SLOTS)];
@@ -133,6 +134,52 @@ pub fn page_starts() -> (Vec<u8>, [Vec<u8>; 3]) {
     let before = |place: usize| records[place - 1].key.clone();
     let starts = [Vec::new(), before(records.len() / 2), before(records.len() - PAGE_NAMES)];
     (frame, starts)
+}
+
+/// The changes of a visit.
+pub const VISIT: usize = 200;
+
+/// A full frame of the longest length, and the changes of a visit to it: two
+/// replacements by a value of the same length, an erase and a put of a new key,
+/// over and over. None of them is refused.
+pub fn visit() -> (Vec<u8>, Vec<(Call, Record)>) {
+    let (present, absent, frame) = filled(LONGEST_FRAME, MOST_SLOTS, Fill::Full);
+    let mut after = frame.clone();
+    let mut changes = Vec::new();
+    let (mut present, mut absent) = (present.into_iter(), absent.into_iter());
+    while changes.len() < VISIT {
+        let call = [Call::Replace, Call::Erase, Call::Replace, Call::Put][changes.len() % 4];
+        let from = if call == Call::Put { &mut absent } else { &mut present };
+        let Record { key, value } = from.next().expect("there are more records");
+        let value = value.iter().map(|byte| !byte).collect();
+        let record = Record { key, value };
+        let mut trial = after.clone();
+        let given = match call {
+            Call::Put => plain::put(&mut trial, &record.key, &record.value),
+            Call::Replace => plain::replace(&mut trial, &record.key, &record.value),
+            _ => plain::erase(&mut trial, &record.key),
+        };
+        if given != NO_ROOM {
+            after = trial;
+            changes.push((call, record));
+        }
+    }
+    (frame, changes)
+}
+
+/// The changes as a batch.
+pub fn batch(changes: &[(Call, Record)]) -> Vec<u8> {
+    let mut lent = vec![0; 1 << 20];
+    let mut batch = Batch::new(&mut lent, changes.len()).expect("there is room");
+    for (call, Record { key, value }) in changes {
+        let added = match call {
+            Call::Put => batch.put(key, value),
+            Call::Replace => batch.replace(key, value),
+            _ => batch.erase(key),
+        };
+        added.expect("there is room");
+    }
+    batch.bytes().to_vec()
 }
 
 pub fn workload(f: usize, n: usize, fill: Fill) -> Workload {

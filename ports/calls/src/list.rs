@@ -13,6 +13,10 @@ pub struct Bytes {
 pub const LONGEST_FRAME: usize = 524_288;
 pub const LONGEST_VALUE: usize = 65_535;
 pub const LONGEST_KEY: usize = 112;
+/// The longest batch of a list.
+pub const LONGEST_BATCH: usize = 4_096;
+/// As many bytes as one line sets.
+const LINE_BYTES: usize = 256;
 /// A look-up writes its numbers only if it is lent so many.
 pub const LOOK_UP_NUMBERS: usize = 3;
 /// So does an info,
@@ -30,7 +34,9 @@ const KEPT_AT: usize = OUT_AT + LONGEST_FRAME + BESIDE;
 const KEY_AT: usize = KEPT_AT + LONGEST_FRAME + BESIDE;
 const START_AT: usize = KEY_AT + 256 + BESIDE;
 const VALUE_AT: usize = START_AT + 256 + BESIDE;
-const END: usize = VALUE_AT + LONGEST_VALUE + 1 + BESIDE;
+const BATCH_AT: usize = VALUE_AT + LONGEST_VALUE + 1 + BESIDE;
+const ANSWERS_AT: usize = BATCH_AT + LONGEST_BATCH + BESIDE;
+const END: usize = ANSWERS_AT + 256 + BESIDE;
 const NUMBERS_AT: usize = (END + BESIDE) / 8 * 8;
 
 const DIRT: u8 = 0xA5;
@@ -201,6 +207,19 @@ impl List {
         ));
     }
 
+    /// The second frame is what is lent as output.
+    pub fn batch_of(&mut self, frame: Bytes, second: usize, batch: &[u8], answers: usize) {
+        let lent = Bytes { at: BATCH_AT + self.odd[2], length: batch.len() };
+        for (place, bytes) in batch.chunks(LINE_BYTES).enumerate() {
+            self.set(lent.at + place * LINE_BYTES, bytes);
+        }
+        let answers = Bytes { at: ANSWERS_AT + self.odd[3], length: answers };
+        self.line(format_args!("fill {} {} {DIRT}", answers.at, answers.length.max(1)));
+        let (frame, second) = (List::lent(frame), List::lent(self.out(second)));
+        let (batch, answers) = (List::lent(lent), List::lent(answers));
+        self.line(format_args!("call frame_batch {frame} {second} {batch} {answers}"));
+    }
+
     /// Known bytes where so many numbers are lent, and one beside them.
     fn dirty(&mut self, numbers: usize) {
         self.line(format_args!("fill {} {} {DIRT}", NUMBERS_AT - 8, (numbers + 2) * 8));
@@ -244,6 +263,10 @@ impl List {
 
     pub fn list(&mut self, names: Names, buffer: usize) {
         self.list_of(self.frame, names, buffer, LIST_NUMBERS);
+    }
+
+    pub fn batch(&mut self, batch: &[u8], answers: usize) {
+        self.batch_of(self.frame, self.frame.length, batch, answers);
     }
 
     pub fn info(&mut self) {

@@ -280,6 +280,68 @@ fn longest(list: &mut List) {
     list.check();
 }
 
+/// A change of a batch: its kind, key and value.
+struct Change {
+    kind: u16,
+    key: Vec<u8>,
+    value: usize,
+}
+
+/// The changes as a batch, with a gap of so many bytes before each.
+fn laid_out(changes: &[Change], gap: usize) -> Vec<u8> {
+    let mut batch = (changes.len() as u32).to_le_bytes().to_vec();
+    batch.resize(4 + 4 * changes.len(), 0);
+    for (place, change) in changes.iter().enumerate() {
+        batch.resize(batch.len() + gap, 0xEE);
+        let at = (batch.len() as u32).to_le_bytes();
+        batch[4 + 4 * place..8 + 4 * place].copy_from_slice(&at);
+        batch.extend(change.kind.to_le_bytes());
+        batch.extend((change.key.len() as u16).to_le_bytes());
+        batch.extend((change.value as u32).to_le_bytes());
+        batch.extend(&change.key);
+        batch.extend((0..change.value).map(|byte| byte as u8));
+    }
+    batch
+}
+
+/// Batches in frames in which room runs out, with refused changes among them; batches with bytes changed, and cut.
+fn batches(list: &mut List) {
+    let mut random = Random::new(7);
+    let keys = Keys::Few { letters: b"abc", longest: 3 };
+    list.scene("batches", [1, 3, 5, 7], SHORTEST_FRAME);
+    list.format(30);
+    for round in 0..120 {
+        let count = random.below(12);
+        let changes: Vec<Change> = (0..count)
+            .map(|_| {
+                let key = if random.one_in(40) { Vec::new() } else { keys.key(&mut random) };
+                let longest = if random.one_in(8) { 200 } else { 12 };
+                Change { kind: random.between(1, 3) as u16, key, value: random.below(longest) }
+            })
+            .collect();
+        let mut batch = laid_out(&changes, random.below(3));
+        if round % 3 == 2 {
+            let place = random.below(batch.len());
+            batch[place] ^= 1 << random.below(8);
+        }
+        if round % 10 == 9 {
+            batch.truncate(random.below(batch.len()));
+        }
+        list.batch(&batch, random.below(16));
+        if round % 30 == 29 {
+            list.pack();
+            list.take_packed();
+        }
+    }
+    let batch = laid_out(&[Change { kind: 1, key: b"one".to_vec(), value: 1 }], 0);
+    let frame = list.frame();
+    list.batch_of(frame, SHORTEST_FRAME + 8, &batch, 1);
+    list.batch_of(frame, SHORTEST_FRAME, &[0xFF; 40], 1);
+    list.batch_of(Bytes { at: frame.at, length: SHORTEST_FRAME - 8 }, 0, &[], 0);
+    list.flip(20, 64);
+    list.batch_of(frame, SHORTEST_FRAME, &batch, 1);
+}
+
 /// A good frame with one byte changed, and each call on it.
 fn damaged(list: &mut List) {
     const SMALL: [&[u8]; 6] = [b"long", b"lose", b"loss", b"lost", b"l", b"m"];
@@ -348,6 +410,7 @@ pub fn all(list: &mut List) {
     kinds(list);
     long_values(list);
     longest(list);
+    batches(list);
     damaged(list);
     any_bytes(list);
     list.scene("the end", [0; 4], 8);
