@@ -4,7 +4,7 @@
 use second_store::compare::{Calls, Comparer};
 use second_store::layout::INFO_NUMBERS;
 use second_store::run::{all_stages, Effort};
-use second_store::{history, names, store};
+use second_store::{batch, history, names, store};
 use store_bench::plain;
 
 struct Plain;
@@ -39,6 +39,16 @@ impl Calls for Plain {
         plain::pack(frame, out)
     }
     /// It has none of its own.
+    fn batch(
+        &self,
+        frame: &mut [u8],
+        second: &mut [u8],
+        batch: &[u8],
+        answers: &mut [u8],
+    ) -> (u32, u64) {
+        batch::apply(frame, second, batch, answers)
+    }
+    /// Nor this one.
     fn info(&self, frame: &[u8]) -> (u32, [u64; INFO_NUMBERS]) {
         store::info(frame)
     }
