@@ -81,6 +81,19 @@ impl Calls for Bindings {
         }
     }
 
+    fn batch(
+        &self,
+        frame: &mut [u8],
+        second: &mut [u8],
+        batch: &[u8],
+        answers: &mut [u8],
+    ) -> (u32, u64) {
+        match Frame::over(frame).apply(batch, second, answers) {
+            Ok(()) => (DONE, 0),
+            Err(stopped) => (stopped.refusal.number(), stopped.change as u64),
+        }
+    }
+
     fn info(&self, frame: &[u8]) -> (u32, [u64; INFO_NUMBERS]) {
         match View::over(frame).info() {
             Ok(Info { bytes, slots, slots_given, bytes_given, records, dead_bytes, freed }) => {

@@ -6,6 +6,7 @@
 //! lent buffer stands between known bytes, at changing alignment, so that a
 //! write outside it shows; buffers lent for reading must be as they were.
 
+use crate::batch;
 use crate::check::{self, Reading};
 use crate::decode;
 use crate::image::image;
@@ -13,8 +14,10 @@ use crate::layout::{key_refusal, number::*, Kind, END_BYTE, INFO_NUMBERS};
 use crate::names::{self, Asked, Page, LENGTH_BYTES};
 use crate::slotless::{bodies, State};
 use crate::store::{self, Found, Records};
-use crate::tally::{Call, Entry, Listing, Tally};
+use crate::tally::{Batch, Call, Entry, Listing, Tally};
 use crate::touched;
+use crate::trees::Change;
+use std::collections::BTreeSet;
 use std::fmt;
 use std::hint::black_box;
 
@@ -32,6 +35,14 @@ pub trait Calls {
     /// The number, and what is told; all 0 of a refusal.
     fn info(&self, frame: &[u8]) -> (u32, [u64; INFO_NUMBERS]);
     fn list(&self, frame: &[u8], asked: &Asked, buffer: &mut [u8]) -> Page;
+    /// The number, and the place of the first change refused, or 0.
+    fn batch(
+        &self,
+        frame: &mut [u8],
+        second: &mut [u8],
+        batch: &[u8],
+        answers: &mut [u8],
+    ) -> (u32, u64);
 }
 
 /// The second store itself.
@@ -64,6 +75,15 @@ impl Calls for Second {
     }
     fn list(&self, frame: &[u8], asked: &Asked, buffer: &mut [u8]) -> Page {
         names::list(frame, asked, buffer)
+    }
+    fn batch(
+        &self,
+        frame: &mut [u8],
+        second: &mut [u8],
+        batch: &[u8],
+        answers: &mut [u8],
+    ) -> (u32, u64) {
+        batch::apply(frame, second, batch, answers)
     }
 }
 
@@ -541,6 +561,169 @@ impl<'a> Comparer<'a> {
         self.unchanged(&call, "buffer as it should be", &mut lent_buffer, &after)?;
         Ok((page, expected.written))
     }
+
+    /// Gives the number and the place; the frame held is then the one after the
+    /// batch.
+    pub fn batch(
+        &mut self,
+        held: &mut Held,
+        second: &[u8],
+        batch: &[u8],
+        answers: &[u8],
+    ) -> Compared<(u32, u64)> {
+        self.step += 1;
+        let read = batch::changes(batch);
+        let some = read.as_ref().map_or("no".to_string(), |changes| changes.len().to_string());
+        let call = format!("batch of {some} changes in {} bytes", batch.len());
+        let (mut frame, mut lent_second) = (self.lend(&held.bytes), self.lend(second));
+        let (mut lent_batch, mut lent_answers) = (self.lend(batch), self.lend(answers));
+        let given = self.calls.batch(
+            frame.part_mut(),
+            lent_second.part_mut(),
+            lent_batch.part(),
+            lent_answers.part_mut(),
+        );
+        let lent = [&mut frame, &mut lent_second, &mut lent_batch, &mut lent_answers];
+        self.margins(&call, &mut { lent })?;
+        self.unchanged(&call, "batch", &mut lent_batch, batch)?;
+        let applied = match (&held.known, &read) {
+            (Err(refused), _) => Err(*refused),
+            (Ok(_), _) if second.len() != held.bytes.len() => Err(OUTPUT_LENGTH),
+            (Ok(_), Err(_)) => Err(LAYOUT),
+            (Ok(state), Ok(changes)) => Ok(Applied::of(state.clone(), changes)),
+        };
+        self.tally_batch(held, second, &read, answers.len(), &applied);
+        let expected = match &applied {
+            Err(refused) => (*refused, 0),
+            Ok(applied) => (applied.number, applied.place),
+        };
+        self.demand(given == expected, || format!("{call} gave {given:?}, not {expected:?}"))?;
+        let done = applied.as_ref().is_ok_and(|applied| applied.number == DONE);
+        let mut told = answers.to_vec();
+        if let (true, Ok(applied)) = (done, &applied) {
+            told.iter_mut().zip(&applied.answers).for_each(|(to, answer)| *to = *answer);
+        }
+        self.unchanged(&call, "answers as they should be", &mut lent_answers, &told)?;
+        let Ok(applied) = applied else {
+            self.unchanged(&call, "refused frame", &mut frame, &held.bytes)?;
+            self.unchanged(&call, "second frame", &mut lent_second, second)?;
+            return Ok(expected);
+        };
+        let worked = Held::new(lent_second.seen().to_vec());
+        match &worked.known {
+            Err(refused) => {
+                let what = format!("{call} left a second frame that is refused with {refused}");
+                return self.differs(what);
+            }
+            Ok(state) if *state != applied.state => {
+                let what = differing(state, &applied.state);
+                return self.differs(format!("{call} left another second frame: {what}"));
+            }
+            Ok(_) => {}
+        }
+        let made = &read.as_deref().unwrap_or_default()[..applied.answers.len()];
+        self.kept_aside(&call, held, &worked, made)?;
+        if !done {
+            self.unchanged(&call, "frame of a refused change", &mut frame, &held.bytes)?;
+            return Ok(expected);
+        }
+        self.unchanged(&call, "frame as the second is", &mut frame, &worked.bytes)?;
+        *held = worked;
+        Ok(expected)
+    }
+
+    /// What the changes made do not touch: the extents of other records, with
+    /// their places and their padding, and what is still not given out.
+    fn kept_aside(
+        &self,
+        call: &str,
+        held: &Held,
+        worked: &Held,
+        changes: &[Change],
+    ) -> Compared<()> {
+        let (was, is) = (held.reading(), worked.reading());
+        let keys: BTreeSet<&[u8]> = changes.iter().map(Change::key).collect();
+        let started_anew = formats_anew(held.state(), changes);
+        let aside = |bytes: &[u8], reading: &Reading| -> Vec<(usize, Vec<u8>)> {
+            let extents = reading.extents.iter().map(|(slot, extent)| {
+                let key = store::leaf_fields(bytes, *slot).key_length;
+                (extent.start, key, bytes[extent.clone()].to_vec())
+            });
+            let mut left: Vec<(usize, Vec<u8>)> = extents
+                .filter(|(_, key, extent)| !keys.contains(&extent[..*key]))
+                .map(|(at, _, extent)| (at, extent))
+                .collect();
+            left.sort();
+            left
+        };
+        let kept = aside(&held.bytes, &was) == aside(&worked.bytes, &is);
+        let b = worked.state().b;
+        let free_kept = started_anew || held.bytes[b..] == worked.bytes[b..];
+        self.demand(kept && free_kept, || format!("{call} changed what no change touches"))
+    }
+
+    fn tally_batch(
+        &mut self,
+        held: &Held,
+        second: &[u8],
+        read: &Result<Vec<Change>, batch::Fault>,
+        answers: usize,
+        applied: &Result<Applied, u32>,
+    ) {
+        let number = applied.as_ref().map_or_else(|refused| *refused, |applied| applied.number);
+        self.tally.add(Entry::Number(Call::Batch, number));
+        let other_length = held.known.is_ok() && second.len() != held.bytes.len();
+        match (read, applied) {
+            (Err(_), _) if other_length => self.tally.add(Entry::Batch(Batch::LengthAndFault)),
+            (Err(fault), Err(LAYOUT)) => self.tally.add(Entry::BatchFault(*fault)),
+            (Ok(changes), Ok(applied)) => {
+                let count = changes.len();
+                let passed = applied.answers.iter().take(count.saturating_sub(1));
+                passed.for_each(|answer| self.tally.add(Entry::WentOn(u32::from(*answer))));
+                let before = held.state();
+                let stopped = applied.place > 0;
+                let refused = applied.place as usize;
+                let alone = |change: &Change| before.clone().make(change).number;
+                let cases = [
+                    (Batch::NoChange, count == 0),
+                    (Batch::FewerAnswers, !stopped && answers < count),
+                    (Batch::MoreAnswers, !stopped && answers > count && count > 0),
+                    (Batch::StoppedLater, stopped && applied.state != *before),
+                    (
+                        Batch::StoppedByThoseBefore,
+                        applied.number == NO_ROOM && alone(&changes[refused - 1]) != NO_ROOM,
+                    ),
+                ];
+                for (case, _) in cases.into_iter().filter(|(_, holds)| *holds) {
+                    self.tally.add(Entry::Batch(case));
+                }
+            }
+            _ => {}
+        }
+    }
+}
+
+/// What a batch comes to, by the changes one after another.
+struct Applied {
+    number: u32,
+    place: u64,
+    /// The model after the changes that were not refused.
+    state: State,
+    answers: Vec<u8>,
+}
+
+impl Applied {
+    fn of(mut state: State, changes: &[Change]) -> Applied {
+        let mut answers = Vec::new();
+        for (index, change) in changes.iter().enumerate() {
+            let told = state.make(change);
+            if batch::stops(told.number) {
+                return Applied { number: told.number, place: index as u64 + 1, state, answers };
+            }
+            answers.push(told.number as u8);
+        }
+        Applied { number: DONE, place: 0, state, answers }
+    }
 }
 
 /// A page as the set of entries gives it, for this room.
@@ -638,6 +821,16 @@ impl Expected {
         ];
         holds.into_iter().filter(|(_, holds)| *holds).map(|(case, _)| case).collect()
     }
+}
+
+/// Whether some change of a batch leaves the frame as format does.
+fn formats_anew(state: &State, changes: &[Change]) -> bool {
+    let mut state = state.clone();
+    changes.iter().any(|change| {
+        let had = state.r > 0;
+        state.make(change);
+        had && state.r == 0
+    })
 }
 
 /// The slots that packing gives back, and the bytes that it gives back at least:

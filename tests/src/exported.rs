@@ -55,6 +55,16 @@ mod c {
             count_and_more: *mut u64,
             two: usize,
         ) -> u32;
+        pub fn frame_batch(
+            frame: *mut u8,
+            frame_len: usize,
+            second: *mut u8,
+            second_len: usize,
+            batch: *const u8,
+            batch_len: usize,
+            answers: *mut u8,
+            answers_len: usize,
+        ) -> u64;
         pub fn frame_info(
             frame: *const u8,
             frame_len: usize,
@@ -120,6 +130,30 @@ impl Calls for Exported {
 
     fn list(&self, frame: &[u8], asked: &Asked, buffer: &mut [u8]) -> Page {
         list_by_all_lengths(frame, asked, buffer)
+    }
+
+    /// One number: what is given, and 256 times the place.
+    fn batch(
+        &self,
+        frame: &mut [u8],
+        second: &mut [u8],
+        batch: &[u8],
+        answers: &mut [u8],
+    ) -> (u32, u64) {
+        const PLACES: u64 = 256;
+        let given = unsafe {
+            c::frame_batch(
+                frame.as_mut_ptr(),
+                frame.len(),
+                second.as_mut_ptr(),
+                second.len(),
+                batch.as_ptr(),
+                batch.len(),
+                answers.as_mut_ptr(),
+                answers.len(),
+            )
+        };
+        ((given % PLACES) as u32, given / PLACES)
     }
 }
 

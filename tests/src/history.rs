@@ -5,6 +5,7 @@
 //! crafted frames cut to the brim make each case succeed with its last slots
 //! and last bytes and fail for either.
 
+use crate::batch::laid;
 use crate::compare::{Compared, Comparer, Held};
 use crate::crafted::{build, Spare};
 use crate::layout::*;
@@ -166,11 +167,7 @@ pub fn crafted_frames(comparer: &mut Comparer, seed: u64, rounds: u64) -> Compar
         let dead = random.below(12) * UNIT;
         let change = aimed(random, &tree);
         let (_, mut roomy) = build(random, &tree, &lists, dead, ROOMY);
-        let told = match &change {
-            Change::Put { key, value } => roomy.put(key, value),
-            Change::Replace { key, value } => roomy.replace(key, value),
-            Change::Erase { key } => roomy.erase(key),
-        };
+        let told = roomy.make(&change);
         let (_, room) = told.case.expect("an aimed change is neither refused nor absent");
         let (slots, bytes) = (room.fresh.len(), room.fresh_bytes);
         let mut spares = vec![Spare { slots, bytes }];
@@ -268,6 +265,9 @@ fn all_calls(comparer: &mut Comparer, random: &mut Random, held: &Held) -> Compa
     comparer.put(&mut held.clone(), b"a", b"value")?;
     comparer.replace(&mut held.clone(), b"a", b"value")?;
     comparer.erase(&mut held.clone(), b"a")?;
+    let changes = [Change::Put { key: b"a".to_vec(), value: b"value".to_vec() }];
+    let second = random.bytes(held.bytes().len());
+    comparer.batch(&mut held.clone(), &second, &laid(&changes, 0), &[0xEE; 1])?;
     let asked = Asked { prefix: b"", start: None, delimiter: Some(b'/') };
     comparer.list(held, &asked, &random.bytes(40))?;
     let out = random.bytes(held.bytes().len());

@@ -2,12 +2,14 @@
 //! that compares any store with it.
 //!
 //! `layout` and `check`, which have a package of their own (`tools/rules`), and
-//! `store` and `names` are the second store. `slotless` and `image` are two further
-//! readings of the documents, and the store is held to both.
+//! `store`, `names` and `batch` are the second store. `slotless` and `image` are two
+//! further readings of the documents, and the store is held to both.
 //! `compare` holds any store's calls to all of them; `run` is what the gate runs.
 
 pub use frame_rules::{check, layout};
 
+pub mod batch;
+pub mod batches;
 pub mod bindings;
 pub mod compare;
 pub mod crafted;

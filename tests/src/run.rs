@@ -5,7 +5,7 @@
 
 use crate::compare::{Calls, Compared, Comparer};
 use crate::tally::Tally;
-use crate::{damage, history, listings, orders, worked};
+use crate::{batches, damage, history, listings, orders, worked};
 use std::env;
 
 /// Which random calls are made, and how many.
@@ -46,6 +46,8 @@ pub fn all_stages(calls: &dyn Calls, effort: Effort) -> Compared<Tally> {
     history::arbitrary_bytes(&mut comparer, seed, rounds * 500)?;
     history::large_frames(&mut comparer, seed, rounds * 2)?;
     listings::listings(&mut comparer, seed, rounds * 250)?;
+    batches::batches(&mut comparer, seed, rounds * 250)?;
+    batches::damaged_batches(&mut comparer)?;
     orders::same_records(&mut comparer, seed, rounds * 4)?;
     orders::any_order(&mut comparer, seed, rounds * 400)?;
     Ok(std::mem::take(&mut comparer.tally))
@@ -56,7 +58,8 @@ pub fn worked_cases(comparer: &mut Comparer) -> Compared<()> {
     worked::worked_frames(comparer)?;
     worked::puts_and_replacements(comparer)?;
     worked::slots_visited(comparer)?;
-    worked::worked_listings(comparer)
+    worked::worked_listings(comparer)?;
+    worked::worked_batches(comparer)
 }
 
 pub fn limits(comparer: &mut Comparer) -> Compared<()> {

@@ -10,6 +10,7 @@ use crate::layout::number::*;
 use crate::layout::*;
 use crate::names::Asked;
 use crate::store::Records;
+use crate::trees::Change;
 use std::collections::{BTreeMap, BTreeSet};
 use std::rc::Rc;
 
@@ -232,6 +233,14 @@ impl State {
             Some(tree) => insert(Rc::make_mut(tree), &walked(key), 0, key, value),
         };
         (case, after)
+    }
+
+    pub fn make(&mut self, change: &Change) -> Told {
+        match change {
+            Change::Put { key, value } => self.put(key, value),
+            Change::Replace { key, value } => self.replace(key, value),
+            Change::Erase { key } => self.erase(key),
+        }
     }
 
     pub fn erase(&mut self, key: &[u8]) -> Told {

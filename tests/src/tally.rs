@@ -4,6 +4,7 @@
 //! can come to. A run that never reaches an entry of it proves nothing about
 //! that entry, and fails.
 
+use crate::batch::Fault;
 use crate::layout::{number::*, Kind};
 use crate::slotless::{Case, End, Survivor, Told};
 use std::collections::BTreeMap;
@@ -19,6 +20,7 @@ pub enum Call {
     Pack,
     Info,
     List,
+    Batch,
 }
 
 /// How a case ended.
@@ -35,6 +37,31 @@ pub enum Outcome {
     NoBytes,
     /// Refused for slots and for bytes.
     NoSlotsNorBytes,
+}
+
+/// What a batch can be.
+#[derive(Clone, Copy, PartialEq, Eq, PartialOrd, Ord, Debug)]
+pub enum Batch {
+    NoChange,
+    FewerAnswers,
+    MoreAnswers,
+    /// A change is refused, and those before it have changed the frame.
+    StoppedLater,
+    /// A change is refused for room, and would not be without those before it.
+    StoppedByThoseBefore,
+    /// A second frame of another length, and a fault besides.
+    LengthAndFault,
+}
+
+impl Batch {
+    pub const ALL: [Batch; 6] = [
+        Batch::NoChange,
+        Batch::FewerAnswers,
+        Batch::MoreAnswers,
+        Batch::StoppedLater,
+        Batch::StoppedByThoseBefore,
+        Batch::LengthAndFault,
+    ];
 }
 
 /// What a listing can meet.
@@ -122,6 +149,11 @@ pub enum Entry {
     },
     /// A listing that is not refused for its frame, its prefix or its start key.
     Listing(Listing),
+    /// A batch that is not refused for its frames.
+    BatchFault(Fault),
+    Batch(Batch),
+    /// A change with this answer did not stop its batch.
+    WentOn(u32),
     /// An info tells that this kind's list is not empty.
     Listed(Kind),
 }
@@ -253,7 +285,10 @@ pub fn expected() -> Vec<Entry> {
     all.push(Entry::ShuffledFramesDiffer);
     all.extend([true, false].map(|present| Entry::MostSlots { present }));
     all.extend(Listing::ALL.map(Entry::Listing));
-    let numbers: [(Call, &[u32]); 9] = [
+    all.extend(Fault::ALL.map(Entry::BatchFault));
+    all.extend(Batch::ALL.map(Entry::Batch));
+    all.extend([DONE, ABSENT, REPLACED, PRESENT].map(Entry::WentOn));
+    let numbers: [(Call, &[u32]); 10] = [
         (Call::Format, &[DONE, LENGTHS]),
         (Call::Check, &[DONE, LENGTHS, NOT_GOOD]),
         (Call::LookUp, &[DONE, ABSENT, LENGTHS, NOT_GOOD, KEY_LENGTH, KEY_HOLDS_ZERO]),
@@ -277,6 +312,20 @@ pub fn expected() -> Vec<Entry> {
         (Call::Erase, &[DONE, ABSENT, LENGTHS, NOT_GOOD, KEY_LENGTH, KEY_HOLDS_ZERO, NO_ROOM]),
         (Call::Pack, &[DONE, LENGTHS, NOT_GOOD, OUTPUT_LENGTH]),
         (Call::Info, &[DONE, LENGTHS, NOT_GOOD]),
+        (
+            Call::Batch,
+            &[
+                DONE,
+                LENGTHS,
+                NOT_GOOD,
+                OUTPUT_LENGTH,
+                LAYOUT,
+                KEY_LENGTH,
+                KEY_HOLDS_ZERO,
+                VALUE_LENGTH,
+                NO_ROOM,
+            ],
+        ),
         (Call::List, &[DONE, LENGTHS, NOT_GOOD, KEY_LENGTH, KEY_HOLDS_ZERO, BUFFER]),
     ];
     for (call, given) in numbers {

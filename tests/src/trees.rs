@@ -113,7 +113,7 @@ pub fn small_value(random: &mut Random) -> Vec<u8> {
     random.bytes(length)
 }
 
-#[derive(Clone, Debug)]
+#[derive(Clone, PartialEq, Eq, Debug)]
 pub enum Change {
     Put { key: Vec<u8>, value: Vec<u8> },
     Replace { key: Vec<u8>, value: Vec<u8> },

@@ -5,9 +5,11 @@
 //! cases that can be told beforehand. They are literal, and do not come from
 //! any reading in this crate.
 
+use crate::batch::{laid, AT_KIND};
 use crate::compare::{Compared, Comparer, Held};
 use crate::layout::*;
 use crate::names::Asked;
+use crate::trees::Change;
 
 const SMALL: (usize, usize) = (1_024, 8);
 const LARGE: (usize, usize) = (524_288, 10_240);
@@ -378,6 +380,104 @@ fn listed(comparer: &mut Comparer, keys: &[&[u8]], listings: &[Worked]) -> Compa
         let count = entries.len() as u64;
         if told != (number, more, count) || !written.iter().eq(entries.iter()) {
             return comparer.differs(format!("{asked:?} in {room} bytes: {told:?}, {written:?}"));
+        }
+    }
+    Ok(())
+}
+
+/// The values of a and b in the first frame.
+type Values<'a> = (Option<&'a [u8]>, Option<&'a [u8]>);
+/// Changes; number and place; answers; what is there after them.
+type Batched<'a> = (Vec<Change>, (u32, u64), &'a [u8], Values<'a>);
+
+/// batches on W2, told beforehand.
+pub fn worked_batches(comparer: &mut Comparer) -> Compared<()> {
+    comparer.begin("worked batches".to_string());
+    let mut w2 = formatted(comparer, SMALL, 0)?;
+    let figures = Figures { name: "W2", number: 0, fields: &[] };
+    put(comparer, &mut w2, b"a", b"1", figures)?;
+    let put = |key: &[u8], value: &[u8]| Change::Put { key: key.into(), value: value.into() };
+    let replace =
+        |key: &[u8], value: &[u8]| Change::Replace { key: key.into(), value: value.into() };
+    let erase = |key: &[u8]| Change::Erase { key: key.into() };
+    let long = vec![7; LONGEST_VALUE + 1];
+    let fill = vec![7; 1_024];
+    let was: Values = (Some(b"1"), None);
+    let with_b: Values = (Some(b"1"), Some(b"2"));
+    let cases: [Batched; 9] = [
+        (vec![], (0, 0), &[], was),
+        (vec![put(b"a", b"2"), put(b"b", b"2")], (0, 0), &[11, 0], with_b),
+        (vec![erase(b"c"), replace(b"a", b"3")], (0, 0), &[8, 9], (Some(b"3"), None)),
+        (vec![put(b"b", b"2"), erase(b"")], (3, 2), &[], was),
+        (vec![put(b"b", b"2"), erase(b"a\0")], (4, 2), &[], was),
+        (vec![put(b"b", &long)], (5, 1), &[], was),
+        (vec![put(b"b", b"2"), erase(b"c"), replace(b"a", &fill)], (6, 3), &[], was),
+        (
+            vec![erase(b"a"), put(b"a", b"3"), put(b"a", b"4")],
+            (0, 0),
+            &[0, 0, 11],
+            (Some(b"3"), None),
+        ),
+        (vec![erase(b"a"), erase(b"a"), replace(b"a", b"4")], (0, 0), &[0, 8, 8], (None, None)),
+    ];
+    for (changes, told, answers, values) in cases {
+        // With bytes between the changes, and room for fewer answers and for more.
+        for (gap, lent) in [(0, changes.len() + 1), (3, changes.len() / 2)] {
+            let batch = laid(&changes, gap);
+            let mut given = vec![0xEE; lent];
+            let mut held = w2.clone();
+            let call = comparer.batch(&mut held, &[0xEE; 1_024], &batch, &given)?;
+            // The answers themselves, from the calls and not from any prediction.
+            let (mut first, mut second) = (w2.bytes().to_vec(), vec![0xEE; 1_024]);
+            comparer.calls().batch(&mut first, &mut second, &batch, &mut given);
+            let expected = answers.iter().copied().chain(std::iter::repeat(0xEE)).take(lent);
+            let as_told = call == told && given.iter().copied().eq(expected);
+            let records = held.state().records();
+            let found = |key: &[u8]| records.get(key).map(Vec::as_slice);
+            if !as_told || (found(b"a"), found(b"b")) != values {
+                return comparer.differs(format!("{changes:?}: {call:?}, {given:?}, {records:?}"));
+            }
+        }
+    }
+    // 12 before any change; 7 before 12; 2 before 7; 1 before 2.
+    let right = laid(&[put(b"b", b"2"), erase(b"c"), put(b"c", b"3")], 0);
+    let altered = |alter: fn(&mut Vec<u8>)| {
+        let mut batch = right.clone();
+        alter(&mut batch);
+        batch
+    };
+    let unknown = altered(|batch| {
+        let second_change = get32(batch, 8);
+        set16(batch, second_change + AT_KIND, 4);
+    });
+    let no_kind = altered(|batch| {
+        let last_change = get32(batch, 12);
+        set16(batch, last_change + AT_KIND, 0);
+    });
+    let twice = altered(|batch| {
+        let first_change = get32(batch, 4);
+        set32(batch, 8, first_change);
+    });
+    let many = altered(|batch| set32(batch, 0, 3 + (1 << 16)));
+    let mut not_good = w2.bytes().to_vec();
+    not_good[AT_X] ^= 8;
+    let cut = w2.bytes()[..1_016].to_vec();
+    for (bytes, second, batch, number) in [
+        (w2.bytes().to_vec(), 1_024, &unknown[..], 12),
+        (w2.bytes().to_vec(), 1_024, &no_kind, 12),
+        (w2.bytes().to_vec(), 1_024, &twice, 12),
+        (w2.bytes().to_vec(), 1_024, &many, 12),
+        (w2.bytes().to_vec(), 1_032, &unknown, 7),
+        (w2.bytes().to_vec(), 1_032, &right, 7),
+        (w2.bytes().to_vec(), 1_016, &right, 7),
+        (not_good.clone(), 1_032, &unknown, 2),
+        (not_good, 1_024, &unknown, 2),
+        (cut, 1_032, &unknown, 1),
+        (w2.bytes().to_vec(), 1_024, &unknown[..3], 12),
+    ] {
+        let call = comparer.batch(&mut Held::new(bytes), &vec![0xEE; second], batch, &[0xEE; 3])?;
+        if call != (number, 0) {
+            return comparer.differs(format!("a batch gave {call:?}, not {number}"));
         }
     }
     Ok(())

@@ -4,12 +4,14 @@
 //! second store with one fault; the comparison must catch every one of them,
 //! and must let pass the store that differs only where the documents allow it.
 
+use crate::batch::{self, AT_KIND, AT_VALUE_LENGTH, COUNT_BYTES, OFFSET_BYTES, PUT};
 use crate::check::{self, Rule};
 use crate::compare::{Calls, Second};
 use crate::layout::number::*;
 use crate::layout::*;
 use crate::names::{self, Asked, Page, LENGTH_BYTES};
 use crate::store::{self, body_at, children, release, set_link, take, Found, Step};
+use crate::trees::Change;
 
 type Format = dyn Fn(&mut [u8], usize, usize) -> u32;
 type Check = dyn Fn(&[u8]) -> u32;
@@ -18,6 +20,7 @@ type Put = dyn Fn(&mut [u8], &[u8], &[u8]) -> u32;
 type Erase = dyn Fn(&mut [u8], &[u8]) -> u32;
 type Pack = dyn Fn(&[u8], &mut [u8]) -> u32;
 type List = dyn Fn(&[u8], &Asked, &mut [u8]) -> Page;
+type Batch = dyn Fn(&mut [u8], &mut [u8], &[u8], &mut [u8]) -> (u32, u64);
 type Info = dyn Fn(&[u8]) -> (u32, [u64; INFO_NUMBERS]);
 
 /// The second store with some calls exchanged.
@@ -32,6 +35,7 @@ pub struct Altered {
     pack: Box<Pack>,
     info: Box<Info>,
     list: Box<List>,
+    batch: Box<Batch>,
 }
 
 impl Altered {
@@ -47,6 +51,9 @@ impl Altered {
             pack: Box::new(|frame, out| Second.pack(frame, out)),
             info: Box::new(|frame| Second.info(frame)),
             list: Box::new(|frame, asked, buffer| Second.list(frame, asked, buffer)),
+            batch: Box::new(|frame, second, batch, answers| {
+                Second.batch(frame, second, batch, answers)
+            }),
         }
     }
 }
@@ -78,6 +85,15 @@ impl Calls for Altered {
     }
     fn list(&self, frame: &[u8], asked: &Asked, buffer: &mut [u8]) -> Page {
         (self.list)(frame, asked, buffer)
+    }
+    fn batch(
+        &self,
+        frame: &mut [u8],
+        second: &mut [u8],
+        batch: &[u8],
+        answers: &mut [u8],
+    ) -> (u32, u64) {
+        (self.batch)(frame, second, batch, answers)
     }
 }
 
@@ -115,6 +131,13 @@ fn with_info(name: &str, info: impl Fn(&[u8]) -> (u32, [u64; INFO_NUMBERS]) + 's
 
 fn with_list(name: &str, list: impl Fn(&[u8], &Asked, &mut [u8]) -> Page + 'static) -> Altered {
     Altered { list: Box::new(list), ..Altered::named(name) }
+}
+
+fn with_batch(
+    name: &str,
+    batch: impl Fn(&mut [u8], &mut [u8], &[u8], &mut [u8]) -> (u32, u64) + 'static,
+) -> Altered {
+    Altered { batch: Box::new(batch), ..Altered::named(name) }
 }
 
 pub fn checks() -> Vec<Altered> {
@@ -1113,6 +1136,271 @@ pub fn lists() -> Vec<Altered> {
     ]
 }
 
+/// How a batch is applied by these calls.
+struct Applying<'a> {
+    calls: &'a dyn Calls,
+    stops: fn(u32) -> bool,
+    back_if_refused: bool,
+    answers_if_refused: bool,
+    first_place: u64,
+}
+
+impl Applying<'_> {
+    const RIGHT: Applying<'static> = Applying {
+        calls: &Second,
+        stops: batch::stops,
+        back_if_refused: false,
+        answers_if_refused: false,
+        first_place: 1,
+    };
+
+    /// The changes of a batch whose frames and layout are right.
+    fn apply(
+        &self,
+        frame: &mut [u8],
+        second: &mut [u8],
+        changes: &[Change],
+        answers: &mut [u8],
+    ) -> (u32, u64) {
+        second.copy_from_slice(frame);
+        let mut given = Vec::new();
+        let mut result = (DONE, 0);
+        for (index, change) in changes.iter().enumerate() {
+            let number = match change {
+                Change::Put { key, value } => self.calls.put(second, key, value),
+                Change::Replace { key, value } => self.calls.replace(second, key, value),
+                Change::Erase { key } => self.calls.erase(second, key),
+            };
+            if (self.stops)(number) {
+                result = (number, index as u64 + self.first_place);
+                break;
+            }
+            given.push(number as u8);
+        }
+        let done = result == (DONE, 0);
+        if done || self.back_if_refused {
+            frame.copy_from_slice(second);
+        }
+        if done || self.answers_if_refused {
+            answers.iter_mut().zip(given).for_each(|(to, answer)| *to = answer);
+        }
+        result
+    }
+}
+
+/// The changes of a batch that the second store would start on.
+fn started(frame: &[u8], second: &[u8], batch: &[u8]) -> Option<Vec<Change>> {
+    let right = check::check(frame) == DONE && frame.len() == second.len();
+    right.then(|| batch::changes(batch).ok()).flatten()
+}
+
+pub fn batches() -> Vec<Altered> {
+    let applying = |name: &str, how: Applying<'static>| {
+        with_batch(name, move |frame, second, batch, answers| match started(frame, second, batch) {
+            Some(changes) => how.apply(frame, second, &changes, answers),
+            None => Second.batch(frame, second, batch, answers),
+        })
+    };
+    // Another batch in place of the one that is lent.
+    let reading = |name: &str, other: fn(&mut Vec<u8>)| {
+        with_batch(name, move |frame, second, batch, answers| {
+            let mut read = batch.to_vec();
+            other(&mut read);
+            Second.batch(frame, second, &read, answers)
+        })
+    };
+    const RIGHT: Applying = Applying::RIGHT;
+    let stops_at = |name: &str, stops: fn(u32) -> bool| applying(name, Applying { stops, ..RIGHT });
+    let mut all = vec![
+        applying(
+            "a batch that copies back though a change is refused",
+            Applying { back_if_refused: true, ..RIGHT },
+        ),
+        applying(
+            "a batch that tells the answers before a refused change",
+            Applying { answers_if_refused: true, ..RIGHT },
+        ),
+        applying("a batch that counts its changes from 0", Applying { first_place: 0, ..RIGHT }),
+        stops_at("a batch that stops at 8", |number| batch::stops(number) || number == ABSENT),
+        stops_at("a batch that stops at 9", |number| batch::stops(number) || number == REPLACED),
+        stops_at("a batch that stops at 11", |number| batch::stops(number) || number == PRESENT),
+        stops_at("a batch that passes over a change without room", |number| {
+            batch::stops(number) && number != NO_ROOM
+        }),
+        with_batch(
+            "a batch that forgets the second frame's length",
+            |frame, second, batch, answers| {
+                let mut room = frame.to_vec();
+                match started(frame, &room, batch) {
+                    Some(changes) if second.len() != frame.len() => {
+                        Applying::RIGHT.apply(frame, &mut room, &changes, answers)
+                    }
+                    _ => Second.batch(frame, second, batch, answers),
+                }
+            },
+        ),
+        with_batch(
+            "a batch that wants the second frame no shorter",
+            |frame, second, batch, answers| {
+                let long = second.len() > frame.len() && check::check(frame) == DONE;
+                let length = if long { frame.len() } else { second.len() };
+                Second.batch(frame, &mut second[..length], batch, answers)
+            },
+        ),
+        with_batch(
+            "a batch that looks at its layout before the lengths",
+            |frame, second, batch, answers| match Second.batch(frame, second, batch, answers) {
+                (OUTPUT_LENGTH, _) if batch::changes(batch).is_err() => (LAYOUT, 0),
+                given => given,
+            },
+        ),
+        with_batch(
+            "a batch that looks at the lengths before the frame",
+            |frame, second, batch, answers| match Second.batch(frame, second, batch, answers) {
+                (NOT_GOOD, _) if second.len() != frame.len() => (OUTPUT_LENGTH, 0),
+                given => given,
+            },
+        ),
+        with_batch("a batch that wants a good second frame", |frame, second, batch, answers| {
+            if started(frame, second, batch).is_some() && check::check(second) != DONE {
+                return (NOT_GOOD, 0);
+            }
+            Second.batch(frame, second, batch, answers)
+        }),
+        with_batch(
+            "a batch that starts before it has read its layout",
+            |frame, second, batch, answers| {
+                let given = Second.batch(frame, second, batch, answers);
+                if given == (LAYOUT, 0) {
+                    second.copy_from_slice(frame);
+                }
+                given
+            },
+        ),
+        with_batch(
+            "a batch that leaves the second frame as it was",
+            |frame, second, batch, answers| {
+                let before = second.to_vec();
+                let given = Second.batch(frame, second, batch, answers);
+                second.copy_from_slice(&before);
+                given
+            },
+        ),
+        with_batch(
+            "a batch that takes back what a refused one did",
+            |frame, second, batch, answers| {
+                let given = Second.batch(frame, second, batch, answers);
+                if given.1 > 0 {
+                    second.copy_from_slice(frame);
+                }
+                given
+            },
+        ),
+        with_batch(
+            "a batch that clears the answers that are left",
+            |frame, second, batch, answers| {
+                let given = Second.batch(frame, second, batch, answers);
+                let count = batch::changes(batch).map_or(0, |changes| changes.len());
+                if given == (DONE, 0) && count < answers.len() {
+                    answers[count..].fill(0);
+                }
+                given
+            },
+        ),
+        with_batch("a batch that wants room for every answer", |frame, second, batch, answers| {
+            let count = started(frame, second, batch).map_or(0, |changes| changes.len());
+            if answers.len() < count {
+                return (OUTPUT_LENGTH, 0);
+            }
+            Second.batch(frame, second, batch, answers)
+        }),
+        with_batch(
+            "a batch that names a change for a wrong layout",
+            |frame, second, batch, answers| match Second.batch(frame, second, batch, answers) {
+                (LAYOUT, _) => (LAYOUT, 1),
+                given => given,
+            },
+        ),
+        with_batch("a batch whose puts replace", |frame, second, batch, answers| {
+            let replacing =
+                Altered { put: Box::new(put_or_replace), ..Altered::named("puts that replace") };
+            match started(frame, second, batch) {
+                Some(changes) => Applying { calls: &replacing, ..Applying::RIGHT }
+                    .apply(frame, second, &changes, answers),
+                None => Second.batch(frame, second, batch, answers),
+            }
+        }),
+        with_batch("a batch that wants its changes end to end", |frame, second, batch, answers| {
+            let exact = started(frame, second, batch)
+                .is_none_or(|changes| batch::laid(&changes, 0).len() == batch.len());
+            if exact {
+                Second.batch(frame, second, batch, answers)
+            } else {
+                (LAYOUT, 0)
+            }
+        }),
+        reading("a batch that takes an unknown kind for an erase", |batch| {
+            each_change(batch, |batch, at| {
+                if get16(batch, at + AT_KIND) > batch::ERASE {
+                    set16(batch, at + AT_KIND, batch::ERASE);
+                }
+            });
+        }),
+        reading("a batch that takes kind 0 for a put", |batch| {
+            each_change(batch, |batch, at| {
+                if get16(batch, at + AT_KIND) == 0 {
+                    set16(batch, at + AT_KIND, PUT);
+                }
+            });
+        }),
+        reading("a batch that reads two bytes of a value's length", |batch| {
+            each_change(batch, |batch, at| set16(batch, at + AT_VALUE_LENGTH + 2, 0));
+        }),
+        reading("a batch that reads two bytes of its count", |batch| {
+            if batch.len() >= COUNT_BYTES {
+                set16(batch, 2, 0);
+            }
+        }),
+    ];
+    all.push(with_batch("a batch whose changes may overlap", |frame, second, batch, answers| {
+        let right = check::check(frame) == DONE && frame.len() == second.len();
+        let back = batch::changes(batch) == Err(batch::Fault::RunsBack);
+        match (right && back).then(|| anywhere(batch)).flatten() {
+            Some(changes) => Applying::RIGHT.apply(frame, second, &changes, answers),
+            None => Second.batch(frame, second, batch, answers),
+        }
+    }));
+    all
+}
+
+/// Alters each change of a batch whose fields lie in it.
+fn each_change(batch: &mut [u8], alter: fn(&mut [u8], usize)) {
+    if batch.len() < COUNT_BYTES {
+        return;
+    }
+    for index in 0..get32(batch, 0) {
+        let offset = COUNT_BYTES + OFFSET_BYTES * index;
+        if offset + OFFSET_BYTES > batch.len() {
+            return;
+        }
+        let at = get32(batch, offset);
+        if at + batch::AT_KEY <= batch.len() {
+            alter(batch, at);
+        }
+    }
+}
+
+/// The changes of a batch whose offsets lie in it, wherever they lead.
+fn anywhere(batch: &[u8]) -> Option<Vec<Change>> {
+    let count = get32(batch, 0);
+    let one = |index: usize| {
+        let at = get32(batch, COUNT_BYTES + OFFSET_BYTES * index);
+        let alone = [&1u32.to_le_bytes()[..], &8u32.to_le_bytes(), batch.get(at..)?].concat();
+        batch::changes(&alone).ok()?.pop()
+    };
+    (0..count).map(one).collect()
+}
+
 /// Stores whose answers or images hang on the order of calls on several keys.
 pub fn bound_to_an_order() -> Vec<Altered> {
     vec![
@@ -1181,6 +1469,22 @@ pub fn right_but_different() -> Altered {
             given
         }),
         ..Altered::named("a right store that uses every freedom")
+    }
+}
+
+/// The same, and its batches are made by its own calls.
+pub fn right_in_batches() -> Altered {
+    Altered {
+        batch: Box::new(|frame, second, batch, answers| {
+            let calls = &right_but_different();
+            match started(frame, second, batch) {
+                Some(changes) => {
+                    Applying { calls, ..Applying::RIGHT }.apply(frame, second, &changes, answers)
+                }
+                None => Second.batch(frame, second, batch, answers),
+            }
+        }),
+        ..right_but_different()
     }
 }
 

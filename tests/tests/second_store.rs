@@ -45,6 +45,11 @@ fn worked_listings_hold() {
 }
 
 #[test]
+fn worked_batches_hold() {
+    passes(worked::worked_batches(&mut Comparer::new(&Second)));
+}
+
+#[test]
 fn format_limits_hold() {
     passes(worked::format_limits(&mut Comparer::new(&Second)));
 }

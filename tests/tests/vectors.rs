@@ -1,14 +1,16 @@
 //! W1 to W11, the lengths and children that document 01 lists under "Run and
-//! compared", and puts, replacements and listings of document 02, told step by
-//! step: the number given and U, B, R and X after it, or what is listed. The
+//! compared", and puts, replacements, listings and batches of document 02, told
+//! step by step: the number given and U, B, R and X after it, or what is listed. The
 //! exported calls and the second store are held to the stored lines, and these
 //! to the figures that document 01 prints.
 
+use second_store::batch::laid;
 use second_store::compare::{Calls, Second};
 use second_store::exported::Exported;
 use second_store::layout::{get16, get32, get_entry, AT_B, AT_R, AT_ROOT, AT_U, AT_X};
 use second_store::names::{Asked, Page};
 use second_store::store::Found;
+use second_store::trees::Change;
 use std::fmt::Write;
 
 const STORED: &str = include_str!("../vectors.txt");
@@ -230,6 +232,37 @@ impl Told<'_> {
     }
 }
 
+/// Q-6.
+impl Told<'_> {
+    /// On W2; told are the number and the place, the answers, and the counts of
+    /// the first frame and of the second.
+    fn batch(&mut self, step: &str, changes: &[Change]) {
+        let mut first = vec![0; SMALL.0];
+        let mut second = vec![0; SMALL.0];
+        let mut answers = vec![0xEE; changes.len()];
+        self.calls.format(&mut first, SMALL.0, SMALL.1);
+        self.calls.put(&mut first, b"a", b"1");
+        let batch = laid(changes, 0);
+        let (given, place) = self.calls.batch(&mut first, &mut second, &batch, &mut answers);
+        write!(self.text, "Q-6 batch of {} bytes, {step}", batch.len()).expect("a text");
+        self.counts(given, &first);
+        writeln!(self.text, " place {place} answers {answers:?}").expect("a text takes more");
+        self.line("  second frame", given, &second);
+    }
+
+    fn batches(&mut self) {
+        let put = |key: &[u8], value: &[u8]| Change::Put { key: key.into(), value: value.into() };
+        let replace =
+            |key: &[u8], value: &[u8]| Change::Replace { key: key.into(), value: value.into() };
+        let erase = |key: &[u8]| Change::Erase { key: key.into() };
+        self.batch("none", &[]);
+        self.batch("put a=2, put b=2", &[put(b"a", b"2"), put(b"b", b"2")]);
+        self.batch("erase c, replace a=3", &[erase(b"c"), replace(b"a", b"3")]);
+        self.batch("put b=2, erase nothing", &[put(b"b", b"2"), erase(b"")]);
+        self.batch("put b of 65536", &[put(b"b", &[7; LONG])]);
+    }
+}
+
 fn told(calls: &dyn Calls) -> String {
     let mut told = Told { calls, text: String::new() };
     told.worked();
@@ -237,6 +270,7 @@ fn told(calls: &dyn Calls) -> String {
     told.growth_and_shrinking();
     told.puts_and_replacements();
     told.listings();
+    told.batches();
     told.text
 }
 

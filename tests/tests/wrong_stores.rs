@@ -64,6 +64,11 @@ fn wrong_listings_are_caught() {
 }
 
 #[test]
+fn wrong_batches_are_caught() {
+    all_caught(wrong::batches(), 25);
+}
+
+#[test]
 fn wrong_infos_are_caught() {
     all_caught(wrong::infos(), 9);
 }
@@ -82,7 +87,7 @@ fn stores_bound_to_an_order_are_caught() {
 #[test]
 fn a_store_that_uses_every_freedom_passes() {
     let effort = Effort::from_environment();
-    if let Err(difference) = all_stages(&wrong::right_but_different(), effort) {
+    if let Err(difference) = all_stages(&wrong::right_in_batches(), effort) {
         panic!("{difference}");
     }
 }

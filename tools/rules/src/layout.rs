@@ -74,6 +74,8 @@ pub mod number {
     pub const BUFFER: u32 = 10;
     /// A plain put finds its key present, and changes nothing (document 02, Q-5).
     pub const PRESENT: u32 = 11;
+    /// A batch is not laid out as one (document 02, Q-6).
+    pub const LAYOUT: u32 = 12;
 }
 
 #[derive(Clone, Copy, PartialEq, Eq, PartialOrd, Ord, Debug)]
