@@ -1,7 +1,8 @@
 //! Changes, and what is said of their answers.
 
 use crate::lines::Record;
-use frame_store::{Erase, Frame, Lack, Put, Refusal, Replace};
+use frame_rules::layout::{number, LONGEST_KEY};
+use frame_store::{Batch, Frame, Full, Lack, Refusal};
 
 pub enum Change {
     Put(Record),
@@ -36,29 +37,40 @@ impl Change {
         }
     }
 
+    fn value(&self) -> &[u8] {
+        match self {
+            Change::Put(record) | Change::Replace(record) => &record.value,
+            Change::Erase(_) => b"",
+        }
+    }
+
+    fn add_to(&self, batch: &mut Batch) -> Result<(), Full> {
+        // A key that is longer is refused as one that is too long by a byte.
+        let key = &self.key()[..self.key().len().min(LONGEST_KEY + 1)];
+        match self {
+            Change::Put(_) => batch.put(key, self.value()),
+            Change::Replace(_) => batch.replace(key, self.value()),
+            Change::Erase(_) => batch.erase(key),
+        }
+    }
+
     /// The bytes of key and value that an extent would have to hold.
     fn text_bytes(&self) -> usize {
         match self {
-            Change::Put(record) | Change::Replace(record) => record.key.len() + record.value.len(),
+            Change::Put(_) | Change::Replace(_) => self.key().len() + self.value().len(),
             Change::Erase(_) => 0,
         }
     }
 
-    pub fn make(&self, frame: &mut Frame<Vec<u8>>) -> Result<Done, Refusal> {
-        Ok(match self {
-            Change::Put(Record { key, value }) => match frame.put(key, value)? {
-                Put::New => Done::New,
-                Put::Present => Done::Present,
-            },
-            Change::Replace(Record { key, value }) => match frame.replace(key, value)? {
-                Replace::Done => Done::Replaced,
-                Replace::Absent => Done::Absent,
-            },
-            Change::Erase(key) => match frame.erase(key)? {
-                Erase::Done => Done::Erased,
-                Erase::Absent => Done::Absent,
-            },
-        })
+    /// What its answer says, which is no refusal.
+    fn done(&self, answer: u8) -> Done {
+        match (self, u32::from(answer)) {
+            (_, number::ABSENT) => Done::Absent,
+            (_, number::PRESENT) => Done::Present,
+            (Change::Put(_), _) => Done::New,
+            (Change::Replace(_), _) => Done::Replaced,
+            (Change::Erase(_), _) => Done::Erased,
+        }
     }
 
     /// Why it was refused, of the frame that was left as it was.
@@ -81,6 +93,35 @@ impl Change {
         };
         format!("{} refused (answer {}): {why}", self.name(), refusal.number())
     }
+}
+
+/// The bytes that a change takes in a batch beside its key and value, and that the batch itself takes, are no more.
+const BESIDE_TEXT: usize = 16;
+
+/// A change that was refused, from 0, and why; nothing was changed.
+pub struct Stopped {
+    pub at: usize,
+    pub why: String,
+}
+
+/// Makes all changes, in their order, or none.
+pub fn make(changes: &[Change], frame: &mut Frame<Vec<u8>>) -> Result<Vec<Done>, Stopped> {
+    let sizes =
+        changes.iter().map(|change| BESIDE_TEXT + change.key().len() + change.value().len());
+    let mut lent = vec![0; BESIDE_TEXT + sizes.sum::<usize>()];
+    let mut batch = Batch::new(&mut lent, changes.len()).expect("room for the batch");
+    for change in changes {
+        change.add_to(&mut batch).expect("room for every change");
+    }
+    let mut second = vec![0; frame.bytes().len()];
+    let mut answers = vec![0; changes.len()];
+    let applied = frame.apply(&batch, &mut second, &mut answers);
+    applied.map_err(|stopped| match stopped.change.checked_sub(1) {
+        // The second frame is as the changes before it left it.
+        Some(at) => Stopped { at, why: changes[at].refused(&Frame::over(second), stopped.refusal) },
+        None => Stopped { at: 0, why: stopped.refusal.to_string() },
+    })?;
+    Ok(changes.iter().zip(answers).map(|(change, answer)| change.done(answer)).collect())
 }
 
 impl Done {

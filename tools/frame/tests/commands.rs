@@ -199,12 +199,13 @@ fn progress_is_shown_on_a_terminal_alone() {
     let lines: String = (0..4000).map(|n| format!("line.{n}={n}\n")).collect();
     folder.write("lines", lines);
     folder.frame(&["new", "i", "--bytes", "524288", "--slots", "10240"]).done("");
-    folder.write("fresh", folder.read("i"));
     folder.frame(&["import", "i", "lines"]).done("");
-    let line = format!("{FRAME} import fresh lines");
+    let exported = folder.frame(&["export", "i"]);
+    assert_eq!((exported.status, exported.err.as_str()), (Some(0), ""));
+    let line = format!("{FRAME} export i > out");
     let mut script = Command::new("script");
     let ran = folder.run(script.args(["-qec", &line, "/dev/null"]), b"");
     assert_eq!(ran.status, Some(0), "{}", ran.text());
     assert!(ran.text().contains(" of 4000"), "{}", ran.text());
-    assert_eq!(folder.read("i"), folder.read("fresh"));
+    assert_eq!(folder.read("out"), exported.out);
 }

@@ -12,13 +12,12 @@ pub mod new;
 pub mod pack;
 pub mod records;
 
-use crate::answers::{Change, Done};
+use crate::answers::{self, Change, Done, Stopped};
 use crate::args::Call;
 use crate::ended::Ended;
 use crate::help;
 use crate::image::{self, Replacing};
 use crate::output;
-use crate::progress::Progress;
 use std::path::Path;
 
 pub fn run(call: Call) -> Result<(), Ended> {
@@ -29,8 +28,8 @@ pub fn run(call: Call) -> Result<(), Ended> {
     }
 }
 
-/// Makes the changes in memory, one after the other, and replaces the image if none is refused and none stops by what is said of
-/// its answer. `place` names a change by its number, from 0.
+/// Makes the changes in memory, all or none, and replaces the image if none stops by what is said of its answer. `place` names a
+/// change by its number, from 0.
 fn change(
     path: &Path,
     changes: &[Change],
@@ -39,13 +38,11 @@ fn change(
 ) -> Result<(), Ended> {
     let replacing = Replacing::begin_there(path)?;
     let mut frame = image::open(path)?;
-    let mut progress = Progress::of(changes.len());
-    for (at, change) in changes.iter().enumerate() {
-        let done = change.make(&mut frame).map_err(|refusal| {
-            Ended::at(path, format!("{}{}", place(at), change.refused(&frame, refusal)))
-        })?;
+    let answers = answers::make(changes, &mut frame);
+    let answers =
+        answers.map_err(|Stopped { at, why }| Ended::at(path, format!("{}{why}", place(at))))?;
+    for (at, done) in answers.into_iter().enumerate() {
         on(at, done)?;
-        progress.step();
     }
     replacing.replace(frame.bytes())
 }

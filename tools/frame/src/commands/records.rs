@@ -1,7 +1,7 @@
 //! `frame export`, `frame import`, `frame size`: records as lines.
 
 use super::change;
-use crate::answers::{Change, Done};
+use crate::answers::{self, Change, Done, Stopped};
 use crate::args::Given;
 use crate::ended::Ended;
 use crate::image::{self, STANDARD};
@@ -76,19 +76,15 @@ pub fn size(given: &Given) -> Result<(), Ended> {
     let slots = (3 * records.len()).next_multiple_of(2).clamp(FEWEST_SLOTS, MOST_SLOTS);
     let mut frame =
         Frame::format(vec![0; LONGEST_FRAME], slots).map_err(|refusal| Ended::at(path, refusal))?;
-    let mut progress = Progress::of(records.len());
-    for (at, record) in records.into_iter().enumerate() {
-        let put = Change::Put(record);
-        let why = match put.make(&mut frame) {
-            Ok(done) => done.without_effect().map(str::to_string),
-            Err(refusal) => Some(format!("in the largest frame: {}", put.refused(&frame, refusal))),
-        };
-        if let Some(why) = why {
+    let puts: Vec<Change> = records.into_iter().map(Change::Put).collect();
+    let answers = answers::make(&puts, &mut frame).map_err(|Stopped { at, why }| {
+        Ended::at(path, format!("line {}: in the largest frame: {why}", at + 1))
+    })?;
+    for (at, done) in answers.into_iter().enumerate() {
+        if let Some(why) = done.without_effect() {
             return Err(Ended::at(path, format!("line {}: {why}", at + 1)));
         }
-        progress.step();
     }
-    drop(progress);
     let refused = |refusal: Refusal| Ended::at(path, refusal);
     let put = frame.info().map_err(refused)?;
     let packed = frame.pack(vec![0; LONGEST_FRAME]).and_then(|packed| packed.info());
