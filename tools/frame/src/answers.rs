@@ -74,7 +74,7 @@ impl Change {
     }
 
     /// Why it was refused, of the frame that was left as it was.
-    pub fn refused(&self, frame: &Frame<Vec<u8>>, refusal: Refusal) -> String {
+    fn refused(&self, frame: &Frame<Vec<u8>>, refusal: Refusal) -> String {
         let why = match (refusal, frame.info()) {
             (Refusal::Room, Ok(info)) => {
                 let lack = match (self, info.lacked(self.text_bytes())) {
