@@ -1,25 +1,23 @@
 -- The ends of a batch: refused as a whole, stopped at a change, carried out. Assumes nothing.
-use Prim.Native.Nat.{ℕ, _+_, _<_, _≤_}
-use mathlib.Core.Path.{_≡_, refl, sym, ap, subst, _∙_}
+use Prim.Native.Nat.{ℕ, _<_, _≤_}
+use mathlib.Core.Path.{_≡_, refl, sym, ap, _∙_}
 use mathlib.Core.Logic.{_≢_}
 use mathlib.Core.List.{List}
 use mathlib.Core.Bool.{Bool, true, false, not}
 use mathlib.Core.Option.{Option, none, some}
 use native.Mathlib.Omega.{arith}
 use native.Mathlib.Decide.{ℕ-discrete}
-use lib.ListN.{length, getD}
+use lib.ListN.{length}
 use lib.Seq.{ext-getD}
 use lib.Dec.{lit<}
 use borrow.Author.Tests.{not-true, not-false}
 use Rattle.model.specs.Edition.{edition1}
-use Rattle.model.specs.Order.{isRefusal}
 use Rattle.model.specs.Frame.{Good}
 use Rattle.model.specs.Promise.{CheckPromise}
 use Rattle.model.specs.Call.{Call}
 use Rattle.model.proofs.StringLaws.{clash}
 use Rattle.moves.specs.Pasted.{Pasted}
 use Rattle.descent.specs.Spot.{Standing}
-use Rattle.sequence.specs.Sequence.{Made}
 use Rattle.store.proofs.LookLaws.{told-good, check-two}
 use Rattle.batch.specs.Layout.{changesOf, laid}
 use Rattle.batch.specs.Batch.{Unrefused, told, Refused, BatchPromise}

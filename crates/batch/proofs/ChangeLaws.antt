@@ -1,20 +1,18 @@
 -- One change on a good frame: refused for its key or its value, or made; and which call it is. Assumes nothing.
 use Prim.Native.Nat.{ℕ, _+_, _<_, _≤_}
-use mathlib.Core.Path.{_≡_, refl, sym, ap, _∙_}
+use mathlib.Core.Path.{_≡_, refl, sym, _∙_}
 use mathlib.Core.List.{List}
 use mathlib.Core.Logic.{_≢_}
 use native.Mathlib.Omega.{arith}
 use native.Mathlib.Decide.{ℕ-discrete}
 use lib.ListN.{length, take, drop}
-use lib.Dec.{ltb, eqb, lit<}
+use lib.Dec.{lit<}
 use borrow.Author.Tests.{eq-eqb, ne-eqb, lt-ltb, le-ltb}
 use Rattle.layout.specs.Number.{Bytes}
-use Rattle.model.specs.Strings.{pick}
 use Rattle.model.specs.Edition.{edition1, valueFault}
 use Rattle.model.specs.State.{Write}
-use Rattle.model.specs.Frame.{Good}
 use Rattle.model.specs.Promise.{CheckPromise, WritePromise, PutPromise, ReplacePromise, ErasePromise}
-use Rattle.model.specs.Call.{put, replace, erase, Called}
+use Rattle.model.specs.Call.{Called}
 use Rattle.model.proofs.StringLaws.{eqb-cases, ltb-cases}
 use Rattle.answers.specs.declared.Refusal.{Refusal}
 use Rattle.answers.specs.declared.Refusal.the-variants as why

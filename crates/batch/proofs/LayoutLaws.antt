@@ -1,18 +1,17 @@
 -- What the code finds of a batch, test by test: a change that is sound or is not, what is left of the changes, the worked layouts. Assumes nothing.
-use Prim.Native.Nat.{ℕ, zero, suc, _+_, _-_, _*_, _<_, _≤_}
+use Prim.Native.Nat.{ℕ, zero, suc, _+_, _-_, _<_, _≤_}
 use mathlib.Core.Path.{_≡_, refl, sym, ap, _∙_}
-use mathlib.Core.List.{List, [], _∷_}
+use mathlib.Core.List.{List}
 use mathlib.Core.Bool.{Bool, true, false, not}
 use mathlib.Core.Option.{Option, none, some}
 use native.Mathlib.Omega.{arith}
 use native.Mathlib.Numerals.{add-one}
 use lib.ListN.{length}
-use lib.Dec.{leb, eqb}
+use lib.Dec.{eqb}
 use borrow.Author.Tests.{le-leb, lt-leb, eq-eqb, ne-eqb, not-true, not-false}
 use Rattle.layout.specs.Number.{le}
-use Rattle.model.specs.Strings.{pick}
 use Rattle.model.specs.Call.{Call}
-use Rattle.model.proofs.StringLaws.{bool-cases, leb-cases, clash}
+use Rattle.model.proofs.StringLaws.{leb-cases, clash}
 use Rattle.batch.specs.Layout.{countIn, countSize, offsetAt, offsetOf, atKey, kindAt, endOf, isPut, isReplacement, isErase, known, callAt, sound, also, changesFrom, changesOf, laid}
 use Rattle.batch.specs.Layouts.{Layouts}
 

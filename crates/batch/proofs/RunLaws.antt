@@ -1,15 +1,13 @@
 -- The changes of a batch one after another: the start, one change more, the end, and the first that is refused. Assumes nothing.
-use Prim.Native.Nat.{ℕ, zero, suc, _+_, _-_, _<_, _≤_}
+use Prim.Native.Nat.{ℕ, suc, _+_, _-_, _<_, _≤_}
 use mathlib.Core.Path.{_≡_, refl, sym, ap, _∙_}
 use mathlib.Core.List.{List, [], _∷_, _++_, append-assoc, append-nil}
-use mathlib.Core.Bool.{Bool, true, false, not}
+use mathlib.Core.Bool.{true, false, not}
 use mathlib.Core.Option.{Option, none, some}
 use native.Mathlib.Omega.{arith}
-use native.Mathlib.Numerals.{add-one}
 use lib.ListN.{length, set, length-append}
 use lib.Dec.{eqb}
-use borrow.Author.Tests.{eq-eqb, ne-eqb}
-use Rattle.model.specs.Strings.{pick}
+use borrow.Author.Tests.{ne-eqb}
 use Rattle.model.specs.Edition.{edition1}
 use Rattle.model.specs.Order.{isRefusal}
 use Rattle.model.specs.State.{State}
@@ -19,11 +17,10 @@ use Rattle.model.specs.Call.{Call, put, replace, erase, onCall, Called}
 use Rattle.model.proofs.StringLaws.{bool-cases, eqb-cases, leb-cases, clash}
 use Rattle.model.proofs.WorkedLaws.{called-stands}
 use Rattle.descent.specs.Spot.{Standing}
-use Rattle.sequence.specs.Sequence.{Made, callNumbers, stateAfter}
-use Rattle.batch.specs.Layout.{countIn, countSize, offsetAt, offsetOf, atKey, endOf, callAt, sound, also, changesFrom, changesOf, laid}
-use Rattle.batch.specs.Batch.{Unrefused, told, Stopped}
+use Rattle.sequence.specs.Sequence.{Made, callNumbers}
+use Rattle.batch.specs.Layout.{countIn, countSize, offsetAt, offsetOf, endOf, callAt, sound, also, changesFrom, changesOf, laid}
+use Rattle.batch.specs.Batch.{Unrefused, told}
 use Rattle.batch.specs.Run.{At, Ready, Far, ToldAt, All, CarriedOut, Tried}
-use Rattle.batch.specs.declared.run.Ended.{Ended}
 use Rattle.batch.proofs.LayoutLaws.{sound-has, countless, offsetless, headed-is}
 
 -- ---- the batch as a list of changes

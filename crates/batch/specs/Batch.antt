@@ -1,7 +1,7 @@
 -- What a batch does: "It is applied in a second lent frame of equal length, the first is checked once, and the result goes to the first only if no
 -- change is refused." `f`, `g`, `b` and `lent` are the first frame, the second, the batch and the slice for the answers at entry, with a prime at
 -- exit; `n` is the number given and `at` the place of the change that was refused, from 1, or 0.
-use Prim.Native.Nat.{ℕ, _+_, _<_}
+use Prim.Native.Nat.{ℕ, _+_}
 use mathlib.Core.Path.{_≡_}
 use mathlib.Core.Logic.{_≢_}
 use mathlib.Core.List.{List, [], _∷_, _++_}

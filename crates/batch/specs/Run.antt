@@ -7,7 +7,7 @@ use mathlib.Core.Option.{some}
 use lib.ListN.{length, set}
 use Rattle.model.specs.Edition.{edition1}
 use Rattle.model.specs.Order.{isRefusal}
-use Rattle.model.specs.Call.{Call, Called}
+use Rattle.model.specs.Call.{Call}
 use Rattle.descent.specs.Spot.{Standing}
 use Rattle.sequence.specs.Sequence.{Made}
 use Rattle.batch.specs.Layout.{countIn, atKey, endOf, changesFrom, changesOf, laid}

@@ -6,13 +6,11 @@ use mathlib.Core.Path.{_≡_, refl, ap, _∙_}
 use mathlib.Core.List.{List, [], _∷_}
 use mathlib.Core.Bool.{Bool, true}
 use mathlib.Core.Option.{Option, none, some}
-use mathlib.Core.Logic.{_≢_}
 use lib.ListN.{length, length-append}
 use lib.Dec.{T, eqb, eqb→eq, lit<, lit≤}
-use borrow.Author.Tests.{ne-eqb}
 use Rattle.layout.proofs.KindLaws.{both, both-left, both-right}
 use Rattle.model.specs.Strings.{All, Byte}
-use Rattle.model.specs.Edition.{Edition, edition1, Legal, LegalValue, Lawful}
+use Rattle.model.specs.Edition.{Edition, edition1, Legal, Lawful}
 use Rattle.model.specs.Records.{Record}
 use Rattle.model.specs.State.{State, formatted}
 use Rattle.model.specs.Image.{image, treeOf}

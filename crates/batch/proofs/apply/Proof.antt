@@ -1,8 +1,6 @@
 -- `apply`: refused as a whole, stopped in the second frame, or carried out in both. Assumes nothing.
-use mathlib.Core.Path.{_≡_, sym, _∙_}
 use mathlib.Core.List.{[]}
 use native.Mathlib.Omega.{arith}
-use lib.ListN.{length}
 use Rattle.store.proofs.LookLaws.{standing}
 use Rattle.batch.proofs.ApplyLaws.{pasted-all, ready, ready-second, tried-as, is-laid, not-laid, bad-frame, other-length, no-batch, halted-at, carried}
 use borrow.Author.Needs.{needs}
