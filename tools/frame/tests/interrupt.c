@@ -14,8 +14,13 @@ static int is_at(const char *call) {
     return named && strcmp(named, call) == 0;
 }
 
+/* The signal ends the program even if whoever started the tests has it ignored. */
 static void interrupt_at(const char *call) {
-    if (is_at(call)) raise(atoi(getenv("FRAME_TEST_SIGNAL")));
+    if (is_at(call)) {
+        int number = atoi(getenv("FRAME_TEST_SIGNAL"));
+        signal(number, SIG_DFL);
+        raise(number);
+    }
 }
 
 int rename(const char *from, const char *to) {
