@@ -1,7 +1,7 @@
 // Many changes, checked once: a batch is tried in a second frame, and carried out in the first if no change is refused.
-pub mod change;
-pub mod laid;
-pub mod run;
+mod change;
+mod laid;
+mod run;
 
 use moves::fill;
 use run::Ended;
