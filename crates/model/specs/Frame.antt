@@ -2,6 +2,7 @@
 use Prim.Native.Nat.{ℕ, suc, _+_, _%_, _<_, _≤_}
 use mathlib.Core.Path.{_≡_}
 use mathlib.Core.List.{List, [], _∷_, _++_, map}
+use mathlib.Core.Bool.{true}
 use mathlib.Core.Option.{Option, none, some}
 use lib.ListN.{length, getD, take}
 use lib.Dec.{eqb}
@@ -13,7 +14,7 @@ use Rattle.model.specs.Strings.{pick}
 use Rattle.model.specs.Edition.{Edition, Value}
 use Rattle.model.specs.Tree.{Art, Kids, extentOf}
 use Rattle.model.specs.State.{State}
-use Rattle.model.specs.Item.{Item, body, extent, sum, leafy, Sound}
+use Rattle.model.specs.Item.{Item, body, extent, cover, sum, leafy, Sound}
 use Rattle.model.specs.Body.{Zero, LeafAt, PrefixAt, InnerAt}
 
 -- ---- the tree with its slots and places
@@ -218,9 +219,14 @@ pub record View : Type 0 where
 abbrev pub all : View → List Item
 all h = h .owned ++ freed 1 (h .lists)
 
+-- "In a good frame freed bodies, dead extents and bytes from B on are zero": every byte from D on that nothing live covers
+pub record Clean (f : List ℕ) (d : ℕ) (live : List Item) : Type 0 where
+  pub zero : (a : ℕ) → d ≤ a → sum (cover a) live ≡ 0 → byteAt f a ≡ 0
+
 pub record Heap (f : List ℕ) (h : View) : Type 0 where
   pub header : Header f (h .nums)
   pub lists : Lists f (h .lists)
+  pub clean : h .nums .edition .wiped ≡ true → Clean f (dataStart (h .nums .N)) (h .owned)
   pub sound : Sound (dataStart (h .nums .N)) (h .nums .U) (h .nums .B) (h .nums .X) (all h)
 
 abbrev pub viewOf : Numbers → List (List (ℕ × ℕ)) → Root → View
