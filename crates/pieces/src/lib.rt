@@ -17,6 +17,8 @@ const QUARTER: usize = 4;
 // Those of a piece in a range of zeros that has as many.
 const LONG: usize = 64;
 
+const LONGEST: usize = 256;
+
 // ---- two ranges are the same
 
 // The n bytes that lie a distance behind i and behind j are the same.
@@ -189,7 +191,10 @@ pub fn all_zero(f: &[u8], from: usize, to: usize) -> bool
     if to - from < LONG {
         return zeros_by(f, from, to, PIECE);
     }
-    zeros_by(f, from, to, LONG)
+    if to - from < LONGEST {
+        return zeros_by(f, from, to, LONG);
+    }
+    zeros_by(f, from, to, LONGEST)
 }
 
 // The eight bytes at a place are 0: two numbers, joined.

@@ -30,11 +30,20 @@ zeros-by-requires-2 c κs = search needs
 returns-3 : tie.Need-returns-3
 returns-3 c = c .zeros-by2 .ensures
 
+sub-if4 : tie.Need-sub-if4
+sub-if4 c = search needs
+
 zeros-by-requires-3 : tie.Need-zeros-by-requires-3
 zeros-by-requires-3 c κs = search needs
 
 returns-4 : tie.Need-returns-4
 returns-4 c = c .zeros-by3 .ensures
+
+zeros-by-requires-4 : tie.Need-zeros-by-requires-4
+zeros-by-requires-4 c κs = search needs
+
+returns-5 : tie.Need-returns-5
+returns-5 c = c .zeros-by4 .ensures
 
 pub all-zero-spec : {M : Type 1} → statement M
 all-zero-spec =
@@ -49,5 +58,8 @@ all-zero-spec =
     sub-if3
     zeros-by-requires-2
     returns-3
+    sub-if4
     zeros-by-requires-3
-    returns-4)
+    returns-4
+    zeros-by-requires-4
+    returns-5)
