@@ -15,7 +15,7 @@ use Rattle.layout.specs.Kind.{Leaf, Prefix, EmptyRoot}
 use Rattle.model.specs.Strings.{pick, same}
 use Rattle.model.specs.Edition.{Edition}
 use Rattle.model.specs.Tree.{extentOf}
-use Rattle.model.specs.State.{State, Write}
+use Rattle.model.specs.State.{State, Write, onWrite, onErase}
 use Rattle.model.specs.Item.{Item, body, extent, onSlot, sum}
 use Rattle.model.specs.Frame.{Lay, LayKids, Root, Begins, bare, tree, rootArt, items, itemsAll, rootItems, RootAt, Tree, Single, freed, Stands}
 use Rattle.model.specs.Frame.Lay.{leaf, prefix, node}
@@ -24,6 +24,8 @@ use Rattle.model.specs.Mark.{Mark, mark, marks, marksAll, rootMarks, lik
 use Rattle.model.specs.Touch.{Touch, among, Outside}
 use Rattle.model.specs.Promise.{changes, WritePromise, ErasePromise}
 use Rattle.model.specs.Freedom.{is, slotIs, In, Live, Halved, Cut, Uncut, Alike}
+use Rattle.model.specs.Call.{erase}
+use Rattle.model.proofs.Commute.{on-write-frame, call-frame}
 use Rattle.model.proofs.StringLaws.{clash, bool-cases, eqb-cases, same-true, same-refl}
 use Rattle.model.proofs.ItemLaws.{in-yes, in-under, in-over, sum-app, slot-once}
 use Rattle.model.proofs.MarkLaws.{find, weight-in, only, Stay, Like, leaf-marks, prefix-marks, node-marks, kid-marks, nil-marks, tree-marks, bare-marks, is-same, like-of, stay-each}
@@ -326,8 +328,8 @@ module _ {E : Edition} (chains : Single E) (f : List ℕ) {f' f'' : List ℕ} {r
 -- ---- of the promises
 
 -- what `Outside` says of one result
-pub result-of : {E : Edition} {f f' : List ℕ} {s' : State} (r : Root) {ls : List (List (ℕ × ℕ))} {kinds : List ℕ} {t : Touch} {xs : List Item} {new : Bool} (w' : Stands E f' s')
-    → Outside f f' r (w' .root) ls (w' .lists) kinds t xs new → Result E f' r (w' .root) (t .goes)
+pub result-of : {E : Edition} {f f' : List ℕ} {s' : State} (r : Root) {ls : List (List (ℕ × ℕ))} {kinds : List ℕ} {t : Touch} {xs was : List Item} {new : Bool} (w' : Stands E f' s')
+    → Outside f f' r (w' .root) ls (w' .lists) kinds t xs was new → Result E f' r (w' .root) (t .goes)
 result-of r {t = t} w' O =
     record {
       bytes = w' .bytes;
@@ -367,3 +369,14 @@ module _ {E : Edition} {f k : List ℕ} {n m : ℕ} {f' f'' : List ℕ} (P : Era
   -- of the only record every byte is settled
   pub erase-only : n ≡ 0 → s .R ≡ 1 → f' ≡ f''
   erase-only h e = P .only s w h e ∙ sym (Q .only s w (sym erase-number ∙ h) e)
+
+-- ---- no call changes N
+
+cap-of : {E : Edition} {f : List ℕ} {s : State} (w : Stands E f s) → s .N ≡ w .nums .N
+cap-of w = ap (λ (z : State). z .N) (w .state)
+
+pub put-same-cap : {E : Edition} (a : Write) {f f' : List ℕ} (k v : List ℕ) {s : State} (w : Stands E f s) (w' : Stands E f' (onWrite E a s k v .state)) → w' .nums .N ≡ w .nums .N
+put-same-cap {E} a k v {s} w w' = sym (cap-of w') ∙ on-write-frame E a s k v .1 ∙ cap-of w
+
+pub erase-same-cap : {E : Edition} {f f' : List ℕ} (k : List ℕ) {s : State} (w : Stands E f s) (w' : Stands E f' (onErase E s k .state)) → w' .nums .N ≡ w .nums .N
+erase-same-cap {E} k {s} w w' = sym (cap-of w') ∙ call-frame E s (erase k) .1 ∙ cap-of w

@@ -6,7 +6,8 @@ use mathlib.Core.List.{List, [], _∷_, _++_, append-assoc, append-nil}
 use mathlib.Core.Bool.{false}
 use mathlib.Core.Option.{Option, none, some}
 use native.Mathlib.Omega.{arith}
-use lib.ListN.{length, replicate, take, drop, length-append, take-append-drop}
+use native.Mathlib.Decide.{decLt}
+use lib.ListN.{length, replicate, take, drop, length-append, take-append-drop, List·getD-eq-default}
 use lib.Seq.{take-append-seam, length-take-le}
 use lib.Dec.{eqb}
 use borrow.Author.Tests.{eqb-true}
@@ -23,16 +24,17 @@ use Rattle.model.specs.State.{State}
 use Rattle.model.specs.Image.{digits, numbers, padded, slots, size, bytesOf, childSlots, nodeBody, chainEntries, chainBodies, entries, entriesKids, bodies, bodiesKids, header, imageOf}
 use Rattle.model.specs.Item.{sum, leafy}
 use Rattle.model.specs.Body.{Has, lookKid, LeafAt, PrefixAt}
-use Rattle.model.specs.Frame.{Lay, slotOf, Below, tree, pairs, items, Entry, Places, NodeOf, Tree, Trees, RootAt, rootItems, FrameLength, SlotCapacity, Stands}
+use Rattle.model.specs.Frame.{Lay, slotOf, Below, tree, pairs, items, Entry, Places, NodeOf, Tree, Trees, RootAt, rootItems, FrameLength, SlotCapacity, Clean, Stands}
 use Rattle.model.proofs.Well.{Well, WellKids, Zeros, Placed}
 use Rattle.model.proofs.GoodState.{TreeOk, treeSlots, treeSize}
 use Rattle.model.proofs.StringLaws.{bool-cases}
 use Rattle.model.proofs.UniqueLaws.{look-first, look-later}
 use Rattle.model.proofs.StandsGood.{records-items}
+use Rattle.model.proofs.ItemLaws.{in-yes}
 use Rattle.model.proofs.TextLaws.{has-left, has-right, has-at, has-three, has-number, padded-left, padded-zero, padded-past, length-numbers, length-padded}
 use Rattle.model.proofs.NodeImage.{firsts, seconds, orZero, placed, inner-at}
 use Rattle.model.proofs.PackedBytes.{length-bytes, length-slots, length-node, take-short, chain-eight, length-chain, length-chain-entries, length-bodies, length-entries, length-table, length-image, bytes-image, extent-fits, inner-eighth, eighths, size-eight}
-use Rattle.model.proofs.LayLaws.{layOf, layKids, layChain, Firm, well-firm, chain-less, nil-of, slot-chain, art-lay, slot-lay, inner-lay, slots-pos, records-slots, lay-firsts, lay-seconds, lay-length, lay-asc, lay-live, none8, lay-sound, Numbered, InOrder, InOrderKids}
+use Rattle.model.proofs.LayLaws.{layOf, layKids, layChain, Firm, well-firm, chain-less, nil-of, slot-chain, art-lay, slot-lay, inner-lay, slots-pos, records-slots, lay-firsts, lay-seconds, lay-length, lay-asc, lay-live, none8, lay-cover, lay-sound, Numbered, InOrder, InOrderKids}
 use Rattle.model.proofs.FormatLaws.{has-self, has-fields, packedNumbers, fields-header, fields-lists, entry-holds, data-eight, empty-stands}
 
 -- ---- single bodies
@@ -269,6 +271,7 @@ pub record Laid (E : Edition) (f n : ℕ) (a : Art) (m : List ℕ) : Type 0 wher
   pub head : Has m 0 (header E f n (dataStart n + size a) (slots a) (length (records a)))
   pub table : Has m 64 (padded (4 * n) (numbers 4 (entries a (dataStart n))))
   pub bodies : Has m (dataStart n) (bodies a 1 (dataStart n))
+  pub past : (x : ℕ) → dataStart n + size a ≤ x → byteAt m x ≡ 0
 
 size-some : (E : Edition) (a : Art) (path : List ℕ) → Well E a path → 8 ≤ size a
 size-some E (Art.leaf k v) path W = omega arith
@@ -277,6 +280,17 @@ size-some E (Art.node kind ks) path W = let r = inner-range (W .0 .sort) in omeg
 
 counted-tree : (E : Edition) (m : List ℕ) (a : Art) (d : ℕ) → Firm a → Tree E m [] (layOf a 1 d) → length (records a) ≡ sum leafy (rootItems (tree (layOf a 1 d)))
 counted-tree E m a d F T = rw (tree-items (layOf a 1 d), records-items E m [] (layOf a 1 d) T, art-lay a 1 d F)
+
+-- bodies and extents lie end to end, so what they do not cover lies past them
+laid-clean : (d : ℕ) (a : Art) (m : List ℕ) → ((x : ℕ) → d + size a ≤ x → byteAt m x ≡ 0) → Clean m d (rootItems (tree (layOf a 1 d)))
+laid-clean d a m past =
+    rw (tree-items (layOf a 1 d))
+    record {
+      zero = λ x p c. elim (decLt x (d + size a)) [
+        | yes q ↦ absurd (omega (arith, lay-cover a 1 d x, in-yes d (size a) x p q))
+        | no q ↦ past x (omega arith)
+      ];
+    }
 
 pub laid-stands : (E : Edition) (f n : ℕ) (a : Art) (m : List ℕ) → FitsFields E → Well E a [] → InOrder a → ImageFits f n (some a) → Laid E f n a m
     → Stands E m (imageState f n (some a))
@@ -304,6 +318,7 @@ laid-stands E f n a m fit W O F L =
         header = fields-header E f n (d + size a) (slots a) r m fields long limits cap (eighths d (size a) d8 (size-eight E a [] W), omega arith, bytesFit) (slots-pos a, slotsFit)
             (λ x p q. padded-past (4 * n) (numbers 4 (entries a d)) (L .table) x (omega arith) q);
         lists = fields-lists E f n (d + size a) (slots a) r m fields;
+        clean = λ w. laid-clean d a m (L .past);
         sound = rw (tree-items (layOf a 1 d)) (lay-sound a d);
       };
       editionIs = refl;
@@ -328,7 +343,12 @@ image-laid E f n a W F =
       head = P .first;
       table = P .second;
       bodies = has-at d B (omega arith) (P .third);
+      past = λ x p. past-end f (H ++ T ++ B) m x (has-self m) (length-image E f n r (some a) W (F .slotsFit) (F .bytesFit))
+          (omega (arith, length-append (H ++ T) B, length-append H T, length-table a n d (F .slotsFit), length-bodies E a [] W 1 d));
     }
+  where
+    past-end : (f : ℕ) (bs m : List ℕ) (x : ℕ) → Has m 0 (padded f bs) → length m ≡ f → length bs ≤ x → byteAt m x ≡ 0
+    past-end f bs m x h l p = elim (decLt x f) [ yes q ↦ padded-past f bs h x (omega arith) (omega arith) | no q ↦ List·getD-eq-default m 0 (omega arith) ]
 
 -- the packed image stands for its tree
 pub image-stands : (E : Edition) (f n : ℕ) (t : Option Art) → FitsFields E → TreeOk E t → TreeInOrder t → ImageFits f n t

@@ -1,32 +1,26 @@
 -- A live body that the step neither frees nor rewrites keeps its bytes; so a Leaf of another key keeps its extent's place. Assumes nothing.
 use Prim.Native.Nat.{ℕ, _+_, _-_, _<_, _≤_}
-use mathlib.Core.Path.{_≡_, refl, sym, ap, _∙_}
+use mathlib.Core.Path.{_≡_, refl}
 use mathlib.Core.List.{List, [], _∷_, _++_}
 use mathlib.Core.Bool.{Bool, true, false}
-use mathlib.Core.Option.{Option, none, some}
 use native.Mathlib.Omega.{arith}
 use native.Mathlib.Decide.{decLe, decLt}
-use lib.ListN.{length, drop, getD}
+use lib.ListN.{length}
 use lib.Dec.{eqb}
 use borrow.Author.Tests.{ne-eqb}
 use Rattle.layout.specs.Number.{byteAt}
 use Rattle.layout.specs.Place.{atB, atSpare, entryAt, dataStart}
 use Rattle.layout.specs.Kind.{bodySize}
-use Rattle.model.specs.Strings.{same, shared}
 use Rattle.model.specs.Edition.{Edition}
-use Rattle.model.specs.Tree.{up8}
-use Rattle.model.specs.State.{State, Write, onWrite, onErase}
+use Rattle.model.specs.State.{State}
 use Rattle.model.specs.Item.{Item, body, extent, onSlot, cover, onEntry, sum}
-use Rattle.model.specs.Frame.{Lay, LayKids, Root, bare, tree, items, itemsAll, rootItems, freed, Stands}
-use Rattle.model.specs.Frame.Lay.{leaf, prefix, node}
-use Rattle.model.specs.Frame.LayKids.{nil, kid}
-use Rattle.model.specs.Touch.{Touch, Part, among, notIn, those, isBody, findLay, findLayKids, findAt, extentAt, Outside}
-use Rattle.model.specs.Call.{erase}
-use Rattle.model.proofs.Commute.{on-write-frame, call-frame}
-use Rattle.model.proofs.StringLaws.{clash, bool-cases, same-true}
+use Rattle.model.specs.Frame.{Root, rootItems, freed, Stands}
+use Rattle.model.specs.Touch.{Touch, among, notIn, those, isBody, findAt, extentAt, Outside}
+use Rattle.model.proofs.StringLaws.{clash, bool-cases}
 use Rattle.model.proofs.ItemLaws.{in-yes, in-over, sum-app, sum-add, slot-once}
 use Rattle.model.proofs.AlikeLaws.{slot-stays, result-of}
-use Rattle.model.proofs.SettledLaws.{placed, sized, is-body, body-weighs, slot-of-body, kinds-less}
+use Rattle.model.proofs.ExtentLaws.{bodyCover, extentCover, cover-split, cover-body, found-beside}
+use Rattle.model.proofs.SettledLaws.{is-body, body-weighs, slot-of-body, kinds-less}
 
 -- no entry of a slot up to n stands at D or above
 low-entry : (a n s k o : ℕ) → dataStart n ≤ a → ((t : ℕ) → n < t → onSlot t (body s k o) ≡ 0) → onEntry a (body s k o) ≡ 0
@@ -84,8 +78,8 @@ those-beside v ss s k o (body s' k' o' ∷ is) h q = elim (decLe 1 (isBody s k o
 
 -- ---- the bytes of a kept body
 
-module _ {E : Edition} {f f' : List ℕ} {st st' : State} (w : Stands E f st) (w' : Stands E f' st') {kinds : List ℕ} {t : Touch} {xs : List Item} {new : Bool}
-    (O : Outside f f' (w .root) (w' .root) (w .lists) (w' .lists) kinds t xs new) (sameN : w' .nums .N ≡ w .nums .N) (s k o : ℕ) (there : 1 ≤ sum (isBody s k o) (rootItems (w .root)))
+module _ {E : Edition} {f f' : List ℕ} {st st' : State} (w : Stands E f st) (w' : Stands E f' st') {kinds : List ℕ} {t : Touch} {xs was : List Item} {new : Bool}
+    (O : Outside f f' (w .root) (w' .root) (w .lists) (w' .lists) kinds t xs was new) (sameN : w' .nums .N ≡ w .nums .N) (s k o : ℕ) (there : 1 ≤ sum (isBody s k o) (rootItems (w .root)))
     (stays : among s (t .goes) ≡ false) (not : among s (t .goes ++ t .rewrites) ≡ false) where
   pub still-there : 1 ≤ sum (isBody s k o) (rootItems (w' .root))
   still-there =
@@ -101,8 +95,9 @@ module _ {E : Edition} {f f' : List ℕ} {st st' : State} (w : Stands E f st) (w
         slot-stays (result-of (w .root) w' O) s (omega (arith, slot-of-body s k o R)) stays,
       )
 
-  -- xs lies beside it
-  module _ (a : ℕ) (here : 1 ≤ cover a (body s k o)) (beside : sum (cover a) xs + cover a (body s k o) ≤ sum (cover a) (rootItems (w' .root))) where
+  -- the key's extent lies beside it, after as before
+  module _ (a : ℕ) (here : 1 ≤ cover a (body s k o)) (beside : sum (cover a) xs + cover a (body s k o) ≤ sum (cover a) (rootItems (w' .root)))
+      (before : sum (cover a) was + cover a (body s k o) ≤ sum (cover a) (rootItems (w .root))) where
     from-data : dataStart (w .nums .N) ≤ a
     from-data = elim (decLt a (dataStart (w .nums .N))) [
       | yes q ↦ absurd (omega (arith, w .heap .sound .low a q, sum-app (cover a) (rootItems (w .root)) (freed 1 (w .lists)), body-weighs (cover a) s k o (rootItems (w .root)) there))
@@ -144,61 +139,6 @@ cover-at s k o j h = omega (arith, in-yes o (bodySize k) (o + j) (omega arith) (
 
 -- ---- the extent of a key, beside the bodies
 
-unfoldable bodyCover : ℕ → Item → ℕ
-bodyCover a (body s k o) = cover a (body s k o)
-bodyCover a (extent e n) = 0
-
-unfoldable extentCover : ℕ → Item → ℕ
-extentCover a (body s k o) = 0
-extentCover a (extent e n) = cover a (extent e n)
-
-cover-split : (a : ℕ) (i : Item) → cover a i ≡ bodyCover a i + extentCover a i
-unfolding bodyCover extentCover
-cover-split a (body s k o) = omega arith
-cover-split a (extent e n) = omega arith
-
-cover-body : (a s k o : ℕ) → bodyCover a (body s k o) ≡ cover a (body s k o)
-unfolding bodyCover
-cover-body a s k o = refl
-
-leaf-extent : (a e at n long m : ℕ) → at ≡ e + n → n + long ≡ m → sum (cover a) (extent (at - n) (up8 (n + long)) ∷ []) ≡ extentCover a (extent e (up8 m))
-unfolding sum extentCover
-leaf-extent a e at n long m p q = let z : at - n ≡ e = omega arith in rw (z, q) (omega arith)
-
-module _ (E : Edition) (k : List ℕ) (c : Part) (a : ℕ) where
-  mutual
-    unfolding items itemsAll sum
-
-    find-extent : (l : Lay) (d : ℕ) → findLay E l d k ≡ some c → sum (cover a) (extentAt (length k) (some c)) ≤ sum (extentCover a) (items l)
-    find-extent (leaf s o e k' v') d h = bool-cases (same k k')
-        (λ t.
-        let q : some (record { at = e + length k'; long = length v' }) ≡ some c = rw t at h in
-        let x : c .at ≡ e + length k' = ap (λ (z : Option Part). placed z) (sym q) in
-        let y : c .long ≡ length v' = ap (λ (z : Option Part). sized z) (sym q) in
-        let n : length k ≡ length k' = ap length (same-true k k' t) in
-        omega (arith, leaf-extent a e (c .at) (length k) (c .long) (length k' + length v') (omega arith) (omega arith)))
-        (λ t. let q : none ≡ some c = rw t at h in clash (cc))
-    find-extent (prefix s o q l) d h = bool-cases (eqb (shared q (drop d (E .walked k))) (length q))
-        (λ t. omega (arith, find-extent l (d + length q) (rw t at h)))
-        (λ t. let z : none ≡ some c = rw t at h in clash (cc))
-    find-extent (node s o kind ks) d h = omega (arith, finds-extent ks d h)
-
-    finds-extent : (ks : LayKids) (d : ℕ) → findLayKids E ks d k ≡ some c → sum (cover a) (extentAt (length k) (some c)) ≤ sum (extentCover a) (itemsAll ks)
-    finds-extent nil d h = clash (cc)
-    finds-extent (kid b j l ks) d h =
-        let p = sum-app (extentCover a) (items l) (itemsAll ks) in
-        bool-cases (eqb b (getD (E .walked k) d 0)) (λ t. omega (arith, find-extent l (d + 1) (rw t at h))) (λ t. omega (arith, finds-extent ks d (rw t at h)))
-
-  root-extent : (r : Root) → findAt E r k ≡ some c → sum (cover a) (extentAt (length k) (some c)) ≤ sum (extentCover a) (rootItems r)
-  unfolding rootItems
-  root-extent (bare s o) h = clash (cc)
-  root-extent (tree l) h = find-extent l 0 h
-
-found-beside : (E : Edition) (k : List ℕ) (a : ℕ) (r : Root) (c : Option Part) → findAt E r k ≡ c → sum (cover a) (extentAt (length k) c) ≤ sum (extentCover a) (rootItems r)
-unfolding sum
-found-beside E k a r none h = omega arith
-found-beside E k a r (some c) h = root-extent E k c a r h
-
 pub extent-beside : (E : Edition) (x : List ℕ) (r : Root) (s k o a : ℕ) → 1 ≤ sum (isBody s k o) (rootItems r) → sum (cover a) (extentAt (length x) (findAt E r x)) + cover a (body s k o) ≤ sum (cover a) (rootItems r)
 extent-beside E x r s k o a h = omega (
   arith,
@@ -211,14 +151,3 @@ extent-beside E x r s k o a h = omega (
 pub none-beside : (r : Root) (s k o a : ℕ) → 1 ≤ sum (isBody s k o) (rootItems r) → sum (cover a) [] + cover a (body s k o) ≤ sum (cover a) (rootItems r)
 unfolding sum
 none-beside r s k o a h = omega (arith, body-weighs (cover a) s k o (rootItems r) h)
-
--- ---- no call changes N
-
-cap-of : {E : Edition} {f : List ℕ} {s : State} (w : Stands E f s) → s .N ≡ w .nums .N
-cap-of w = ap (λ (z : State). z .N) (w .state)
-
-pub put-same-cap : {E : Edition} (a : Write) {f f' : List ℕ} (k v : List ℕ) {s : State} (w : Stands E f s) (w' : Stands E f' (onWrite E a s k v .state)) → w' .nums .N ≡ w .nums .N
-put-same-cap {E} a k v {s} w w' = sym (cap-of w') ∙ on-write-frame E a s k v .1 ∙ cap-of w
-
-pub erase-same-cap : {E : Edition} {f f' : List ℕ} (k : List ℕ) {s : State} (w : Stands E f s) (w' : Stands E f' (onErase E s k .state)) → w' .nums .N ≡ w .nums .N
-erase-same-cap {E} k {s} w w' = sym (cap-of w') ∙ call-frame E s (erase k) .1 ∙ cap-of w

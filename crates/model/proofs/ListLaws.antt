@@ -20,7 +20,7 @@ use Rattle.model.specs.Strings.{pick, same, shared}
 use Rattle.model.specs.Edition.{Edition}
 use Rattle.model.specs.Tree as model
 use Rattle.model.specs.Tree.{Art, Kids, isInner, extentOf, Change, over, has, chain, prefixes, putTree, putKids, findTree, Left, gone, one, kept, LeftKids, fewer, still, lessOne, close, closeUnder, afterKids, consKid, fromChild, eraseTree, eraseKids}
-use Rattle.model.specs.State.{State, Done, tally, kinds, room, unless, after, putIn, putChange, Write, onWrite, eraseChange, treeLeft, eraseDone, eraseFound, eraseIn, onErase}
+use Rattle.model.specs.State.{State, Done, tally, kinds, room, after, putIn, putChange, Write, onWrite, eraseChange, treeLeft, eraseDone, eraseFound, eraseIn, onErase}
 use Rattle.model.specs.Item.{Item, body, extent, onSlot, cover, onEntry, leafy, sum}
 use Rattle.model.specs.Frame.{Lay, LayKids, Root, bare, tree, IsNode, Below, atop, art, artKids, NodeOf, rootArt, items, itemsAll, rootItems, RootAt, Tree, Trees, Chain, listItems, freed, Stands}
 use Rattle.model.specs.Frame.Lay.{leaf, prefix, node}
@@ -35,9 +35,10 @@ use Rattle.model.proofs.UniqueLaws.{chain-unique, list-zero}
 use Rattle.model.proofs.StandsGood.{node-well, bodied, sound-bodies}
 use Rattle.model.proofs.ChainLaws.{below-hung, put-atop, inner-atop}
 use Rattle.model.proofs.OneBody.{Narrow, narrow-node, node-inner, join-one}
-use Rattle.model.proofs.AlikeLaws.{slot-stays, result-of, put-number, erase-number}
+use Rattle.model.proofs.AlikeLaws.{slot-stays, result-of, put-number, erase-number, put-same-cap, erase-same-cap}
+use Rattle.model.proofs.ExtentLaws.{found-low}
 use Rattle.model.proofs.SettledLaws.{is-body, is-body-self, body-weighs, slot-of-body, kinds-less}
-use Rattle.model.proofs.KeptLaws.{taken-less, those-less, extent-beside, not-gone, put-same-cap, erase-same-cap}
+use Rattle.model.proofs.KeptLaws.{taken-less, those-less, not-gone}
 use Rattle.model.proofs.UpToLaws.{slot-find, one-place}
 use Rattle.model.proofs.OtherLeafLaws.{erase-found}
 
@@ -98,15 +99,8 @@ none-long (x ∷ xs) h = absurd (omega arith)
 
 -- ---- a step that frees no live body of the kind
 
-root-body : (r : Root) → (s : ℕ) × (k : ℕ) × (o : ℕ) × (1 ≤ sum (isBody s k o) (rootItems r))
-unfolding rootItems items sum
-root-body (bare s o) = (s, EmptyRoot, o, omega (arith, is-body-self s EmptyRoot o))
-root-body (tree (leaf s o e k v)) = (s, Leaf, o, omega (arith, is-body-self s Leaf o))
-root-body (tree (prefix s o p l)) = (s, Prefix, o, omega (arith, is-body-self s Prefix o))
-root-body (tree (node s o kind ks)) = (s, kind, o, omega (arith, is-body-self s kind o))
-
-module _ {E : Edition} {f f' : List ℕ} {st st' : State} (w : Stands E f st) (w' : Stands E f' st') {kinds : List ℕ} {t : Touch} {xs : List Item} {new : Bool}
-    (O : Outside f f' (w .root) (w' .root) (w .lists) (w' .lists) kinds t xs new) (sameN : w' .nums .N ≡ w .nums .N) (above : (a : ℕ) → a < dataStart (w .nums .N) → sum (cover a) xs ≡ 0)
+module _ {E : Edition} {f f' : List ℕ} {st st' : State} (w : Stands E f st) (w' : Stands E f' st') {kinds : List ℕ} {t : Touch} {xs was : List Item} {new : Bool}
+    (O : Outside f f' (w .root) (w' .root) (w .lists) (w' .lists) kinds t xs was new) (sameN : w' .nums .N ≡ w .nums .N) (above : (a : ℕ) → a < dataStart (w .nums .N) → sum (cover a) xs + sum (cover a) was ≡ 0)
     (k i : ℕ) (is : k ≡ 1 + i) (kind : i < 8) (off : among k kinds ≡ false) (sized : 1 ≤ bodySize k) (live : (s o : ℕ) → 1 ≤ sum (isBody s k o) (rootItems (w .root)) → among s (t .goes) ≡ false) where
   -- the list of kind k before and after
   abbrev L : List (ℕ × ℕ)
@@ -362,11 +356,10 @@ module _ {E : Edition} {a : Write} {f x v : List ℕ} {n : ℕ} {f' : List ℕ} 
       let w' = after-put in
       let cap = put-same-cap a x v w w' in
       let is : k ≡ 1 + (k - 1) = omega arith in
-      let B = root-body (w' .root) in
       let t : s .tree ≡ rootArt (w .root) = ap (λ (z : State). z .tree) (w .state) in
       let freesOff : among k (putIn E (rootArt (w .root)) x v .frees) ≡ false = rw t at (none-right k (c .takes) (c .frees) off) in
       list-same w w' (P .after s w .1 done) cap
-      (λ a l. omega (arith, extent-beside E x (w' .root) (B .0) (B .1) (B .2) a (B .3), w' .heap .sound .low a (omega (arith, cap)), sum-app (cover a) (rootItems (w' .root)) (freed 1 (w' .lists))))
+      (λ a l. omega (arith, found-low w' x a (omega (arith, cap)), found-low w x a l))
       k (k - 1) is (omega arith) off (body-some k (k - 1) is (omega arith))
       (spared w k (putIn E (rootArt (w .root)) x v .frees) (putTouch E (w .root) x v .goes) freesOff (λ u. root-frees E x v f u (w .root) (w .rootAt)))
       (sym (list-long w' k (k - 1) is) ∙ put-free k high E a s x v off ∙ list-long w k (k - 1) is)
@@ -599,8 +592,8 @@ leaves-few [] = omega arith
 leaves-few (body s k o ∷ is) = omega (arith, leaves-few is, in-where Leaf 1 k .few)
 leaves-few (extent e n ∷ is) = omega (arith, leaves-few is)
 
-module _ {E : Edition} {f f' : List ℕ} {st st' : State} (w : Stands E f st) (w' : Stands E f' st') {kinds : List ℕ} {t : Touch} {xs : List Item} {new : Bool}
-    (O : Outside f f' (w .root) (w' .root) (w .lists) (w' .lists) kinds t xs new) (more : 2 ≤ st .R) where
+module _ {E : Edition} {f f' : List ℕ} {st st' : State} (w : Stands E f st) (w' : Stands E f' st') {kinds : List ℕ} {t : Touch} {xs was : List Item} {new : Bool}
+    (O : Outside f f' (w .root) (w' .root) (w .lists) (w' .lists) kinds t xs was new) (more : 2 ≤ st .R) where
   two-given : 2 ≤ w .nums .U
   two-given =
       let R = rootItems (w .root) in
@@ -646,7 +639,7 @@ module _ {E : Edition} {f x : List ℕ} {n : ℕ} {f' : List ℕ} (P : EraseProm
       let is : k ≡ 1 + (k - 1) = omega arith in
       let t : s .tree ≡ rootArt (w .root) = ap (λ (z : State). z .tree) (w .state) in
       let F = erase-found E x w (sym (P .answer s w) ∙ done) in
-      list-same w w' O (erase-same-cap x w w') (λ a l. none-sum (cover a)) k (k - 1) is (omega arith) off (body-some k (k - 1) is (omega arith))
+      list-same w w' O (erase-same-cap x w w') (λ a l. omega (arith, none-sum (cover a), found-low w x a l)) k (k - 1) is (omega arith) off (body-some k (k - 1) is (omega arith))
       (spared w k (eraseKinds E (w .root) x) (eraseTouch E (w .root) x .goes) off (λ u. root-goes E narrow f (w .bytes) u x (F .0) (w .root) (w .rootAt) (F .1)))
       (sym (list-long w' k (k - 1) is) ∙ erase-free k high E s x (w .root) t off (not-one w w' O more) ∙ list-long w k (k - 1) is)
 

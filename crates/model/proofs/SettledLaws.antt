@@ -1,4 +1,4 @@
--- Two frames that one promise permits, with one tree and the same lists: they agree on every byte but padding and what was freed. Assumes nothing.
+-- Two frames that one promise permits, with one tree and the same lists: they agree on every byte but padding. Assumes nothing.
 use Prim.Native.Nat.{ℕ, suc, _+_, _-_, _*_, _/_, _<_, _≤_}
 use mathlib.Core.Path.{_≡_, refl, sym, ap, _∙_}
 use mathlib.Core.List.{List, [], _∷_, _++_}
@@ -23,12 +23,14 @@ use Rattle.model.specs.Body.{Zero}
 use Rattle.model.specs.Frame.{Lay, LayKids, slotOf, Root, bare, tree, items, itemsAll, rootItems, rootSlot, RootAt, Tree, Trees, Entry, Numbers, Header, Chain, Lists, listItems, freed, stateOf, Stands}
 use Rattle.model.specs.Frame.Lay.{leaf, prefix, node}
 use Rattle.model.specs.Frame.LayKids.{nil, kid}
-use Rattle.model.specs.Touch.{Touch, Part, among, notIn, those, ofKinds, isBody, touched, putTouch, eraseTouch, findLay, findLayKids, findAt, extentAt, Outside}
+use Rattle.model.specs.Touch.{Touch, Part, among, notIn, those, ofKinds, isBody, touched, findLay, findLayKids, findAt, extentAt, Outside}
 use Rattle.model.specs.Promise.{changes, WritePromise, ErasePromise}
 use Rattle.model.specs.Freedom.{padding}
 use Rattle.model.proofs.StringLaws.{clash, bool-cases, eqb-cases, same-true}
 use Rattle.model.proofs.ItemLaws.{in-where, in-yes, sum-app, slot-once}
-use Rattle.model.proofs.AlikeLaws.{Result, slot-stays, result-of, put-number, erase-number}
+use Rattle.model.proofs.AlikeLaws.{Result, slot-stays, result-of, put-number, erase-number, put-same-cap, erase-same-cap}
+use Rattle.model.proofs.CleanLaws.{stands-clean, freed-bare}
+use Rattle.model.proofs.ExtentLaws.{placed, sized, root-past, found-low}
 use Rattle.model.proofs.BytesLaws.{entry-bytes, leaf-bytes, prefix-bytes, node-bytes}
 
 -- ---- where a live body stands, by its entry or by itself
@@ -56,14 +58,6 @@ chain-head : (f g : List ℕ) (h h' : ℕ) (xs : List (ℕ × ℕ)) → Chain f 
 unfolding Chain
 chain-head f g h h' [] C D = C ∙ sym D
 chain-head f g h h' (x ∷ xs) C D = C .0 ∙ sym (D .0)
-
-abbrev pub placed : Option Part → ℕ
-placed none = 0
-placed (some c) = c .at
-
-abbrev pub sized : Option Part → ℕ
-sized none = 0
-sized (some c) = c .long
 
 -- the numbers that two frames of one state have in common
 pub record SameNumbers (n m : Numbers) : Type 0 where
@@ -264,15 +258,6 @@ body-weighs v s k o (body s' k' o' ∷ is) h = elim (decLe 1 (isBody s k o (body
   | no q ↦ omega (arith, body-weighs v s k o is (omega arith))
 ]
 
-those-in : (ss : List ℕ) (s k o : ℕ) (is : List Item) → among s ss ≡ true → 1 ≤ sum (isBody s k o) is → 1 ≤ sum (isBody s k o) (those ss is)
-unfolding sum
-those-in ss s k o [] t h = absurd (omega arith)
-those-in ss s k o (extent e n ∷ is) t h = those-in ss s k o is t (omega arith)
-those-in ss s k o (body s' k' o' ∷ is) t h = elim (decLe 1 (isBody s k o (body s' k' o'))) [
-  | yes q ↦ let e : among s' ss ≡ true = rw (is-body s k o s' k' o' q .0) at t in rw e (omega arith)
-  | no q ↦ bool-cases (among s' ss) (λ u. rw u (omega (arith, those-in ss s k o is t (omega arith)))) (λ u. rw u (those-in ss s k o is t (omega arith)))
-]
-
 record Covers (a : ℕ) (is : List Item) : Type 0 where
   pub s : ℕ
   pub k : ℕ
@@ -318,11 +303,39 @@ cover-stood : (a s k o : ℕ) → cover a (body s k o) ≤ stood a (body s k o)
 unfolding cover stood
 cover-stood a s k o = omega arith
 
+-- ---- what a step frees is zero after it
+
+module _ {E : Edition} {f f' : List ℕ} {s' : State} (w' : Stands E f' s') (wiped : E .wiped ≡ true) {r : Root} {ls : List (List (ℕ × ℕ))} {kinds : List ℕ} {t : Touch} {xs was : List Item} {new : Bool}
+    (O : Outside f f' r (w' .root) ls (w' .lists) kinds t xs was new) where
+  bare-zero : (a : ℕ) → dataStart (w' .nums .N) ≤ a → sum (cover a) (rootItems (w' .root)) ≡ 0 → byteAt f' a ≡ 0
+  bare-zero a h z = stands-clean w' wiped .zero a (omega (arith, w' .heap .header .dataAt)) z
+
+  -- a body that it frees
+  pub gone-zero : (s k o a : ℕ) → 1 ≤ sum (isBody s k o) (rootItems r) → 1 ≤ cover a (body s k o) → among s (t .goes) ≡ true → byteAt f' a ≡ 0
+  gone-zero s k o a there covers q =
+      let R' = rootItems (w' .root) in
+      let F' = freed 1 (w' .lists) in
+      let on : 1 ≤ sum (isBody s k o) F' = omega (
+        arith,
+        O .keeps s k o (omega (arith, sum-app (isBody s k o) (rootItems r) (freed 1 ls))),
+        sum-app (isBody s k o) R' F',
+        slot-of-body s k o R',
+        O .leaves s q,
+        slot-once (w' .heap .sound) s,
+        sum-app (onSlot s) R' F',
+      ) in
+      let z = freed-bare w' a (omega (arith, body-weighs (cover a) s k o F' on)) in
+      bare-zero a (z .0) (z .1)
+
+  -- the key's extent, where it is not the key's again
+  pub was-zero : (a : ℕ) → dataStart (w' .nums .N) ≤ a → 1 ≤ sum (cover a) was → sum (cover a) xs ≡ 0 → byteAt f' a ≡ 0
+  was-zero a d h z = bare-zero a d (omega (arith, O .vacant a h))
+
 -- ---- the two frames
 
-module _ {E : Edition} {f f' f'' : List ℕ} {r r' : Root} {ls ls' : List (List (ℕ × ℕ))} {kinds : List ℕ} {t : Touch} {xs : List Item} {new : Bool} {s' s'' : State} (w' : Stands E f' s') (w'' : Stands E f'' s'')
-    (e' : w' .root ≡ r') (e'' : w'' .root ≡ r') (l' : w' .lists ≡ ls') (l'' : w'' .lists ≡ ls') (es : s' ≡ s'') (O : Outside f f' r r' ls ls' kinds t xs new) (Q : Outside f f'' r r' ls ls' kinds t xs new) (a : ℕ)
-    (free : sum (cover a) (those (t .goes) (rootItems r)) ≡ 0) (text : 1 ≤ sum (cover a) xs → byteAt f' a ≡ byteAt f'' a) where
+module _ {E : Edition} {f f' f'' : List ℕ} {r r' : Root} {ls ls' : List (List (ℕ × ℕ))} {kinds : List ℕ} {t : Touch} {xs was : List Item} {new : Bool} {s' s'' : State} (w' : Stands E f' s') (w'' : Stands E f'' s'')
+    (e' : w' .root ≡ r') (e'' : w'' .root ≡ r') (l' : w' .lists ≡ ls') (l'' : w'' .lists ≡ ls') (es : s' ≡ s'') (O : Outside f f' r r' ls ls' kinds t xs was new) (Q : Outside f f'' r r' ls ls' kinds t xs was new) (wiped : E .wiped ≡ true) (a : ℕ)
+    (low : a < dataStart (w' .nums .N) → sum (cover a) was ≡ 0) (text : 1 ≤ sum (cover a) xs → byteAt f' a ≡ byteAt f'' a) where
   rest : 1 ≤ sum (stood a) (rootItems r') → byteAt f' a ≡ byteAt f'' a
   rest h = root-agrees E f' f'' (w' .bytes) (w'' .bytes) a r' (rw e' at (w' .rootAt)) (rw e'' at (w'' .rootAt)) h
 
@@ -331,8 +344,14 @@ module _ {E : Edition} {f f' f'' : List ℕ} {r r' : Root} {ls ls' : List (List 
       let h = slot-once (w' .heap .sound) s in
       let g : sum (onSlot s) (rootItems r' ++ freed 1 ls') ≤ 1 = rw (e', l') at h in omega (arith, sum-app (onSlot s) (rootItems r') (freed 1 ls'))
 
+  mine : Outside f f' r (w' .root) ls (w' .lists) kinds t xs was new
+  mine = rw (e', l') O
+
+  theirs : Outside f f'' r (w'' .root) ls (w'' .lists) kinds t xs was new
+  theirs = rw (e'', l'') Q
+
   result : Result E f' r r' (t .goes)
-  result = let O' : Outside f f' r (w' .root) ls (w' .lists) kinds t xs new = rw (e', l') O in rw e' at (result-of r w' O')
+  result = rw e' at (result-of r w' mine)
 
   kept-body : Covers a (rootItems r) → byteAt f' a ≡ byteAt f'' a
   kept-body C =
@@ -340,7 +359,7 @@ module _ {E : Edition} {f f' f'' : List ℕ} {r r' : Root} {ls ls' : List (List 
       let k = C .k in
       let o = C .o in
       bool-cases (among s (t .goes))
-      (λ q. absurd (omega (arith, body-weighs (cover a) s k o (those (t .goes) (rootItems r)) (those-in (t .goes) s k o (rootItems r) q (C .there)), C .covers)))
+      (λ q. gone-zero w' wiped mine s k o a (C .there) (C .covers) q ∙ sym (gone-zero w'' wiped theirs s k o a (C .there) (C .covers) q))
       (λ q.
       let live = slot-stays result s (omega (arith, C .there, slot-of-body s k o (rootItems r))) q in
       let there : 1 ≤ sum (isBody s k o) (rootItems r') = omega (
@@ -368,13 +387,19 @@ module _ {E : Edition} {f f' f'' : List ℕ} {r r' : Root} {ls ls' : List (List 
       (λ i q. let e : 0 + i + 1 ≡ i + 1 = omega arith in rw e (B .chains i (omega arith)))
       (omega (arith, kinds-less (onEntry a) kinds (freed 1 ls')))
 
-  -- every byte but those of freed bodies and, of the key's extent, what `text` does not say
+  -- where the key's extent lay
+  was-byte : 1 ≤ sum (cover a) was → sum (cover a) xs ≡ 0 → byteAt f' a ≡ byteAt f'' a
+  was-byte h z =
+      let d : dataStart (w' .nums .N) ≤ a = elim (decLt a (dataStart (w' .nums .N))) [ yes q ↦ absurd (omega (arith, low q)) | no q ↦ omega arith ] in
+      was-zero w' wiped mine a d h z ∙ sym (was-zero w'' wiped theirs a (omega (arith, ap dataStart (same-numbers w' w'' es .N))) h z)
+
+  -- every byte but, of the key's extent, what `text` does not say
   agree : byteAt f' a ≡ byteAt f'' a
   agree =
       let R = rootItems r in
       let R' = rootItems r' in
       let T = taken-stood a R R' in
-      elim (ℕ-discrete (touched a r r' ls' kinds t xs) 0) [
+      elim (ℕ-discrete (touched a r r' ls' kinds t xs was) 0) [
         | yes z ↦ O .other a z ∙ sym (Q .other a z)
         | no z ↦ elim (decLe 1 (inside atB (atSpare - atB) a)) [
           | yes h ↦ numbers h
@@ -384,7 +409,10 @@ module _ {E : Edition} {f f' f'' : List ℕ} {r r' : Root} {ls ls' : List (List 
               | yes j ↦ links j
               | no j ↦ elim (decLe 1 (sum (cover a) (those (t .goes ++ t .rewrites) R))) [
                 | yes u ↦ kept-body (those-find a (t .goes ++ t .rewrites) R u)
-                | no u ↦ text (omega arith)
+                | no u ↦ elim (decLe 1 (sum (cover a) xs)) [
+                  | yes v ↦ text v
+                  | no v ↦ was-byte (omega arith) (omega arith)
+                ]
               ]
             ]
           ]
@@ -395,27 +423,6 @@ module _ {E : Edition} {f f' f'' : List ℕ} {r r' : Root} {ls ls' : List (List 
 
 past : (p l n u a : ℕ) → a < p - n + u → p + l ≤ a → n ≤ p → a < p + l + (u - (n + l))
 past p l n u a h g q = omega arith
-
--- a found value stands behind its key
-module _ (E : Edition) (k : List ℕ) (c : Part) where
-  mutual
-    find-past : (l : Lay) (d : ℕ) → findLay E l d k ≡ some c → length k ≤ c .at
-    find-past (leaf s o e k' v') d h = bool-cases (same k k')
-        (λ t.
-        let q : some (record { at = e + length k'; long = length v' }) ≡ some c = rw t at h in
-        let x : c .at ≡ e + length k' = ap (λ (z : Option Part). placed z) (sym q) in
-        omega (arith, ap length (same-true k k' t)))
-        (λ t. let q : none ≡ some c = rw t at h in clash (cc))
-    find-past (prefix s o q l) d h = bool-cases (eqb (shared q (drop d (E .walked k))) (length q)) (λ t. find-past l (d + length q) (rw t at h)) (λ t. let z : none ≡ some c = rw t at h in clash (cc))
-    find-past (node s o kind ks) d h = finds-past ks d h
-
-    finds-past : (ks : LayKids) (d : ℕ) → findLayKids E ks d k ≡ some c → length k ≤ c .at
-    finds-past nil d h = clash (cc)
-    finds-past (kid b j l ks) d h = bool-cases (eqb b (getD (E .walked k) d 0)) (λ t. find-past l (d + 1) (rw t at h)) (λ t. finds-past ks d (rw t at h))
-
-  root-past : (r : Root) → findAt E r k ≡ some c → length k ≤ c .at
-  root-past (bare s o) h = clash (cc)
-  root-past (tree l) h = find-past l 0 h
 
 none-covers : {A : Type 0} (a : ℕ) → 1 ≤ sum (cover a) [] → A
 unfolding sum
@@ -435,21 +442,20 @@ text-or E f g F G a k r T U (some c) e p h =
 
 -- ---- put and erase
 
-module _ {E : Edition} {a : Write} {f k v : List ℕ} {n m : ℕ} {f' f'' : List ℕ} (P : WritePromise E a f k v n f') (Q : WritePromise E a f k v m f'') {s : State} (w : Stands E f s) (done : changes n ≡ true) where
-  abbrev one : Stands E f' (onWrite E a s k v .state)
+module _ {E : Edition} {b : Write} {f k v : List ℕ} {n m : ℕ} {f' f'' : List ℕ} (P : WritePromise E b f k v n f') (Q : WritePromise E b f k v m f'') {s : State} (w : Stands E f s) (done : changes n ≡ true) where
+  abbrev one : Stands E f' (onWrite E b s k v .state)
   one = P .after s w .0
 
-  abbrev other : Stands E f'' (onWrite E a s k v .state)
+  abbrev other : Stands E f'' (onWrite E b s k v .state)
   other = Q .after s w .0
 
-  -- with the same slots, places and lists the two frames agree on every byte but the bodies that the put frees and the padding of the key's extent
-  pub put-bytes : one .root ≡ other .root → one .lists ≡ other .lists → (a : ℕ) → sum (cover a) (those (putTouch E (w .root) k v .goes) (rootItems (w .root))) ≡ 0
-      → sum (cover a) (padding (length k) (findAt E (one .root) k)) ≡ 0 → byteAt f' a ≡ byteAt f'' a
-  put-bytes er el a free pad =
+  -- with the same slots, places and lists the two frames agree on every byte but the padding of the key's extent
+  pub put-bytes : E .wiped ≡ true → one .root ≡ other .root → one .lists ≡ other .lists → (a : ℕ) → sum (cover a) (padding (length k) (findAt E (one .root) k)) ≡ 0 → byteAt f' a ≡ byteAt f'' a
+  put-bytes wiped er el a pad =
       let O = P .after s w .1 done in
       let m' : changes m ≡ true = rw (← put-number P Q w) done in
       let O2 = rw (← er, ← el) at (Q .after s w .1 m') in
-      agree one other refl (sym er) refl (sym el) refl O O2 a free (text-or E f' f'' (one .bytes) (other .bytes) a k (one .root) (one .rootAt) (rw (← er) at (other .rootAt)) (findAt E (one .root) k) refl pad)
+      agree one other refl (sym er) refl (sym el) refl O O2 wiped a (λ h. found-low w k a (omega (arith, ap dataStart (put-same-cap b k v w one)))) (text-or E f' f'' (one .bytes) (other .bytes) a k (one .root) (one .rootAt) (rw (← er) at (other .rootAt)) (findAt E (one .root) k) refl pad)
 
 module _ {E : Edition} {f k : List ℕ} {n m : ℕ} {f' f'' : List ℕ} (P : ErasePromise E f k n f') (Q : ErasePromise E f k m f'') {s : State} (w : Stands E f s) (done : n ≡ 0) (more : 2 ≤ s .R) where
   abbrev eone : Stands E f' (onErase E s k .state)
@@ -458,7 +464,8 @@ module _ {E : Edition} {f k : List ℕ} {n m : ℕ} {f' f'' : List ℕ} (P : Era
   abbrev eother : Stands E f'' (onErase E s k .state)
   eother = Q .after s w .0
 
-  pub erase-bytes : eone .root ≡ eother .root → eone .lists ≡ eother .lists → (a : ℕ) → sum (cover a) (those (eraseTouch E (w .root) k .goes) (rootItems (w .root))) ≡ 0 → byteAt f' a ≡ byteAt f'' a
-  erase-bytes er el a free =
+  -- on every byte
+  pub erase-bytes : E .wiped ≡ true → eone .root ≡ eother .root → eone .lists ≡ eother .lists → (a : ℕ) → byteAt f' a ≡ byteAt f'' a
+  erase-bytes wiped er el a =
       let O2 = rw (← er, ← el) at (Q .after s w .1 (sym (erase-number P Q w) ∙ done) more) in
-      agree eone eother refl (sym er) refl (sym el) refl (P .after s w .1 done more) O2 a free (λ h. none-covers a h)
+      agree eone eother refl (sym er) refl (sym el) refl (P .after s w .1 done more) O2 wiped a (λ h. found-low w k a (omega (arith, ap dataStart (erase-same-cap k w eone)))) (λ h. none-covers a h)

@@ -25,10 +25,11 @@ use Rattle.model.proofs.ItemLaws.{in-where, sum-app, slot-once}
 use Rattle.model.proofs.ChainLaws.{inner-atop}
 use Rattle.model.proofs.OneBody.{node-inner}
 use Rattle.model.proofs.KnotLaws.{erase-knot}
-use Rattle.model.proofs.AlikeLaws.{alike, uncut, result-of, arts-same, put-number, erase-number}
+use Rattle.model.proofs.AlikeLaws.{alike, uncut, result-of, arts-same, put-number, erase-number, put-same-cap, erase-same-cap}
+use Rattle.model.proofs.CleanLaws.{stands-clean}
 use Rattle.model.proofs.BytesLaws.{leaf-twin, text-twin, prefix-twin, node-twin}
 use Rattle.model.proofs.SettledLaws.{is-body, is-body-self, slot-of-body, same-numbers, numbers-agree}
-use Rattle.model.proofs.KeptLaws.{still-there, kept-byte, not-gone, cover-at, extent-beside, none-beside, put-same-cap, erase-same-cap}
+use Rattle.model.proofs.KeptLaws.{still-there, kept-byte, not-gone, cover-at, extent-beside, none-beside}
 
 -- ---- body by body
 
@@ -118,8 +119,12 @@ one-place s k o k' o' (body t c a ∷ is) h p q =
 
 -- ---- one result of a step
 
-module _ {E : Edition} {f f' : List ℕ} {s s' : State} (w : Stands E f s) (w' : Stands E f' s') {kinds : List ℕ} {t : Touch} {xs : List Item} {new : Bool}
-    (O : Outside f f' (w .root) (w' .root) (w .lists) (w' .lists) kinds t xs new) where
+-- the key's extent lies beside every body
+abbrev Beside : Root → List Item → Type 0
+Beside r xs = (s k o a : ℕ) → 1 ≤ sum (isBody s k o) (rootItems r) → sum (cover a) xs + cover a (body s k o) ≤ sum (cover a) (rootItems r)
+
+module _ {E : Edition} {f f' : List ℕ} {s s' : State} (w : Stands E f s) (w' : Stands E f' s') {kinds : List ℕ} {t : Touch} {xs was : List Item} {new : Bool}
+    (O : Outside f f' (w .root) (w' .root) (w .lists) (w' .lists) kinds t xs was new) where
   place-kept : (s k o k0 o0 : ℕ) → 1 ≤ sum (isBody s k0 o0) (rootItems (w .root)) → 1 ≤ sum (isBody s k o) (rootItems (w' .root)) → o ≡ o0
   place-kept s k o k0 o0 h p =
       let R = rootItems (w' .root) in
@@ -127,33 +132,30 @@ module _ {E : Edition} {f f' : List ℕ} {s s' : State} (w : Stands E f s) (w' :
       one-place s k o k0 o0 (R ++ L) (slot-once (w' .heap .sound) s) (omega (arith, sum-app (isBody s k o) R L))
       (O .keeps s k0 o0 (omega (arith, sum-app (isBody s k0 o0) (rootItems (w .root)) (freed 1 (w .lists))))) .1
 
-  -- the key's extent lies beside every body
-  abbrev Beside : Type 0
-  Beside = (s k o a : ℕ) → 1 ≤ sum (isBody s k o) (rootItems (w' .root)) → sum (cover a) xs + cover a (body s k o) ≤ sum (cover a) (rootItems (w' .root))
-
-  bytes-kept : w' .nums .N ≡ w .nums .N → Beside → (s k o : ℕ) → 1 ≤ sum (isBody s k o) (rootItems (w .root)) → among s (t .goes ++ t .rewrites) ≡ false → (j : ℕ) → j < bodySize k
+  bytes-kept : w' .nums .N ≡ w .nums .N → Beside (w' .root) xs → Beside (w .root) was → (s k o : ℕ) → 1 ≤ sum (isBody s k o) (rootItems (w .root)) → among s (t .goes ++ t .rewrites) ≡ false → (j : ℕ) → j < bodySize k
       → byteAt f' (o + j) ≡ byteAt f (o + j)
-  bytes-kept cap beside s k o h n j u =
+  bytes-kept cap beside before s k o h n j u =
       let g = not-gone s (t .goes) (t .rewrites) n in
-      kept-byte w w' O cap s k o h g n (o + j) (cover-at s k o j u) (beside s k o (o + j) (still-there w w' O cap s k o h g n))
+      kept-byte w w' O cap s k o h g n (o + j) (cover-at s k o j u) (beside s k o (o + j) (still-there w w' O cap s k o h g n)) (before s k o (o + j) h)
 
 -- ---- two results of one step
 
-module _ {E : Edition} (chains : Single E) {f f' f'' : List ℕ} {s s' : State} (w : Stands E f s) (w' : Stands E f' s') (w'' : Stands E f'' s') {kinds : List ℕ} {t : Touch} {xs' xs'' : List Item} {new : Bool}
-    (O : Outside f f' (w .root) (w' .root) (w .lists) (w' .lists) kinds t xs' new) (Q : Outside f f'' (w .root) (w'' .root) (w .lists) (w'' .lists) kinds t xs'' new) where
-  up-to : (cut : ℕ → Type 0) → Alike cut (w .root) (w' .root) (w'' .root) → Alike cut (w .root) (w'' .root) (w' .root) → w' .nums .N ≡ w .nums .N → Beside w w' O → Beside w w'' Q
-      → UpTo cut (w .root) kinds t f' f'' (w' .root) (w'' .root) (w' .lists) (w'' .lists) xs' xs''
-  up-to cut A B cap I J =
+module _ {E : Edition} (chains : Single E) {f f' f'' : List ℕ} {s s' : State} (w : Stands E f s) (w' : Stands E f' s') (w'' : Stands E f'' s') {kinds : List ℕ} {t : Touch} {xs' xs'' was : List Item} {new : Bool}
+    (O : Outside f f' (w .root) (w' .root) (w .lists) (w' .lists) kinds t xs' was new) (Q : Outside f f'' (w .root) (w'' .root) (w .lists) (w'' .lists) kinds t xs'' was new) (wiped : E .wiped ≡ true) where
+  up-to : (cut : ℕ → Type 0) → Alike cut (w .root) (w' .root) (w'' .root) → Alike cut (w .root) (w'' .root) (w' .root) → w' .nums .N ≡ w .nums .N → Beside (w' .root) xs' → Beside (w'' .root) xs'' → Beside (w .root) was
+      → UpTo cut (w .root) kinds t was f' f'' (w' .root) (w'' .root) (w' .lists) (w'' .lists) xs' xs''
+  up-to cut A B cap I J I0 =
       let N = same-numbers w' w'' refl in
       record {
         forth = A;
         back = B;
         places = λ s k o k' o' h p q. let F = slot-find s (rootItems (w .root)) h in place-kept w w' O s k o (F .0) (F .1) (F .2) p ∙ sym (place-kept w w'' Q s k' o' (F .0) (F .1) (F .2) q);
-        kept = λ s k o h n j l u. bytes-kept w w' O cap I s k o h n j u ∙ sym (bytes-kept w w'' Q (sym (N .N) ∙ cap) J s k o h n j u);
+        kept = λ s k o h n j l u. bytes-kept w w' O cap I I0 s k o h n j u ∙ sym (bytes-kept w w'' Q (sym (N .N) ∙ cap) J I0 s k o h n j u);
         bodies = root-twins E chains f' f'' (w' .bytes) (w'' .bytes) (w' .root) (w'' .root) (w' .rootAt) (w'' .rootAt) (arts-same w' w'');
         size = w' .heap .header .size ∙ N .F ∙ sym (w'' .heap .header .size);
         numbers = λ a l. numbers-agree E f' f'' (w' .bytes) (w'' .bytes) a (w' .nums) (w'' .nums) (w' .heap .header) (w'' .heap .header) N l;
         other = λ a h g. O .other a h ∙ sym (Q .other a g);
+        zeros = (stands-clean w' wiped, stands-clean w'' wiped);
       }
 
 -- ---- put and erase
@@ -168,15 +170,15 @@ module _ {E : Edition} {a : Write} {f k v : List ℕ} {n m : ℕ} {f' f'' : List
   abbrev other : Stands E f'' (onWrite E a s k v .state)
   other = Q .after s w .0
 
-  pub put-up-to : Single E → UpTo (Cut (w .root) (one .root) (other .root)) (w .root) (putChange E s k v .takes ++ putChange E s k v .frees) (putTouch E (w .root) k v) f' f'' (one .root) (other .root) (one .lists) (other .lists)
+  pub put-up-to : Single E → E .wiped ≡ true → UpTo (Cut (w .root) (one .root) (other .root)) (w .root) (putChange E s k v .takes ++ putChange E s k v .frees) (putTouch E (w .root) k v) (extentAt (length k) (findAt E (w .root) k)) f' f'' (one .root) (other .root) (one .lists) (other .lists)
       (extentAt (length k) (findAt E (one .root) k)) (extentAt (length k) (findAt E (other .root) k))
-  put-up-to chains =
+  put-up-to chains wiped =
       let O = P .after s w .1 done in
       let O' = Q .after s w .1 (rw (← put-number P Q w) done) in
       let R = result-of (w .root) one O in
       let S = result-of (w .root) other O' in
       let e = arts-same one other in
-      up-to chains w one other O O' (Cut (w .root) (one .root) (other .root)) (alike chains R S e) (swapped (alike chains S R (sym e))) (put-same-cap a k v w one) (extent-beside E k (one .root)) (extent-beside E k (other .root))
+      up-to chains w one other O O' wiped (Cut (w .root) (one .root) (other .root)) (alike chains R S e) (swapped (alike chains S R (sym e))) (put-same-cap a k v w one) (extent-beside E k (one .root)) (extent-beside E k (other .root)) (extent-beside E k (w .root))
 
 module _ {E : Edition} {f k : List ℕ} {n m : ℕ} {f' f'' : List ℕ} (P : ErasePromise E f k n f') (Q : ErasePromise E f k m f'') {s : State} (w : Stands E f s) (done : n ≡ 0) (more : 2 ≤ s .R) where
   abbrev eone : Stands E f' (onErase E s k .state)
@@ -185,12 +187,12 @@ module _ {E : Edition} {f k : List ℕ} {n m : ℕ} {f' f'' : List ℕ} (P : Era
   abbrev eother : Stands E f'' (onErase E s k .state)
   eother = Q .after s w .0
 
-  pub erase-up-to : Single E → UpTo Uncut (w .root) (eraseKinds E (w .root) k) (eraseTouch E (w .root) k) f' f'' (eone .root) (eother .root) (eone .lists) (eother .lists) [] []
-  erase-up-to chains =
+  pub erase-up-to : Single E → E .wiped ≡ true → UpTo Uncut (w .root) (eraseKinds E (w .root) k) (eraseTouch E (w .root) k) (extentAt (length k) (findAt E (w .root) k)) f' f'' (eone .root) (eother .root) (eone .lists) (eother .lists) [] []
+  erase-up-to chains wiped =
       let O = P .after s w .1 done more in
       let O' = Q .after s w .1 (sym (erase-number P Q w) ∙ done) more in
       let R = result-of (w .root) eone O in
       let S = result-of (w .root) eother O' in
       let e = arts-same eone eother in
-      up-to chains w eone eother O O' Uncut (uncut chains f R S (erase-knot k w eone) (erase-knot k w eother) (w .bytes) (w .rootAt) e) (uncut chains f S R (erase-knot k w eother) (erase-knot k w eone) (w .bytes) (w .rootAt) (sym e)) (erase-same-cap k w eone)
-      (none-beside (eone .root)) (none-beside (eother .root))
+      up-to chains w eone eother O O' wiped Uncut (uncut chains f R S (erase-knot k w eone) (erase-knot k w eother) (w .bytes) (w .rootAt) e) (uncut chains f S R (erase-knot k w eother) (erase-knot k w eone) (w .bytes) (w .rootAt) (sym e)) (erase-same-cap k w eone)
+      (none-beside (eone .root)) (none-beside (eother .root)) (extent-beside E k (w .root))
