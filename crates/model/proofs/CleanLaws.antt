@@ -114,6 +114,9 @@ to-before = record { number = refl; faults = λ k. refl; walks = λ k. refl }
 from-before : SameKeys before1 edition1
 from-before = record { number = refl; faults = λ k. refl; walks = λ k. refl }
 
+pub root-before : (f : List ℕ) (r : Root) → RootAt edition1 f r → RootAt before1 f r
+root-before f = root-as to-before f
+
 pub root-now : (f : List ℕ) (r : Root) → RootAt before1 f r → RootAt edition1 f r
 root-now f = root-as from-before f
 

@@ -8,16 +8,11 @@ use lib.Bits.{bitOr, or-add-and, and-le-l, and-le-r}
 use Rattle.layout.specs.Number.{byteAt, le}
 use Rattle.layout.proofs.NumberLaws.{le-zero, zero-le-bytes}
 use Rattle.pieces.specs.Decides.{Decides}
-use Rattle.pieces.specs.Range.{IsZero, Blank}
+use Rattle.pieces.specs.Range.{IsZero, Blank, Joined}
 use Rattle.pieces.proofs.DecideLaws.{by-eq}
 use Rattle.pieces.proofs.RangeLaws.{range-more, range-join}
 
 -- ---- zero bytes joined
-
--- what joining the bytes of a range came to
-pub record Joined (f : List ℕ) (from i joined : ℕ) : Type 0 where
-  pub zero : joined ≡ 0 → Blank f from i
-  pub blank : Blank f from i → joined ≡ 0
 
 pub or-left : (a b : ℕ) → bitOr a b ≡ 0 → a ≡ 0
 or-left a b e = omega (arith, or-add-and a b, and-le-l a b, and-le-r a b)
@@ -62,7 +57,9 @@ eight-high f at h = blank-le 4 f (at + 4) (λ a x y. h a (omega arith) (omega ar
 eight : (f : List ℕ) (at : ℕ) → le 4 f at ≡ 0 → le 4 f (at + 4) ≡ 0 → Blank f at (at + 8)
 eight f at l h = range-join (IsZero f) at (at + 4) (at + 8) (le-blank 4 f at l) (λ a x y. le-blank 4 f (at + 4) h a x (omega arith))
 
-pub eight-joined : (f : List ℕ) (at x y : ℕ) → x ≡ le 4 f at → y ≡ le 4 f (at + 4) → Decides (Blank f at (at + 8)) (eqb (bitOr x y) 0)
+pub eight-joined : (f : List ℕ) (at x y : ℕ) → x ≡ le 4 f at → y ≡ le 4 f (at + 4) → Joined f at (at + 8) (bitOr x y)
 eight-joined f at x y l h =
-    by-eq (bitOr x y) 0 (λ e. let p = or-left x y e in let q = or-right x y e in eight f at (omega arith) (omega arith))
-    (λ b. let p = eight-low f at b in let q = eight-high f at b in or-zero x y (omega arith) (omega arith))
+    record {
+      zero = λ e. let p = or-left x y e in let q = or-right x y e in eight f at (omega arith) (omega arith);
+      blank = λ b. let p = eight-low f at b in let q = eight-high f at b in or-zero x y (omega arith) (omega arith);
+    }

@@ -21,6 +21,11 @@ Blank f from to = Each (IsZero f) from to
 abbrev pub Clean : List ℕ → ℕ → ℕ → Type 0
 Clean f from to = Each (NotZero f) from to
 
+-- a number that the bytes of a range joined came to: 0 just if every one is 0
+pub record Joined (f : List ℕ) (from to joined : ℕ) : Type 0 where
+  pub zero : joined ≡ 0 → Blank f from to
+  pub blank : Blank f from to → joined ≡ 0
+
 -- the bytes behind i are those behind j: at one distance, at each of a range, and at the first n
 abbrev pub SameAt : List ℕ → ℕ → List ℕ → ℕ → ℕ → Type 0
 SameAt a i b j k = byteAt a (i + k) ≡ byteAt b (j + k)

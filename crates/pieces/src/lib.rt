@@ -5,7 +5,7 @@ use layout::number;
 ghost use Prim.Native.Nat.{_+_, _≤_, _<_};
 ghost use lib.ListN.{length};
 ghost use Rattle.pieces.specs.Decides.{Decides};
-ghost use Rattle.pieces.specs.Range.{Blank, Clean, Paired, Alike};
+ghost use Rattle.pieces.specs.Range.{Blank, Clean, Joined, Paired, Alike};
 
 // The bytes of a piece, in a long range and in shorter ones.
 const PIECE: usize = 16;
@@ -197,10 +197,18 @@ pub fn all_zero(f: &[u8], from: usize, to: usize) -> bool
     zeros_by(f, from, to, LONGEST)
 }
 
-// The eight bytes at a place are 0: two numbers, joined.
+// The eight bytes at a place as two numbers, joined.
+pub fn eight(f: &[u8], at: usize) -> usize
+    requires { ⌜ at + 8 ≤ length (now f) ⌝ }
+    ensures { λ r. ⌜ Joined (now (f .entry)) at (at + 8) r ⌝ }
+{
+    number::read4(f, at) | number::read4(f, at + 4)
+}
+
+// The eight bytes at a place are 0.
 pub fn zero_eight(f: &[u8], at: usize) -> bool
     requires { ⌜ at + 8 ≤ length (now f) ⌝ }
     ensures { λ r. ⌜ Decides (Blank (now (f .entry)) at (at + 8)) r ⌝ }
 {
-    number::read4(f, at) | number::read4(f, at + 4) == 0
+    eight(f, at) == 0
 }

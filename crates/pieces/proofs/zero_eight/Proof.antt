@@ -1,20 +1,16 @@
--- `zero_eight` decides that eight bytes are zero, as two numbers. Assumes nothing.
+-- `zero_eight` decides that eight bytes are zero. Assumes nothing.
+use Prim.Native.Nat.{_+_}
+use mathlib.Core.Path.{refl}
 use borrow.Author.Needs.{needs}
-use Rattle.pieces.proofs.ZeroLaws.{eight-joined}
+use Rattle.pieces.proofs.ZeroLaws.{joined-end}
 use Rattle.pieces.proofs.zero_eight.Statement.{statement}
 use Rattle.pieces.proofs.zero_eight.Tie as tie
 
-read4-requires : tie.Need-read4-requires
-read4-requires c κs = search needs
-
-add-read4 : tie.Need-add-read4
-add-read4 c = search needs
-
-read4-requires-2 : tie.Need-read4-requires-2
-read4-requires-2 c κs = search needs
+eight-requires : tie.Need-eight-requires
+eight-requires c κs = search needs
 
 returns : tie.Need-returns
-returns c = let a = c .before .before .before .args in eight-joined (a .f .now) (a .at) (c .before .read4 .result) (c .read42 .result) (c .before .read4 .ensures .0) (c .read42 .ensures .0)
+returns c = let a = c .before .before .args in joined-end (a .f .now) (a .at) (a .at + 8) 8 (c .eight .result) refl (c .eight .ensures)
 
 pub zero-eight-spec : {M : Type 1} → statement M
-zero-eight-spec = tie.close (tie.spec read4-requires add-read4 read4-requires-2 returns)
+zero-eight-spec = tie.close (tie.spec eight-requires returns)

@@ -2,7 +2,8 @@
 use Prim.Native.Nat.{_+_, _-_, _≤_}
 use native.Mathlib.Omega.{arith}
 use borrow.Author.Needs.{needs}
-use Rattle.pieces.proofs.ZeroLaws.{Joined, joined-none, joined-more, joined-end}
+use Rattle.pieces.specs.Range.{Joined}
+use Rattle.pieces.proofs.ZeroLaws.{joined-none, joined-more, joined-end}
 use Rattle.pieces.proofs.zeros.Statement.{statement}
 use Rattle.pieces.proofs.zeros.Tie as tie
 
