@@ -3,26 +3,25 @@ use Prim.Native.Nat.{ℕ, _+_, _-_, _*_, _/_, _<_, _≤_}
 use mathlib.Core.Path.{_≡_, refl, sym, ap, _∙_}
 use mathlib.Core.List.{List, [], _∷_}
 use native.Mathlib.Omega.{arith}
-use native.Mathlib.Decide.{decLt, ℕ-discrete}
-use lib.ListN.{length, getD, set, length-set}
-use lib.Seq.{getD-set-same, getD-set-other}
-use Rattle.layout.specs.Number.{le, put}
-use Rattle.layout.specs.Place.{atB, atU, atR, atX, atRoot, atHead, entryAt}
+use native.Mathlib.Decide.{ℕ-discrete}
+use lib.ListN.{length}
+use Rattle.layout.specs.Number.{le, put, byteAt}
+use Rattle.layout.specs.Place.{atB, atU, atR, atX, atRoot, atHead, headerSize, entryAt}
 use Rattle.layout.specs.Kind.{bodySize, Kind}
-use Rattle.layout.specs.Entry.{entryOf, placeOf, highOf}
-use Rattle.layout.proofs.NumberLaws.{le-put}
+use Rattle.layout.specs.Entry.{entryOf, entryPlace, placeOf, highOf}
+use Rattle.layout.proofs.NumberLaws.{le-put, le-same}
 use Rattle.layout.proofs.EntryLaws.{entry-own, place-lt}
 use Rattle.model.specs.Tree.{up8}
-use Rattle.model.specs.Item.{Item, body, extent, bulk, Same}
+use Rattle.model.specs.Item.{Item, body, extent, cover, touch, bulk, Same}
 use Rattle.model.specs.Frame.{View, Chain, Heap, freed}
 use Rattle.model.proofs.ItemLaws.{sum-app, sum-cons}
-use Rattle.moves.specs.Moved.{Only}
+use Rattle.moves.specs.Moved.{Only, Cleared}
 use Rattle.room.specs.View.{listOf, popped, given, takenFrom, slotFrom, placeFrom, taken, Roomy, retired, recorded, rooted}
-use Rattle.moves.specs.Pasted.{Piece, Pasted}
-use Rattle.room.specs.Step.{But, Takes, Took, Frees, Freed, Extended, Retires, Renumbered}
-use Rattle.moves.proofs.MoveLaws.{only-none, only-set, only-put, only-then}
-use Rattle.room.proofs.HeapLaws.{lies}
-use Rattle.room.proofs.StepLaws.{chain-nil, chain-cons, head-in, pop-heap, fresh-heap, free-heap, extend-heap, record-heap, retire-heap, root-heap}
+use Rattle.moves.specs.Pasted.{Pasted}
+use Rattle.room.specs.Step.{But, Takes, Took, Frees, Freed, Extended, Retires, Died, Renumbered}
+use Rattle.moves.proofs.MoveLaws.{only-put, only-then}
+use Rattle.room.proofs.HeapLaws.{extent-in, cover-body, cover-extent, body-covers, extent-covers, kept-then, kept-part, lies, any-write}
+use Rattle.room.proofs.StepLaws.{Listed, chain-nil, chain-cons, head-in, pop-heap, fresh-heap, free-heap, extend-heap, record-heap, retire-heap, root-heap}
 
 -- ---- take and release
 
@@ -151,9 +150,10 @@ module _ {f : List ℕ} {h : View} (k : ℕ) (P : Heap f h) (K : Kind k) where
       → g ≡ put 4 (put 2 f (atHead k) (highOf f s)) (entryAt s) (entryOf k (placeOf f s)) → Took f g h k s
   take-pop {g} {s} e n l eg = let c = list-some e n in pop-at s (c .0) (c .1) (c .2) (c .3) (c .5) l eg
 
-  pub release-law : {m g : List ℕ} {next p : ℕ} (s o : ℕ) (rest : List Item) → Same (h .owned) (body s k o ∷ rest) → placeOf f s ≡ o → next ≡ le 2 f (atHead k)
-      → p ≡ placeOf f s → m ≡ put 4 f (entryAt s) (entryOf next p) → g ≡ put 2 m (atHead k) s → Freed f g h s k o rest
-  release-law {m} {g} s o rest own eo en ep em eg =
+  -- the body is zero already
+  listed-law : {m g : List ℕ} {next p : ℕ} (s o : ℕ) (rest : List Item) → Same (h .owned) (body s k o ∷ rest) → placeOf f s ≡ o → next ≡ le 2 f (atHead k)
+      → p ≡ placeOf f s → m ≡ put 4 f (entryAt s) (entryOf next p) → g ≡ put 2 m (atHead k) s → ((a : ℕ) → 1 ≤ cover a (body s k o) → byteAt f a ≡ 0) → Listed f g h s k o rest
+  listed-law {m} {g} s o rest own eo en ep em eg Z =
       let H = P .header in
       let k1 = K .0 in
       let k8 = K .1 in
@@ -170,7 +170,22 @@ module _ {f : List ℕ} {h : View} (k : ℕ) (P : Heap f h) (K : Kind k) where
       let s1 = O1 .size in
       let l : s < 65536 = omega arith in
       rw (eg, em, ep, en) (free-heap s k o rest P K own eo O1 (entry-own f s next (placeOf f s) (omega arith) (omega arith) (place-lt (le 4 f (entryAt s))))
-      (only-put 2 f1 (atHead k) s) (le-put 2 f1 (atHead k) s (omega arith) l))
+      (only-put 2 f1 (atHead k) s) (le-put 2 f1 (atHead k) s (omega arith) l) Z)
+
+-- the body is wiped, and then listed
+pub release-law : {f w m g : List ℕ} {h : View} {next p n : ℕ} (k : ℕ) → Heap f h → Kind k → (s o : ℕ) (rest : List Item) → Same (h .owned) (body s k o ∷ rest) → placeOf f s ≡ o → next ≡ le 2 f (atHead k)
+    → p ≡ placeOf f s → n ≡ bodySize k → Cleared f w p n → m ≡ put 4 w (entryAt s) (entryOf next p) → g ≡ put 2 m (atHead k) s → Freed f g h s k o rest
+release-law {f} {w} {m} {g} {h} k P K s o rest own eo en ep es Y em eg =
+    let Y' : Cleared f w o (bodySize k) = rw (ep ∙ eo, es) at Y in
+    let W = any-write (body s k o) rest P own (Y' .rest) (λ a l u. cover-body a s k o l u) in
+    let I = lies s k o rest P own (K .0) (K .1) in
+    let it = I .table in
+    let bi = P .header .bumpIn in
+    let e : le 4 w (entryAt s) ≡ le 4 f (entryAt s) = le-same 4 w f (entryAt s) (λ a l u. W .low a (omega arith)) in
+    let q : placeOf w s ≡ placeOf f s = ap entryPlace e in
+    let r : le 2 w (atHead k) ≡ le 2 f (atHead k) = le-same 2 w f (atHead k) (λ a l u. W .low a (omega (arith, K .1))) in
+    let L = listed-law k (W .heap) K s o rest own (q ∙ eo) (en ∙ sym r) (ep ∙ sym q) em eg (λ a c. let i = body-covers a s k o c in Y' .zeros a (i .0) (i .1)) in
+    record { heap = L .heap; middle = w; wiped = Y' .rest; but = L .but; kept = kept-then (W .kept) (L .kept) }
 
 -- ---- extend, retire, set_records, set_root
 
@@ -199,12 +214,14 @@ module _ {f : List ℕ} {h : View} (P : Heap f h) where
         P .header .limits,
       )
 
-  pub retire-law : {g : List ℕ} {x : ℕ} (o n : ℕ) (rest : List Item) → Same (h .owned) (extent o n ∷ rest) → x ≡ le 4 f atX → g ≡ put 4 f atX (x + n) → Renumbered f g h (retired h n rest)
-  retire-law {g} {x} o n rest own ex eg =
+  -- the extent is zero already
+  dead-law : {g : List ℕ} {x : ℕ} (o n : ℕ) (rest : List Item) → Same (h .owned) (extent o n ∷ rest) → x ≡ le 4 f atX → g ≡ put 4 f atX (x + n) → ((a : ℕ) → 1 ≤ cover a (extent o n) → byteAt f a ≡ 0)
+      → Renumbered f g h (retired h n rest)
+  dead-law {g} {x} o n rest own ex eg Z =
       let l = long in
       let e : x + n ≡ h .nums .X + n = ap (λ m. m + n) (ex ∙ P .header .deadAt) in
       let b : x + n < 4294967296 = omega (arith, dead-fits o n rest own) in
-      rw eg (retire-heap P o n rest own (only-put 4 f atX (x + n)) (le-put 4 f atX (x + n) (omega arith) b ∙ e))
+      rw eg (retire-heap P o n rest own (only-put 4 f atX (x + n)) (le-put 4 f atX (x + n) (omega arith) b ∙ e) Z)
 
   pub records-law : {g : List ℕ} (r : ℕ) → r < 4294967296 → g ≡ put 4 f atR r → Renumbered f g h (recorded h r)
   records-law r b eg = let l = long in rw eg (record-heap P r (only-put 4 f atR r) (le-put 4 f atR r (omega arith) b))
@@ -239,6 +256,14 @@ module _ {f : List ℕ} {h : View} (P : Heap f h) where
         kept = Z .2;
       })
 
+-- the extent is wiped, and then X grows
+pub retire-law : {f w g : List ℕ} {h : View} {x : ℕ} → Heap f h → (o n : ℕ) (rest : List Item) → Same (h .owned) (extent o n ∷ rest) → Cleared f w o n → x ≡ le 4 w atX → g ≡ put 4 w atX (x + n)
+    → Died f g h o n rest
+retire-law {f} {w} {g} {h} P o n rest own Y ex eg =
+    let W = any-write (extent o n) rest P own (Y .rest) (λ a l u. cover-extent a o n l u) in
+    let L = dead-law (W .heap) o n rest own ex eg (λ a c. let i = extent-covers a o n c in Y .zeros a (i .0) (i .1)) in
+    record { heap = L .heap; middle = w; wiped = Y .rest; but = L .but; kept = kept-then (W .kept) (kept-part rest (L .kept) (λ a. omega (arith, own (touch a), sum-cons (touch a) (extent o n) rest))) }
+
 -- ---- what the calls ask
 
 pub fresh-ok : {f : List ℕ} {k : ℕ} → Takes f k → le 2 f (atHead k) ≡ 0 → (entryAt (le 4 f atU + 1) + 4 ≤ length f) × (le 4 f atB + bodySize k ≤ 524288)
@@ -265,7 +290,7 @@ pop-ok {f} {k} {s} T e n =
     let z = H .size in
     (omega arith, omega arith, omega arith)
 
-pub release-ok : {f : List ℕ} {s k : ℕ} → Frees f s k → (1 ≤ s) × (entryAt s + 4 ≤ length f) × (le 2 f (atHead k) < 32768)
+pub release-ok : {f : List ℕ} {s k : ℕ} → Frees f s k → (1 ≤ s) × (entryAt s + 4 ≤ length f) × (le 2 f (atHead k) < 32768) × (placeOf f s + bodySize k ≤ length f)
 release-ok {f} {s} {k} F =
     let P = F .heap in
     let H = P .header in
@@ -275,7 +300,15 @@ release-ok {f} {s} {k} F =
     let b = H .bumpIn in
     let g = H .givenIn in
     let z = H .size in
-    (omega arith, omega arith, omega (arith, head-fits k P (F .kind)))
+    (omega arith, omega arith, omega (arith, head-fits k P (F .kind)), omega (arith, F .placeIs, I .ends))
 
-pub retire-ok : {f : List ℕ} {o n : ℕ} → Retires f o n → le 4 f atX + n ≤ 524288
-retire-ok {f} {o} {n} T = omega (arith, dead-fits (T .heap) o n (T .rest) (T .owns), T .heap .header .deadAt)
+pub retire-ok : {f : List ℕ} {o n : ℕ} → Retires f o n → (o + n ≤ length f) × (le 4 f atX + n ≤ 524288) × (headerSize ≤ o)
+retire-ok {f} {o} {n} T =
+    let P = T .heap in
+    let H = P .header in
+    let I = extent-in (P .sound) o n (T .rest) (λ w. omega (arith, T .owns w, sum-cons w (extent o n) (T .rest), sum-app w (T .view .owned) (freed 1 (T .view .lists)))) (T .some) in
+    (omega (arith, I .1, H .bumpIn, H .size), omega (arith, dead-fits P o n (T .rest) (T .owns), H .deadAt), omega (arith, I .0))
+
+-- X is as it was
+pub retire-same : {f w : List ℕ} {o n m : ℕ} → Retires f o n → Cleared f w o m → le 4 w atX + n ≤ 524288
+retire-same {f} {w} {o} T Y = let z = retire-ok T in omega (arith, le-same 4 w f atX (λ a l u. Y .rest .below a (omega (arith, z .2))))

@@ -15,8 +15,8 @@ use Rattle.layout.proofs.NumberLaws.{le-same}
 use Rattle.layout.proofs.KindLaws.{size-least}
 use Rattle.layout.proofs.EntryLaws.{high-of-entry, place-of-entry}
 use Rattle.model.specs.Item.{Item, body, extent, onSlot, cover, onEntry, touch, sum, Same, Sound}
-use Rattle.model.specs.Frame.{Numbers, View, Entry, Chain, listItems, freed, Header, Lists, Heap}
-use Rattle.model.proofs.ItemLaws.{in-yes, sum-app, sum-cons, sound-same, entry-none, touch-few, touch-head}
+use Rattle.model.specs.Frame.{Numbers, View, Entry, Chain, listItems, freed, Header, Lists, Clean, Heap}
+use Rattle.model.proofs.ItemLaws.{in-yes, in-where, sum-app, sum-cons, sound-same, entry-none, touch-few, touch-head}
 use Rattle.moves.specs.Moved.{Only}
 use Rattle.room.specs.View.{renumbered, holding, listOf, slotFrom, placeFrom, takenFrom, taken}
 use Rattle.room.specs.Step.{But, Kept, Took}
@@ -74,6 +74,15 @@ cover-body a s k o l u = omega (arith, cover-at a s k o l u)
 pub cover-extent : (a e n : ℕ) → e ≤ a → a < e + n → 1 ≤ cover a (extent e n)
 unfolding cover
 cover-extent a e n l u = omega (arith, in-yes e n a l u)
+
+-- only what lies in it is covered
+pub body-covers : (a s k o : ℕ) → 1 ≤ cover a (body s k o) → (o ≤ a) × (a < o + bodySize k)
+unfolding cover
+body-covers a s k o h = in-where o (bodySize k) a .is h
+
+pub extent-covers : (a e n : ℕ) → 1 ≤ cover a (extent e n) → (e ≤ a) × (a < e + n)
+unfolding cover
+extent-covers a e n h = in-where e n a .is h
 
 cover-touch : (a : ℕ) (i : Item) → cover a i ≤ touch a i
 unfolding touch
@@ -145,11 +154,25 @@ module _ {f g : List ℕ} {n : Numbers} (H : Header f n) (same : length g ≡ le
       (le-same 2 g f atRoot (λ a p q. mid a (omega arith) (omega arith)) ∙ H .rootAt)
       (λ a p q. ab a p q ∙ H .above a p q)
 
+-- ---- what nothing owned covers is zero
+
+-- as much or more is owned, and what it does not cover is as it was
+pub clean-more : {f g : List ℕ} {d : ℕ} {is : List Item} (js : List Item) → Clean f d is → ((a : ℕ) → sum (cover a) is ≤ sum (cover a) js) → ((a : ℕ) → d ≤ a → sum (cover a) js ≡ 0 → byteAt g a ≡ byteAt f a) → Clean g d js
+clean-more js C e K = record { zero = λ a p c. K a p c ∙ C .zero a p (omega (arith, e a)) }
+
+-- one item is no longer owned, and is zero
+pub clean-less : {f g : List ℕ} {d : ℕ} {is : List Item} (i : Item) (rest : List Item) → Clean f d is → Same is (i ∷ rest) → ((a : ℕ) → d ≤ a → byteAt g a ≡ byteAt f a) → ((a : ℕ) → 1 ≤ cover a i → byteAt f a ≡ 0) → Clean g d rest
+clean-less i rest C own K Z =
+    record {
+      zero = λ a p c. K a p ∙ elim (decLt 0 (cover a i)) [ yes q ↦ Z a q | no q ↦ C .zero a p (omega (arith, own (cover a), sum-cons (cover a) i rest)) ];
+    }
+
 -- ---- the heap
 
--- a heap hangs on the bytes below its data only
-pub heap-low : (f g : List ℕ) (h : View) → length g ≡ length f → ((a : ℕ) → a < dataStart (h .nums .N) → byteAt g a ≡ byteAt f a) → Heap f h → Heap g h
-heap-low f g h same K P =
+-- a heap hangs on the bytes below its data and on those that nothing owned covers
+pub heap-low : (f g : List ℕ) (h : View) → length g ≡ length f → ((a : ℕ) → a < dataStart (h .nums .N) → byteAt g a ≡ byteAt f a)
+    → ((a : ℕ) → dataStart (h .nums .N) ≤ a → sum (cover a) (h .owned) ≡ 0 → byteAt g a ≡ byteAt f a) → Heap f h → Heap g h
+heap-low f g h same K Q P =
     let S = P .sound in
     let cap = P .header .slotCap in
     let gv = P .header .givenIn in
@@ -160,6 +183,7 @@ heap-low f g h same K P =
             | yes q ↦ K a q
             | no q ↦ absurd (omega (arith, entry-none S a (omega arith), sum-app (onEntry a) (h .owned) (freed 1 (h .lists))))
           ]) (P .lists);
+      clean = λ w. clean-more (h .owned) (P .clean w) (λ a. omega arith) Q;
       sound = S;
     }
 
@@ -169,6 +193,7 @@ heap-same {f} {h} is e P =
     record {
       header = P .header;
       lists = P .lists;
+      clean = λ w. clean-more is (P .clean w) (λ a. omega (arith, e (cover a))) (λ a p c. refl);
       sound = sound-same (P .sound) (is ++ freed 1 (h .lists)) (λ w. omega (arith, e w, sum-app w (h .owned) (freed 1 (h .lists)), sum-app w is (freed 1 (h .lists))));
     }
 
@@ -188,6 +213,9 @@ others-kept {is = is} i rest S e h B T =
 
 pub kept-part : {f g : List ℕ} {is : List Item} (js : List Item) → Kept f g is → ((a : ℕ) → sum (touch a) js ≤ sum (touch a) is) → Kept f g js
 kept-part js A p = record { size = A .size; keep = λ a h. A .keep a (omega (arith, p a)) }
+
+pub kept-then : {f g h : List ℕ} {is : List Item} → Kept f g is → Kept g h is → Kept f h is
+kept-then A B = record { size = B .size ∙ A .size; keep = λ a p. B .keep a p ∙ A .keep a p }
 
 -- an item's entry is kept
 pub kept-entry : {f g : List ℕ} {is : List Item} (s k o : ℕ) → Kept f g is → ((a : ℕ) → touch a (body s k o) ≤ sum (touch a) is) → Entry f s k o → Entry g s k o
@@ -295,12 +323,26 @@ own-write {f} {g} {h} {lo} {hi} i rest P own O some C =
     ] in
     let lows : (a : ℕ) → a < d → byteAt g a ≡ byteAt f a = λ a l. O .below a (omega arith) in
     record {
-      heap = heap-low f g h (O .size) lows P;
+      heap = heap-low f g h (O .size) lows
+          (λ a p c. elim (decLt a lo) [
+            | yes q ↦ O .below a q
+            | no q ↦ elim (decLt a hi) [ yes r ↦ absurd (omega (arith, C a (omega arith) r, own (cover a), sum-cons (cover a) i rest)) | no r ↦ O .above a (omega arith) ]
+          ]) P;
       kept = others-kept i rest (P .sound)
           (λ a. omega (arith, sum-app (touch a) (h .owned) (freed 1 (h .lists)), own (touch a), sum-cons (touch a) i rest)) (omega arith)
           (only-but O (omega arith)) (λ a l u. omega (arith, C a l u, cover-touch a i));
       low = lows;
     }
+
+-- also of no byte at all
+pub any-write : {f g : List ℕ} {h : View} {lo hi : ℕ} (i : Item) (rest : List Item) → Heap f h → Same (h .owned) (i ∷ rest) → Only f g lo hi
+    → ((a : ℕ) → lo ≤ a → a < hi → 1 ≤ cover a i) → Wrote f g h rest
+any-write {f} {g} {h} {lo} {hi} i rest P own O C = elim (decLt lo hi) [
+  | yes p ↦ own-write i rest P own O p C
+  | no p ↦
+      let all : (a : ℕ) → byteAt g a ≡ byteAt f a = λ a. elim (decLt a lo) [ yes q ↦ O .below a q | no q ↦ O .above a (omega arith) ] in
+      record { heap = heap-low f g h (O .size) (λ a l. all a) (λ a l c. all a) P; kept = record { size = O .size; keep = λ a l. all a }; low = λ a l. all a }
+]
 
 pub low-entry : {f g : List ℕ} {h : View} {rest : List Item} (s k o : ℕ) → Wrote f g h rest → s ≤ h .nums .N → Entry f s k o → Entry g s k o
 low-entry {f} {g} s k o W l E =

@@ -8,12 +8,11 @@ use lib.ListN.{length, getD, set}
 use lib.Seq.{getD-set-same, getD-set-other}
 use Rattle.layout.specs.Number.{le}
 use Rattle.layout.specs.Place.{atN, atB, atU, atHead, entryAt}
-use Rattle.layout.specs.Kind.{bodySize}
 use Rattle.layout.specs.Entry.{highOf}
 use Rattle.layout.proofs.KindLaws.{size-least}
 use Rattle.model.specs.Edition.{Edition}
 use Rattle.model.specs.State.{State}
-use Rattle.model.specs.Item.{Item, body, sum}
+use Rattle.model.specs.Item.{Item, sum}
 use Rattle.model.specs.Frame.{View, Chain, Heap, Stands, freed, listItems}
 use Rattle.model.proofs.ItemLaws.{sum-app}
 use Rattle.room.specs.declared.fit.Room.{Room}

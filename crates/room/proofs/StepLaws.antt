@@ -7,19 +7,19 @@ use native.Mathlib.Omega.{arith}
 use native.Mathlib.Decide.{decLt, ℕ-discrete}
 use lib.ListN.{length, getD, set, length-set}
 use lib.Seq.{getD-set-same, getD-set-other}
-use Rattle.layout.specs.Number.{le}
+use Rattle.layout.specs.Number.{le, byteAt}
 use Rattle.layout.specs.Place.{atB, atU, atR, atX, atRoot, atHead, headerSize, entryAt, dataStart}
 use Rattle.layout.specs.Kind.{bodySize, Kind}
 use Rattle.layout.specs.Entry.{entryOf, entryPlace, entryHigh, placeOf, highOf}
 use Rattle.layout.proofs.KindLaws.{size-eighth, size-least}
 use Rattle.layout.proofs.EntryLaws.{high-of-entry, place-of-entry, place-lt, place-eighth}
-use Rattle.model.specs.Item.{Item, body, extent, onEntry, touch, sum, Same, Sound}
+use Rattle.model.specs.Item.{Item, body, extent, cover, onEntry, touch, sum, Same, Sound}
 use Rattle.model.specs.Frame.{View, Entry, Chain, listItems, freed, Lists, all, Heap}
 use Rattle.model.proofs.ItemLaws.{sum-app, sum-cons, sound-same, sound-fresh, sound-extent, sound-retire, touch-is, touch-head}
 use Rattle.moves.specs.Moved.{Only}
 use Rattle.room.specs.View.{listOf, popped, given, released, extended, retired, recorded, rooted}
-use Rattle.room.specs.Step.{But, Kept, Freed, Renumbered}
-use Rattle.room.proofs.HeapLaws.{le-below, le-above, list-cons, freed-set, freed-part, chain-frame, lists-frame, header-to, header-keep, touch-entry, touch-extent, others-kept, kept-part, body-in, lies, but-on, only-but, field-but, mid-entry}
+use Rattle.room.specs.Step.{But, Kept, Renumbered}
+use Rattle.room.proofs.HeapLaws.{cover-extent, clean-more, clean-less, le-below, le-above, list-cons, freed-set, freed-part, chain-frame, lists-frame, header-to, header-keep, touch-entry, touch-extent, others-kept, kept-part, body-in, lies, but-on, only-but, field-but, mid-entry}
 
 abbrev SoundView : View → Type 0
 SoundView h = Sound (dataStart (h .nums .N)) (h .nums .U) (h .nums .B) (h .nums .X) (all h)
@@ -122,6 +122,7 @@ module _ {f m g : List ℕ} {h : View} (k : ℕ) (x : ℕ × ℕ) (r : List (ℕ
                     ∙ elim (decLt i (k - 1)) [ yes y ↦ le-below 2 (atHead (i + 1)) A (omega arith) | no y ↦ le-above 2 (atHead (i + 1)) A (omega arith) ] in
                     rw (e1, e2) (P .lists .chains i l)
               ]);
+          clean = λ w. clean-more (popped h k x r .owned) (P .clean w) (λ a. omega (arith, sum-cons (cover a) (body (x .0) k (x .1)) (h .owned))) (λ a p c. B .above a (omega arith) ∙ A .above a (omega arith));
           sound = S';
         },
         record { kindIs = ap entryHigh be ∙ high-of-entry k p (place-lt v); placeIs = ap entryPlace be ∙ place-of-entry k p (place-lt v) (place-eighth v) ∙ hd .1 },
@@ -162,6 +163,7 @@ module _ {f m n g : List ℕ} {h : View} (k : ℕ) (P : Heap f h) (K : Kind k) (
               (λ a p q. C .above a (omega arith) ∙ B .above a (omega arith) ∙ A .above a (omega arith) ∙ H .above a (omega arith) q);
           lists = lists-frame f g (h .lists) (λ a p q. C .below a (omega arith) ∙ B .above a (omega arith) ∙ A .above a (omega arith))
               (λ a p. KA .keep a (omega (arith, sum-app (touch a) (h .owned) (freed 1 (h .lists)), touch-is a (freed 1 (h .lists))))) (P .lists);
+          clean = λ w. clean-more (given h k .owned) (P .clean w) (λ a. omega (arith, sum-cons (cover a) new (h .owned))) (λ a p c. C .above a (omega arith) ∙ B .above a (omega arith) ∙ A .above a (omega arith));
           sound = S';
         },
         record { kindIs = ap entryHigh ce ∙ E .1; placeIs = ap entryPlace ce ∙ E .0 },
@@ -169,12 +171,18 @@ module _ {f m n g : List ℕ} {h : View} (k : ℕ) (P : Heap f h) (K : Kind k) (
         kept-part (h .owned) KA (λ a. omega (arith, sum-app (touch a) (h .owned) (freed 1 (h .lists)))),
       )
 
--- ---- a body freed: the entry has the next slot, then the head is the slot
+-- ---- a body freed: it is zero; the entry has the next slot, then the head is the slot
+
+-- the last two
+pub record Listed (f g : List ℕ) (h : View) (s k o : ℕ) (rest : List Item) : Type 0 where
+  pub heap : Heap g (released h s k o rest)
+  pub but : But f g (entryAt s) (entryAt s + 4)
+  pub kept : Kept f g rest
 
 module _ {f m g : List ℕ} {h : View} (s k o : ℕ) (rest : List Item) (P : Heap f h) (K : Kind k) (own : Same (h .owned) (body s k o ∷ rest)) (eo : placeOf f s ≡ o)
     (A : Only f m (entryAt s) (entryAt s + 4)) (ae : le 4 m (entryAt s) ≡ entryOf (le 2 f (atHead k)) (placeOf f s))
-    (B : Only m g (atHead k) (atHead k + 2)) (bh : le 2 g (atHead k) ≡ s) where
-  pub free-heap : Freed f g h s k o rest
+    (B : Only m g (atHead k) (atHead k + 2)) (bh : le 2 g (atHead k) ≡ s) (Z : (a : ℕ) → 1 ≤ cover a (body s k o) → byteAt f a ≡ 0) where
+  pub free-heap : Listed f g h s k o rest
   free-heap =
       let H = P .header in
       let gi = H .givenIn in
@@ -224,6 +232,7 @@ module _ {f m g : List ℕ} {h : View} (s k o : ℕ) (rest : List Item) (P : Hea
                   rw (e1, e2) (on i l)
             ];
           };
+          clean = λ w. clean-less (body s k o) rest (P .clean w) own (λ a p. B .above a (omega arith) ∙ A .above a (omega arith)) Z;
           sound = S';
         };
         but = T;
@@ -256,6 +265,14 @@ module _ {f m g : List ℕ} {h : View} (n : ℕ) (P : Heap f h) (e8 : n % 8 ≡ 
               (λ a p q. B .above a (omega arith) ∙ A .below a (omega arith) ∙ H .above a p q);
           lists = lists-frame f g (h .lists) (λ a p q. B .above a (omega arith) ∙ A .below a (omega arith))
               (λ a p. KA .keep a (omega (arith, sum-app (touch a) (h .owned) (freed 1 (h .lists)), touch-is a (freed 1 (h .lists))))) (P .lists);
+          clean = λ w. clean-more (extended h n .owned) (P .clean w) (λ a. omega (arith, sum-cons (cover a) new (h .owned)))
+              (λ a p c. B .above a (omega arith) ∙ elim (decLt a (h .nums .B)) [
+                | yes q ↦ A .below a q
+                | no q ↦ elim (decLt a (h .nums .B + n)) [
+                  | yes y ↦ absurd (omega (arith, cover-extent a (h .nums .B) n (omega arith) y, sum-cons (cover a) new (h .owned)))
+                  | no y ↦ A .above a (omega arith)
+                ]
+              ]);
           sound = S';
         },
         T,
@@ -285,14 +302,16 @@ module _ {f g : List ℕ} {h : View} (P : Heap f h) where
               (le-below 4 atB O (omega arith) ∙ H .bumpAt) (H .bumpIn) (le-below 4 atU O (omega arith) ∙ H .givenAt) (H .givenIn)
               e (le-above 4 atX O (omega arith) ∙ H .deadAt) (le-above 2 atRoot O (omega arith) ∙ H .rootAt) (λ a p q. O .above a (omega arith) ∙ H .above a p q);
           lists = tops O (omega arith) .0;
+          clean = λ w. clean-more (h .owned) (P .clean w) (λ a. omega arith) (λ a p c. O .above a (omega arith));
           sound = P .sound;
         };
         but = field-but 0 0 O (omega arith) (omega arith);
         kept = tops O (omega arith) .1;
       }
 
-  pub retire-heap : (o n : ℕ) (rest : List Item) → Same (h .owned) (extent o n ∷ rest) → Only f g atX (atX + 4) → le 4 g atX ≡ h .nums .X + n → Renumbered f g h (retired h n rest)
-  retire-heap o n rest own O e =
+  pub retire-heap : (o n : ℕ) (rest : List Item) → Same (h .owned) (extent o n ∷ rest) → Only f g atX (atX + 4) → le 4 g atX ≡ h .nums .X + n → ((a : ℕ) → 1 ≤ cover a (extent o n) → byteAt f a ≡ 0)
+      → Renumbered f g h (retired h n rest)
+  retire-heap o n rest own O e Z =
       let H = P .header in
       record {
         heap = record {
@@ -300,6 +319,7 @@ module _ {f g : List ℕ} {h : View} (P : Heap f h) where
               (le-below 4 atB O (omega arith) ∙ H .bumpAt) (H .bumpIn) (le-below 4 atU O (omega arith) ∙ H .givenAt) (H .givenIn)
               (le-below 4 atR O (omega arith) ∙ H .recordsAt) e (le-above 2 atRoot O (omega arith) ∙ H .rootAt) (λ a p q. O .above a (omega arith) ∙ H .above a p q);
           lists = tops O (omega arith) .0;
+          clean = λ w. clean-less (extent o n) rest (P .clean w) own (λ a p. O .above a (omega arith)) Z;
           sound = sound-retire o n (sound-same (P .sound) (extent o n ∷ (rest ++ freed 1 (h .lists)))
               (λ w. omega (arith, own w, sum-cons w (extent o n) rest, sum-cons w (extent o n) (rest ++ freed 1 (h .lists)), sum-app w (h .owned) (freed 1 (h .lists)), sum-app w rest (freed 1 (h .lists)))));
         };
@@ -316,6 +336,7 @@ module _ {f g : List ℕ} {h : View} (P : Heap f h) where
               (le-below 4 atB O (omega arith) ∙ H .bumpAt) (H .bumpIn) (le-below 4 atU O (omega arith) ∙ H .givenAt) (H .givenIn)
               (le-below 4 atR O (omega arith) ∙ H .recordsAt) (le-below 4 atX O (omega arith) ∙ H .deadAt) e (λ a p q. O .above a (omega arith) ∙ H .above a p q);
           lists = tops O (omega arith) .0;
+          clean = λ w. clean-more (h .owned) (P .clean w) (λ a. omega arith) (λ a p c. O .above a (omega arith));
           sound = P .sound;
         };
         but = field-but 0 0 O (omega arith) (omega arith);

@@ -6,12 +6,13 @@ use mathlib.Core.List.{List, _∷_}
 use lib.ListN.{length, getD}
 use Rattle.layout.specs.Number.{byteAt}
 use Rattle.layout.specs.Place.{atB, atSpare, entryAt}
-use Rattle.layout.specs.Kind.{Kind}
+use Rattle.layout.specs.Kind.{Kind, bodySize}
+use Rattle.layout.specs.Entry.{placeOf}
 use Rattle.model.specs.Tree.{up8}
 use Rattle.model.specs.Item.{Item, body, extent, touch, sum, Same}
 use Rattle.model.specs.Frame.{View, Heap, Entry}
 use Rattle.moves.specs.Moved.{Only}
-use Rattle.room.specs.View.{listOf, slotFrom, placeFrom, taken, Roomy, released, extended}
+use Rattle.room.specs.View.{listOf, slotFrom, placeFrom, taken, Roomy, released, extended, retired}
 
 -- ---- which bytes changed
 
@@ -52,11 +53,14 @@ pub record Frees (f : List ℕ) (s k : ℕ) : Type 0 where
   pub place : ℕ
   pub rest : List Item
   pub owns : Same (view .owned) (body s k place ∷ rest)
+  pub placeIs : placeOf f s ≡ place
 
--- the body of slot s, kind k and place o was freed; `rest` was owned besides
+-- the body of slot s, kind k and place o was freed; `rest` was owned besides. Zero was written over it, then its entry changed
 pub record Freed (f g : List ℕ) (h : View) (s k o : ℕ) (rest : List Item) : Type 0 where
   pub heap : Heap g (released h s k o rest)
-  pub but : But f g (entryAt s) (entryAt s + 4)
+  pub middle : List ℕ
+  pub wiped : Only f middle o (o + bodySize k)
+  pub but : But middle g (entryAt s) (entryAt s + 4)
   pub kept : Kept f g rest
 
 -- ---- extend
@@ -76,7 +80,7 @@ pub record Extended (f g : List ℕ) (h : View) (k v : List ℕ) (e : ℕ) : Typ
   pub but : But f g e (e + up8 (length k + length v))
   pub kept : Kept f g (h .owned)
 
--- ---- retire, set_records, set_root: fields alone
+-- ---- retire
 
 -- an extent of n bytes at o is given out
 pub record Retires (f : List ℕ) (o n : ℕ) : Type 0 where
@@ -84,6 +88,17 @@ pub record Retires (f : List ℕ) (o n : ℕ) : Type 0 where
   pub heap : Heap f view
   pub rest : List Item
   pub owns : Same (view .owned) (extent o n ∷ rest)
+  pub some : 1 ≤ n
+
+-- it died; `rest` was owned besides. Zero was written over it, then X changed
+pub record Died (f g : List ℕ) (h : View) (o n : ℕ) (rest : List Item) : Type 0 where
+  pub heap : Heap g (retired h n rest)
+  pub middle : List ℕ
+  pub wiped : Only f middle o (o + n)
+  pub but : But middle g 0 0
+  pub kept : Kept f g rest
+
+-- ---- set_records, set_root: fields alone
 
 -- the view h became h', and no byte from 50 on changed
 pub record Renumbered (f g : List ℕ) (h h' : View) : Type 0 where

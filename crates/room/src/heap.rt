@@ -4,6 +4,7 @@ use fields::body::Leaf;
 use fields::header::Header;
 use layout::entry::Entry;
 use layout::kind;
+use moves::clear;
 use moves::fill;
 ghost use mathlib.Core.Path.{_≡_};
 ghost use Prim.Native.Nat.{ℕ, _+_, _≤_, _<_};
@@ -16,8 +17,8 @@ ghost use Rattle.layout.specs.Entry.{entryOf, placeOf, highOf};
 ghost use Rattle.model.specs.Tree.{up8};
 ghost use Rattle.model.specs.Item.{Item, body, extent, Same};
 ghost use Rattle.model.specs.Frame.{View, Heap};
-ghost use Rattle.room.specs.View.{Roomy, retired, recorded, rooted};
-ghost use Rattle.room.specs.Step.{Takes, Took, Frees, Freed, Extends, Extended, Retires, Renumbered};
+ghost use Rattle.room.specs.View.{Roomy, recorded, rooted};
+ghost use Rattle.room.specs.Step.{Takes, Took, Frees, Freed, Extends, Extended, Retires, Died, Renumbered};
 
 // The first slot of a kind's list leaves it and is live again.
 fn pop(f: &mut [u8], kind: usize, s: usize)
@@ -58,7 +59,7 @@ pub fn take(f: &mut [u8], kind: usize) -> usize
     s
 }
 
-// A body goes on its kind's list.
+// A body goes on its kind's list: zero is written over it.
 pub fn release(f: &mut [u8], s: usize, kind: usize)
     requires { ⌜ Frees (now f) s kind ⌝ }
     ensures { λ _. ⌜ ((h : View) (o : ℕ) (rest : List Item) → Heap (now (f .entry)) h → Same (h .owned) (body s kind o ∷ rest) → placeOf (now (f .entry)) s ≡ o
@@ -66,6 +67,7 @@ pub fn release(f: &mut [u8], s: usize, kind: usize)
 {
     let next = Header::list_head(f, kind);
     let e = Entry::read(f, s);
+    clear(f, e.place, kind::body_size(kind));
     Entry::write(f, s, next, e.place);
     Header::set_list_head(f, kind, s);
 }
@@ -85,12 +87,13 @@ pub fn extend(f: &mut [u8], key: &[u8], value: &[u8]) -> usize
     place
 }
 
-// The extent of `size` bytes at `place` dies.
+// The extent of `size` bytes at `place` dies: zero is written over it.
 pub fn retire(f: &mut [u8], place: usize, size: usize)
     requires { ⌜ Retires (now f) place size ⌝ }
     ensures { λ _. ⌜ ((h : View) (rest : List Item) → Heap (now (f .entry)) h → Same (h .owned) (extent place size ∷ rest)
-        → Renumbered (now (f .entry)) (now (f .exit)) h (retired h size rest)) ⌝ }
+        → Died (now (f .entry)) (now (f .exit)) h place size rest) ⌝ }
 {
+    clear(f, place, size);
     let x = Header::dead_bytes(f);
     Header::set_dead_bytes(f, x + size);
 }
