@@ -84,11 +84,11 @@ mask-is lo n h = record { digits = λ j. ap (λ (x : ℕ). digit x j) (made 64 h
 
 -- ---- `&` and `|`
 
-digit-few : (w j : ℕ) → digit w j ≤ 1
+pub digit-few : (w j : ℕ) → digit w j ≤ 1
 unfolding digit
 digit-few w j = omega arith
 
-digit-and : (a b j : ℕ) → digit (bitAnd a b) j ≡ min (digit a j) (digit b j)
+pub digit-and : (a b j : ℕ) → digit (bitAnd a b) j ≡ min (digit a j) (digit b j)
 unfolding digit
 digit-and a b j = ap (λ (x : ℕ). x % 2) (and-shr a b j) ∙ odd (a / 2 ^ j) (b / 2 ^ j)
   where

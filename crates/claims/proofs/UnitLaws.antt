@@ -48,7 +48,7 @@ cover-unit a u i E e =
 cover-first : (a : ℕ) (i : Item) → Eighth i → cover a i ≡ cover (8 * (a / 8)) i
 cover-first a i E = cover-unit a (a / 8) i E refl ∙ sym (cover-unit (8 * (a / 8)) (a / 8) i E (omega arith))
 
-sum-first : (a : ℕ) (is : List Item) → Eighths is → sum (cover a) is ≡ sum (cover (8 * (a / 8))) is
+pub sum-first : (a : ℕ) (is : List Item) → Eighths is → sum (cover a) is ≡ sum (cover (8 * (a / 8))) is
 unfolding sum
 sum-first a [] E = refl
 sum-first a (i ∷ is) E = omega (arith, cover-first a i (E .0), sum-first a is (E .1))

@@ -6,11 +6,13 @@ ghost use Prim.Native.Nat.{_+_, _*_, _%_, _^_, _<_, _≤_};
 ghost use lib.ListN.{length};
 ghost use Rattle.claims.specs.Units.{Mask, Run, Claimed, Taken};
 
-// Units in a word of the map.
-const WORD: usize = 64;
+// Bytes of a unit, and units in a word of the map.
+pub const UNIT: usize = 8;
+
+pub const WORD: usize = 64;
 
 // The bits lo to lo + n - 1 of a word.
-fn mask(lo: usize, n: usize) -> u64
+pub fn mask(lo: usize, n: usize) -> u64
     requires { ⌜ (1 ≤ n) × (lo + n ≤ 64) ⌝ }
     ensures { λ r. ⌜ Mask lo n r ⌝ }
 {
@@ -18,7 +20,7 @@ fn mask(lo: usize, n: usize) -> u64
 }
 
 // How many units from at on stand in at's word, left at most.
-fn within(at: usize, left: usize) -> usize
+pub fn within(at: usize, left: usize) -> usize
     requires { ⌜ 1 ≤ left ⌝ }
     ensures { λ r. ⌜ Run at left r ⌝ }
 {
