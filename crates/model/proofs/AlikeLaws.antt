@@ -328,8 +328,8 @@ module _ {E : Edition} (chains : Single E) (f : List ℕ) {f' f'' : List ℕ} {r
 -- ---- of the promises
 
 -- what `Outside` says of one result
-pub result-of : {E : Edition} {f f' : List ℕ} {s' : State} (r : Root) {ls : List (List (ℕ × ℕ))} {kinds : List ℕ} {t : Touch} {xs was : List Item} {new : Bool} (w' : Stands E f' s')
-    → Outside f f' r (w' .root) ls (w' .lists) kinds t xs was new → Result E f' r (w' .root) (t .goes)
+pub result-of : {E : Edition} {f f' : List ℕ} {s' : State} (r : Root) {ls : List (List (ℕ × ℕ))} {kinds : List ℕ} {t : Touch} {xs dies : List Item} {new : Bool} (w' : Stands E f' s')
+    → Outside f f' r (w' .root) ls (w' .lists) kinds t xs dies new → Result E f' r (w' .root) (t .goes)
 result-of r {t = t} w' O =
     record {
       bytes = w' .bytes;

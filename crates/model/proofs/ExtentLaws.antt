@@ -15,7 +15,7 @@ use Rattle.model.specs.Item.{Item, body, extent, cover, sum}
 use Rattle.model.specs.Frame.{Lay, LayKids, Root, bare, tree, items, itemsAll, rootItems, freed, Stands}
 use Rattle.model.specs.Frame.Lay.{leaf, prefix, node}
 use Rattle.model.specs.Frame.LayKids.{nil, kid}
-use Rattle.model.specs.Touch.{Part, findLay, findLayKids, findAt, extentAt}
+use Rattle.model.specs.Touch.{Part, findLay, findLayKids, findAt, extentAt, dying}
 use Rattle.model.proofs.StringLaws.{clash, bool-cases, same-true}
 use Rattle.model.proofs.ItemLaws.{sum-app, sum-add}
 
@@ -104,6 +104,10 @@ pub found-beside : (E : Edition) (k : List ℕ) (a : ℕ) (r : Root) (c : Option
 unfolding sum
 found-beside E k a r none h = omega arith
 found-beside E k a r (some c) h = root-extent E k c a r h
+
+pub dying-less : (v : Item → ℕ) (n : ℕ) (xs : List Item) → sum v (dying n xs) ≤ sum v xs
+unfolding sum
+dying-less v n xs = bool-cases (eqb n 0) (λ t. rw t (omega arith)) (λ t. rw t (omega arith))
 
 -- it lies from D on
 pub found-low : {E : Edition} {f : List ℕ} {s : State} (w : Stands E f s) (k : List ℕ) (a : ℕ) → a < dataStart (w .nums .N) → sum (cover a) (extentAt (length k) (findAt E (w .root) k)) ≡ 0

@@ -78,8 +78,8 @@ those-beside v ss s k o (body s' k' o' ∷ is) h q = elim (decLe 1 (isBody s k o
 
 -- ---- the bytes of a kept body
 
-module _ {E : Edition} {f f' : List ℕ} {st st' : State} (w : Stands E f st) (w' : Stands E f' st') {kinds : List ℕ} {t : Touch} {xs was : List Item} {new : Bool}
-    (O : Outside f f' (w .root) (w' .root) (w .lists) (w' .lists) kinds t xs was new) (sameN : w' .nums .N ≡ w .nums .N) (s k o : ℕ) (there : 1 ≤ sum (isBody s k o) (rootItems (w .root)))
+module _ {E : Edition} {f f' : List ℕ} {st st' : State} (w : Stands E f st) (w' : Stands E f' st') {kinds : List ℕ} {t : Touch} {xs dies : List Item} {new : Bool}
+    (O : Outside f f' (w .root) (w' .root) (w .lists) (w' .lists) kinds t xs dies new) (sameN : w' .nums .N ≡ w .nums .N) (s k o : ℕ) (there : 1 ≤ sum (isBody s k o) (rootItems (w .root)))
     (stays : among s (t .goes) ≡ false) (not : among s (t .goes ++ t .rewrites) ≡ false) where
   pub still-there : 1 ≤ sum (isBody s k o) (rootItems (w' .root))
   still-there =
@@ -97,7 +97,7 @@ module _ {E : Edition} {f f' : List ℕ} {st st' : State} (w : Stands E f st) (w
 
   -- the key's extent lies beside it, after as before
   module _ (a : ℕ) (here : 1 ≤ cover a (body s k o)) (beside : sum (cover a) xs + cover a (body s k o) ≤ sum (cover a) (rootItems (w' .root)))
-      (before : sum (cover a) was + cover a (body s k o) ≤ sum (cover a) (rootItems (w .root))) where
+      (before : sum (cover a) dies + cover a (body s k o) ≤ sum (cover a) (rootItems (w .root))) where
     from-data : dataStart (w .nums .N) ≤ a
     from-data = elim (decLt a (dataStart (w .nums .N))) [
       | yes q ↦ absurd (omega (arith, w .heap .sound .low a q, sum-app (cover a) (rootItems (w .root)) (freed 1 (w .lists)), body-weighs (cover a) s k o (rootItems (w .root)) there))

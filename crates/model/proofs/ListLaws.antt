@@ -25,7 +25,7 @@ use Rattle.model.specs.Item.{Item, body, extent, onSlot, cover, onEntry,
 use Rattle.model.specs.Frame.{Lay, LayKids, Root, bare, tree, IsNode, Below, atop, art, artKids, NodeOf, rootArt, items, itemsAll, rootItems, RootAt, Tree, Trees, Chain, listItems, freed, Stands}
 use Rattle.model.specs.Frame.Lay.{leaf, prefix, node}
 use Rattle.model.specs.Frame.LayKids.{nil, kid}
-use Rattle.model.specs.Touch.{Touch, among, ofKinds, isBody, size, hasByte, without, touchPut, touchPutKids, putTouch, Above, held, under, next, touchLone, touchLost, touchErase, touchEraseKids, touchChild, eraseTouch, Part, findLay, findLayKids, findAt, Outside}
+use Rattle.model.specs.Touch.{Touch, among, ofKinds, isBody, size, hasByte, without, touchPut, touchPutKids, putTouch, Above, held, under, next, touchLone, touchLost, touchErase, touchEraseKids, touchChild, eraseTouch, Part, findLay, findLayKids, findAt, extentAt, Outside}
 use Rattle.model.specs.Promise.{changes, WritePromise, eraseKinds, ErasePromise}
 use Rattle.model.proofs.Commute.{write-cases}
 use Rattle.model.proofs.StringLaws.{clash, bool-cases, eqb-cases}
@@ -36,7 +36,7 @@ use Rattle.model.proofs.StandsGood.{node-well, bodied, sound-bodies}
 use Rattle.model.proofs.ChainLaws.{below-hung, put-atop, inner-atop}
 use Rattle.model.proofs.OneBody.{Narrow, narrow-node, node-inner, join-one}
 use Rattle.model.proofs.AlikeLaws.{slot-stays, result-of, put-number, erase-number, put-same-cap, erase-same-cap}
-use Rattle.model.proofs.ExtentLaws.{found-low}
+use Rattle.model.proofs.ExtentLaws.{dying-less, found-low}
 use Rattle.model.proofs.SettledLaws.{is-body, is-body-self, body-weighs, slot-of-body, kinds-less}
 use Rattle.model.proofs.KeptLaws.{taken-less, those-less, not-gone}
 use Rattle.model.proofs.UpToLaws.{slot-find, one-place}
@@ -99,8 +99,8 @@ none-long (x ∷ xs) h = absurd (omega arith)
 
 -- ---- a step that frees no live body of the kind
 
-module _ {E : Edition} {f f' : List ℕ} {st st' : State} (w : Stands E f st) (w' : Stands E f' st') {kinds : List ℕ} {t : Touch} {xs was : List Item} {new : Bool}
-    (O : Outside f f' (w .root) (w' .root) (w .lists) (w' .lists) kinds t xs was new) (sameN : w' .nums .N ≡ w .nums .N) (above : (a : ℕ) → a < dataStart (w .nums .N) → sum (cover a) xs + sum (cover a) was ≡ 0)
+module _ {E : Edition} {f f' : List ℕ} {st st' : State} (w : Stands E f st) (w' : Stands E f' st') {kinds : List ℕ} {t : Touch} {xs dies : List Item} {new : Bool}
+    (O : Outside f f' (w .root) (w' .root) (w .lists) (w' .lists) kinds t xs dies new) (sameN : w' .nums .N ≡ w .nums .N) (above : (a : ℕ) → a < dataStart (w .nums .N) → sum (cover a) xs + sum (cover a) dies ≡ 0)
     (k i : ℕ) (is : k ≡ 1 + i) (kind : i < 8) (off : among k kinds ≡ false) (sized : 1 ≤ bodySize k) (live : (s o : ℕ) → 1 ≤ sum (isBody s k o) (rootItems (w .root)) → among s (t .goes) ≡ false) where
   -- the list of kind k before and after
   abbrev L : List (ℕ × ℕ)
@@ -359,7 +359,7 @@ module _ {E : Edition} {a : Write} {f x v : List ℕ} {n : ℕ} {f' : List ℕ} 
       let t : s .tree ≡ rootArt (w .root) = ap (λ (z : State). z .tree) (w .state) in
       let freesOff : among k (putIn E (rootArt (w .root)) x v .frees) ≡ false = rw t at (none-right k (c .takes) (c .frees) off) in
       list-same w w' (P .after s w .1 done) cap
-      (λ a l. omega (arith, found-low w' x a (omega (arith, cap)), found-low w x a l))
+      (λ a l. omega (arith, found-low w' x a (omega (arith, cap)), found-low w x a l, dying-less (cover a) (c .dead) (extentAt (length x) (findAt E (w .root) x))))
       k (k - 1) is (omega arith) off (body-some k (k - 1) is (omega arith))
       (spared w k (putIn E (rootArt (w .root)) x v .frees) (putTouch E (w .root) x v .goes) freesOff (λ u. root-frees E x v f u (w .root) (w .rootAt)))
       (sym (list-long w' k (k - 1) is) ∙ put-free k high E a s x v off ∙ list-long w k (k - 1) is)
@@ -592,8 +592,8 @@ leaves-few [] = omega arith
 leaves-few (body s k o ∷ is) = omega (arith, leaves-few is, in-where Leaf 1 k .few)
 leaves-few (extent e n ∷ is) = omega (arith, leaves-few is)
 
-module _ {E : Edition} {f f' : List ℕ} {st st' : State} (w : Stands E f st) (w' : Stands E f' st') {kinds : List ℕ} {t : Touch} {xs was : List Item} {new : Bool}
-    (O : Outside f f' (w .root) (w' .root) (w .lists) (w' .lists) kinds t xs was new) (more : 2 ≤ st .R) where
+module _ {E : Edition} {f f' : List ℕ} {st st' : State} (w : Stands E f st) (w' : Stands E f' st') {kinds : List ℕ} {t : Touch} {xs dies : List Item} {new : Bool}
+    (O : Outside f f' (w .root) (w' .root) (w .lists) (w' .lists) kinds t xs dies new) (more : 2 ≤ st .R) where
   two-given : 2 ≤ w .nums .U
   two-given =
       let R = rootItems (w .root) in

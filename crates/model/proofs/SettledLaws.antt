@@ -16,7 +16,7 @@ use Rattle.layout.specs.Entry.{highOf}
 use Rattle.layout.proofs.NumberLaws.{le-inj}
 use Rattle.model.specs.Strings.{pick, same, shared}
 use Rattle.model.specs.Edition.{Edition}
-use Rattle.model.specs.State.{State, Write, onWrite, onErase}
+use Rattle.model.specs.State.{State, Write, putChange, onWrite, onErase}
 use Rattle.model.specs.Tree.{up8, extentOf}
 use Rattle.model.specs.Item.{Item, body, extent, inside, onSlot, cover, onEntry, sum}
 use Rattle.model.specs.Body.{Zero}
@@ -30,7 +30,7 @@ use Rattle.model.proofs.StringLaws.{clash, bool-cases, eqb-cases, same-
 use Rattle.model.proofs.ItemLaws.{in-where, in-yes, sum-app, slot-once}
 use Rattle.model.proofs.AlikeLaws.{Result, slot-stays, result-of, put-number, erase-number, put-same-cap, erase-same-cap}
 use Rattle.model.proofs.CleanLaws.{stands-clean, freed-bare}
-use Rattle.model.proofs.ExtentLaws.{placed, sized, root-past, found-low}
+use Rattle.model.proofs.ExtentLaws.{dying-less, placed, sized, root-past, found-low}
 use Rattle.model.proofs.BytesLaws.{entry-bytes, leaf-bytes, prefix-bytes, node-bytes}
 
 -- ---- where a live body stands, by its entry or by itself
@@ -305,8 +305,8 @@ cover-stood a s k o = omega arith
 
 -- ---- what a step frees is zero after it
 
-module _ {E : Edition} {f f' : List ℕ} {s' : State} (w' : Stands E f' s') (wiped : E .wiped ≡ true) {r : Root} {ls : List (List (ℕ × ℕ))} {kinds : List ℕ} {t : Touch} {xs was : List Item} {new : Bool}
-    (O : Outside f f' r (w' .root) ls (w' .lists) kinds t xs was new) where
+module _ {E : Edition} {f f' : List ℕ} {s' : State} (w' : Stands E f' s') (wiped : E .wiped ≡ true) {r : Root} {ls : List (List (ℕ × ℕ))} {kinds : List ℕ} {t : Touch} {xs dies : List Item} {new : Bool}
+    (O : Outside f f' r (w' .root) ls (w' .lists) kinds t xs dies new) where
   bare-zero : (a : ℕ) → dataStart (w' .nums .N) ≤ a → sum (cover a) (rootItems (w' .root)) ≡ 0 → byteAt f' a ≡ 0
   bare-zero a h z = stands-clean w' wiped .zero a (omega (arith, w' .heap .header .dataAt)) z
 
@@ -327,15 +327,15 @@ module _ {E : Edition} {f f' : List ℕ} {s' : State} (w' : Stands E f' s') (wip
       let z = freed-bare w' a (omega (arith, body-weighs (cover a) s k o F' on)) in
       bare-zero a (z .0) (z .1)
 
-  -- the key's extent, where it is not the key's again
-  pub was-zero : (a : ℕ) → dataStart (w' .nums .N) ≤ a → 1 ≤ sum (cover a) was → sum (cover a) xs ≡ 0 → byteAt f' a ≡ 0
-  was-zero a d h z = bare-zero a d (omega (arith, O .vacant a h))
+  -- the extent that dies
+  pub dead-zero : (a : ℕ) → dataStart (w' .nums .N) ≤ a → 1 ≤ sum (cover a) dies → byteAt f' a ≡ 0
+  dead-zero a d h = bare-zero a d (O .vacant a h)
 
 -- ---- the two frames
 
-module _ {E : Edition} {f f' f'' : List ℕ} {r r' : Root} {ls ls' : List (List (ℕ × ℕ))} {kinds : List ℕ} {t : Touch} {xs was : List Item} {new : Bool} {s' s'' : State} (w' : Stands E f' s') (w'' : Stands E f'' s'')
-    (e' : w' .root ≡ r') (e'' : w'' .root ≡ r') (l' : w' .lists ≡ ls') (l'' : w'' .lists ≡ ls') (es : s' ≡ s'') (O : Outside f f' r r' ls ls' kinds t xs was new) (Q : Outside f f'' r r' ls ls' kinds t xs was new) (wiped : E .wiped ≡ true) (a : ℕ)
-    (low : a < dataStart (w' .nums .N) → sum (cover a) was ≡ 0) (text : 1 ≤ sum (cover a) xs → byteAt f' a ≡ byteAt f'' a) where
+module _ {E : Edition} {f f' f'' : List ℕ} {r r' : Root} {ls ls' : List (List (ℕ × ℕ))} {kinds : List ℕ} {t : Touch} {xs dies : List Item} {new : Bool} {s' s'' : State} (w' : Stands E f' s') (w'' : Stands E f'' s'')
+    (e' : w' .root ≡ r') (e'' : w'' .root ≡ r') (l' : w' .lists ≡ ls') (l'' : w'' .lists ≡ ls') (es : s' ≡ s'') (O : Outside f f' r r' ls ls' kinds t xs dies new) (Q : Outside f f'' r r' ls ls' kinds t xs dies new) (wiped : E .wiped ≡ true) (a : ℕ)
+    (low : a < dataStart (w' .nums .N) → sum (cover a) dies ≡ 0) (text : 1 ≤ sum (cover a) xs → byteAt f' a ≡ byteAt f'' a) where
   rest : 1 ≤ sum (stood a) (rootItems r') → byteAt f' a ≡ byteAt f'' a
   rest h = root-agrees E f' f'' (w' .bytes) (w'' .bytes) a r' (rw e' at (w' .rootAt)) (rw e'' at (w'' .rootAt)) h
 
@@ -344,10 +344,10 @@ module _ {E : Edition} {f f' f'' : List ℕ} {r r' : Root} {ls ls' : List (List 
       let h = slot-once (w' .heap .sound) s in
       let g : sum (onSlot s) (rootItems r' ++ freed 1 ls') ≤ 1 = rw (e', l') at h in omega (arith, sum-app (onSlot s) (rootItems r') (freed 1 ls'))
 
-  mine : Outside f f' r (w' .root) ls (w' .lists) kinds t xs was new
+  mine : Outside f f' r (w' .root) ls (w' .lists) kinds t xs dies new
   mine = rw (e', l') O
 
-  theirs : Outside f f'' r (w'' .root) ls (w'' .lists) kinds t xs was new
+  theirs : Outside f f'' r (w'' .root) ls (w'' .lists) kinds t xs dies new
   theirs = rw (e'', l'') Q
 
   result : Result E f' r r' (t .goes)
@@ -387,11 +387,11 @@ module _ {E : Edition} {f f' f'' : List ℕ} {r r' : Root} {ls ls' : List (List 
       (λ i q. let e : 0 + i + 1 ≡ i + 1 = omega arith in rw e (B .chains i (omega arith)))
       (omega (arith, kinds-less (onEntry a) kinds (freed 1 ls')))
 
-  -- where the key's extent lay
-  was-byte : 1 ≤ sum (cover a) was → sum (cover a) xs ≡ 0 → byteAt f' a ≡ byteAt f'' a
-  was-byte h z =
+  -- where an extent died
+  dead-byte : 1 ≤ sum (cover a) dies → byteAt f' a ≡ byteAt f'' a
+  dead-byte h =
       let d : dataStart (w' .nums .N) ≤ a = elim (decLt a (dataStart (w' .nums .N))) [ yes q ↦ absurd (omega (arith, low q)) | no q ↦ omega arith ] in
-      was-zero w' wiped mine a d h z ∙ sym (was-zero w'' wiped theirs a (omega (arith, ap dataStart (same-numbers w' w'' es .N))) h z)
+      dead-zero w' wiped mine a d h ∙ sym (dead-zero w'' wiped theirs a (omega (arith, ap dataStart (same-numbers w' w'' es .N))) h)
 
   -- every byte but, of the key's extent, what `text` does not say
   agree : byteAt f' a ≡ byteAt f'' a
@@ -399,7 +399,7 @@ module _ {E : Edition} {f f' f'' : List ℕ} {r r' : Root} {ls ls' : List (List 
       let R = rootItems r in
       let R' = rootItems r' in
       let T = taken-stood a R R' in
-      elim (ℕ-discrete (touched a r r' ls' kinds t xs was) 0) [
+      elim (ℕ-discrete (touched a r r' ls' kinds t xs dies) 0) [
         | yes z ↦ O .other a z ∙ sym (Q .other a z)
         | no z ↦ elim (decLe 1 (inside atB (atSpare - atB) a)) [
           | yes h ↦ numbers h
@@ -409,10 +409,7 @@ module _ {E : Edition} {f f' f'' : List ℕ} {r r' : Root} {ls ls' : List (List 
               | yes j ↦ links j
               | no j ↦ elim (decLe 1 (sum (cover a) (those (t .goes ++ t .rewrites) R))) [
                 | yes u ↦ kept-body (those-find a (t .goes ++ t .rewrites) R u)
-                | no u ↦ elim (decLe 1 (sum (cover a) xs)) [
-                  | yes v ↦ text v
-                  | no v ↦ was-byte (omega arith) (omega arith)
-                ]
+                | no u ↦ elim (decLe 1 (sum (cover a) xs)) [ yes v ↦ text v | no v ↦ dead-byte (omega arith) ]
               ]
             ]
           ]
@@ -455,7 +452,7 @@ module _ {E : Edition} {b : Write} {f k v : List ℕ} {n m : ℕ} {f' f'' : List
       let O = P .after s w .1 done in
       let m' : changes m ≡ true = rw (← put-number P Q w) done in
       let O2 = rw (← er, ← el) at (Q .after s w .1 m') in
-      agree one other refl (sym er) refl (sym el) refl O O2 wiped a (λ h. found-low w k a (omega (arith, ap dataStart (put-same-cap b k v w one)))) (text-or E f' f'' (one .bytes) (other .bytes) a k (one .root) (one .rootAt) (rw (← er) at (other .rootAt)) (findAt E (one .root) k) refl pad)
+      agree one other refl (sym er) refl (sym el) refl O O2 wiped a (λ h. omega (arith, dying-less (cover a) (putChange E s k v .dead) (extentAt (length k) (findAt E (w .root) k)), found-low w k a (omega (arith, ap dataStart (put-same-cap b k v w one))))) (text-or E f' f'' (one .bytes) (other .bytes) a k (one .root) (one .rootAt) (rw (← er) at (other .rootAt)) (findAt E (one .root) k) refl pad)
 
 module _ {E : Edition} {f k : List ℕ} {n m : ℕ} {f' f'' : List ℕ} (P : ErasePromise E f k n f') (Q : ErasePromise E f k m f'') {s : State} (w : Stands E f s) (done : n ≡ 0) (more : 2 ≤ s .R) where
   abbrev eone : Stands E f' (onErase E s k .state)

@@ -17,7 +17,7 @@ use Rattle.model.specs.Body.{LeafAt, PrefixAt}
 use Rattle.model.specs.Frame.{Lay, LayKids, slotOf, art, artKids, Root, bare, tree, rootArt, rootItems, RootAt, Tree, Trees, Single, NodeOf, freed, Stands}
 use Rattle.model.specs.Frame.Lay.{leaf, prefix, node}
 use Rattle.model.specs.Frame.LayKids.{nil, kid}
-use Rattle.model.specs.Touch.{Touch, among, isBody, putTouch, eraseTouch, findAt, extentAt, Outside}
+use Rattle.model.specs.Touch.{Touch, among, isBody, putTouch, eraseTouch, findAt, extentAt, dying, Outside}
 use Rattle.model.specs.Promise.{changes, eraseKinds, WritePromise, ErasePromise}
 use Rattle.model.specs.Freedom.{Cut, Uncut, Alike, LeafTwins, PrefixTwins, NodeTwins, Twins, TwinsAll, RootTwins, UpTo}
 use Rattle.model.proofs.StringLaws.{clash}
@@ -27,6 +27,7 @@ use Rattle.model.proofs.OneBody.{node-inner}
 use Rattle.model.proofs.KnotLaws.{erase-knot}
 use Rattle.model.proofs.AlikeLaws.{alike, uncut, result-of, arts-same, put-number, erase-number, put-same-cap, erase-same-cap}
 use Rattle.model.proofs.CleanLaws.{stands-clean}
+use Rattle.model.proofs.ExtentLaws.{dying-less}
 use Rattle.model.proofs.BytesLaws.{leaf-twin, text-twin, prefix-twin, node-twin}
 use Rattle.model.proofs.SettledLaws.{is-body, is-body-self, slot-of-body, same-numbers, numbers-agree}
 use Rattle.model.proofs.KeptLaws.{still-there, kept-byte, not-gone, cover-at, extent-beside, none-beside}
@@ -123,8 +124,8 @@ one-place s k o k' o' (body t c a ∷ is) h p q =
 abbrev Beside : Root → List Item → Type 0
 Beside r xs = (s k o a : ℕ) → 1 ≤ sum (isBody s k o) (rootItems r) → sum (cover a) xs + cover a (body s k o) ≤ sum (cover a) (rootItems r)
 
-module _ {E : Edition} {f f' : List ℕ} {s s' : State} (w : Stands E f s) (w' : Stands E f' s') {kinds : List ℕ} {t : Touch} {xs was : List Item} {new : Bool}
-    (O : Outside f f' (w .root) (w' .root) (w .lists) (w' .lists) kinds t xs was new) where
+module _ {E : Edition} {f f' : List ℕ} {s s' : State} (w : Stands E f s) (w' : Stands E f' s') {kinds : List ℕ} {t : Touch} {xs dies : List Item} {new : Bool}
+    (O : Outside f f' (w .root) (w' .root) (w .lists) (w' .lists) kinds t xs dies new) where
   place-kept : (s k o k0 o0 : ℕ) → 1 ≤ sum (isBody s k0 o0) (rootItems (w .root)) → 1 ≤ sum (isBody s k o) (rootItems (w' .root)) → o ≡ o0
   place-kept s k o k0 o0 h p =
       let R = rootItems (w' .root) in
@@ -132,7 +133,7 @@ module _ {E : Edition} {f f' : List ℕ} {s s' : State} (w : Stands E f s) (w' :
       one-place s k o k0 o0 (R ++ L) (slot-once (w' .heap .sound) s) (omega (arith, sum-app (isBody s k o) R L))
       (O .keeps s k0 o0 (omega (arith, sum-app (isBody s k0 o0) (rootItems (w .root)) (freed 1 (w .lists))))) .1
 
-  bytes-kept : w' .nums .N ≡ w .nums .N → Beside (w' .root) xs → Beside (w .root) was → (s k o : ℕ) → 1 ≤ sum (isBody s k o) (rootItems (w .root)) → among s (t .goes ++ t .rewrites) ≡ false → (j : ℕ) → j < bodySize k
+  bytes-kept : w' .nums .N ≡ w .nums .N → Beside (w' .root) xs → Beside (w .root) dies → (s k o : ℕ) → 1 ≤ sum (isBody s k o) (rootItems (w .root)) → among s (t .goes ++ t .rewrites) ≡ false → (j : ℕ) → j < bodySize k
       → byteAt f' (o + j) ≡ byteAt f (o + j)
   bytes-kept cap beside before s k o h n j u =
       let g = not-gone s (t .goes) (t .rewrites) n in
@@ -140,10 +141,10 @@ module _ {E : Edition} {f f' : List ℕ} {s s' : State} (w : Stands E f s) (w' :
 
 -- ---- two results of one step
 
-module _ {E : Edition} (chains : Single E) {f f' f'' : List ℕ} {s s' : State} (w : Stands E f s) (w' : Stands E f' s') (w'' : Stands E f'' s') {kinds : List ℕ} {t : Touch} {xs' xs'' was : List Item} {new : Bool}
-    (O : Outside f f' (w .root) (w' .root) (w .lists) (w' .lists) kinds t xs' was new) (Q : Outside f f'' (w .root) (w'' .root) (w .lists) (w'' .lists) kinds t xs'' was new) (wiped : E .wiped ≡ true) where
-  up-to : (cut : ℕ → Type 0) → Alike cut (w .root) (w' .root) (w'' .root) → Alike cut (w .root) (w'' .root) (w' .root) → w' .nums .N ≡ w .nums .N → Beside (w' .root) xs' → Beside (w'' .root) xs'' → Beside (w .root) was
-      → UpTo cut (w .root) kinds t was f' f'' (w' .root) (w'' .root) (w' .lists) (w'' .lists) xs' xs''
+module _ {E : Edition} (chains : Single E) {f f' f'' : List ℕ} {s s' : State} (w : Stands E f s) (w' : Stands E f' s') (w'' : Stands E f'' s') {kinds : List ℕ} {t : Touch} {xs' xs'' dies : List Item} {new : Bool}
+    (O : Outside f f' (w .root) (w' .root) (w .lists) (w' .lists) kinds t xs' dies new) (Q : Outside f f'' (w .root) (w'' .root) (w .lists) (w'' .lists) kinds t xs'' dies new) (wiped : E .wiped ≡ true) where
+  up-to : (cut : ℕ → Type 0) → Alike cut (w .root) (w' .root) (w'' .root) → Alike cut (w .root) (w'' .root) (w' .root) → w' .nums .N ≡ w .nums .N → Beside (w' .root) xs' → Beside (w'' .root) xs'' → Beside (w .root) dies
+      → UpTo cut (w .root) kinds t dies f' f'' (w' .root) (w'' .root) (w' .lists) (w'' .lists) xs' xs''
   up-to cut A B cap I J I0 =
       let N = same-numbers w' w'' refl in
       record {
@@ -170,7 +171,7 @@ module _ {E : Edition} {a : Write} {f k v : List ℕ} {n m : ℕ} {f' f'' : List
   abbrev other : Stands E f'' (onWrite E a s k v .state)
   other = Q .after s w .0
 
-  pub put-up-to : Single E → E .wiped ≡ true → UpTo (Cut (w .root) (one .root) (other .root)) (w .root) (putChange E s k v .takes ++ putChange E s k v .frees) (putTouch E (w .root) k v) (extentAt (length k) (findAt E (w .root) k)) f' f'' (one .root) (other .root) (one .lists) (other .lists)
+  pub put-up-to : Single E → E .wiped ≡ true → UpTo (Cut (w .root) (one .root) (other .root)) (w .root) (putChange E s k v .takes ++ putChange E s k v .frees) (putTouch E (w .root) k v) (dying (putChange E s k v .dead) (extentAt (length k) (findAt E (w .root) k))) f' f'' (one .root) (other .root) (one .lists) (other .lists)
       (extentAt (length k) (findAt E (one .root) k)) (extentAt (length k) (findAt E (other .root) k))
   put-up-to chains wiped =
       let O = P .after s w .1 done in
@@ -178,7 +179,8 @@ module _ {E : Edition} {a : Write} {f k v : List ℕ} {n m : ℕ} {f' f'' : List
       let R = result-of (w .root) one O in
       let S = result-of (w .root) other O' in
       let e = arts-same one other in
-      up-to chains w one other O O' wiped (Cut (w .root) (one .root) (other .root)) (alike chains R S e) (swapped (alike chains S R (sym e))) (put-same-cap a k v w one) (extent-beside E k (one .root)) (extent-beside E k (other .root)) (extent-beside E k (w .root))
+      up-to chains w one other O O' wiped (Cut (w .root) (one .root) (other .root)) (alike chains R S e) (swapped (alike chains S R (sym e))) (put-same-cap a k v w one) (extent-beside E k (one .root)) (extent-beside E k (other .root))
+      (λ s' k' o' a h. omega (arith, dying-less (cover a) (putChange E s k v .dead) (extentAt (length k) (findAt E (w .root) k)), extent-beside E k (w .root) s' k' o' a h))
 
 module _ {E : Edition} {f k : List ℕ} {n m : ℕ} {f' f'' : List ℕ} (P : ErasePromise E f k n f') (Q : ErasePromise E f k m f'') {s : State} (w : Stands E f s) (done : n ≡ 0) (more : 2 ≤ s .R) where
   abbrev eone : Stands E f' (onErase E s k .state)
