@@ -3,4 +3,5 @@ pub mod OpenLaws
 pub mod WalkLaws
 pub mod WayLaws
 pub mod RootLaws
+pub mod RuleLaws
 pub mod WholeLaws

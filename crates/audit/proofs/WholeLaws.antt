@@ -1,36 +1,40 @@
--- From the root, the lists and the sums to what the frame stands for, and back. Assumes nothing.
-use Prim.Native.Nat.{ℕ, zero, suc, _+_, _*_, _<_, _≤_}
+-- From the root, the sweep, the lists and the sums to what the frame stands for, and back. Assumes nothing.
+use Prim.Native.Nat.{ℕ, zero, suc, _+_, _*_, _%_, _<_, _≤_}
 use mathlib.Core.Path.{_≡_, refl, sym, ap, _∙_}
 use mathlib.Core.List.{List, [], _∷_, _++_}
-use mathlib.Core.Bool.{Bool, false}
+use mathlib.Core.Bool.{Bool, true, false}
 use native.Mathlib.Omega.{arith}
 use lib.ListN.{length, getD}
 use lib.Dec.{eqb}
 use borrow.Author.Tests.{eqb-true, eqb-false}
 use Rattle.layout.specs.Number.{le}
-use Rattle.layout.specs.Place.{atD, atB, atU, atR, atX, atRoot}
+use Rattle.layout.specs.Place.{atN, atD, atB, atU, atR, atX, atRoot}
 use Rattle.layout.specs.Entry.{placeOf}
-use Rattle.model.specs.Edition.{Edition, edition1}
+use Rattle.model.specs.Edition.{Edition, edition1, before1}
 use Rattle.model.specs.State.{State}
 use Rattle.model.specs.Item.{Item, body, extent, inside, onSlot, cover, bulk, leafy, sum, Sound}
-use Rattle.model.specs.Frame.{Lay, LayKids, Root, bare, tree, items, itemsAll, Tree, Trees, RootAt, rootItems, Lists, freed, stateOf, Stands, Good}
+use Rattle.model.specs.Frame.{Lay, LayKids, Root, bare, tree, items, itemsAll, Tree, Trees, RootAt, rootItems, Lists, freed, stateOf, Clean, Stands, Good}
 use Rattle.model.specs.Frame.Lay.{leaf, prefix, node}
 use Rattle.model.specs.Frame.LayKids.{nil, kid}
 use Rattle.model.specs.Promise.{CheckPromise}
 use Rattle.model.proofs.StringLaws.{clash}
 use Rattle.model.proofs.ItemLaws.{in-under, sum-app, sum-as}
+use Rattle.model.proofs.FormatLaws.{data-eight}
+use Rattle.model.proofs.CleanLaws.{stands-clean, root-now, root-before}
 use Rattle.model.proofs.UniqueLaws.{lists-same}
 use Rattle.model.proofs.StandsGood.{bodied, leafy-other, sound-bodies}
-use Rattle.claims.specs.Units.{Each, Eighth, Within, Slotted, Seen}
+use Rattle.claims.specs.Units.{Each, Eighth, Eighths, Within, Slotted, Seen}
 use Rattle.claims.proofs.UnitLaws.{fits-seen}
 use Rattle.claims.proofs.SlotLaws.{slots-each, sound-made}
+use Rattle.sweep.proofs.SweepLaws.{swept-clean, clean-swept}
 use Rattle.shape.specs.Shape.{LengthFits, HeaderTold, numbersOf}
 use Rattle.census.specs.declared.Sums.{Sums}
 use Rattle.census.specs.Told.{isBody, isExtent, Limits, Ground, Tidy, Sited, Book, Held, Told}
 use Rattle.census.specs.Freed.{ListOf, ListsOf, FreedItems}
 use Rattle.census.proofs.ToldLaws.{tidy-same, tidy-part, each-app, grown-on, book-on}
-use Rattle.audit.specs.Audit.{HeaderFits, RootItems, Closed, Closes}
+use Rattle.audit.specs.Audit.{byRule, HeaderFits, RootItems, Unmarked, Closed, Closes}
 use Rattle.audit.proofs.RootLaws.{root-unique}
+use Rattle.audit.proofs.RuleLaws.{rule-before, rule-good}
 
 -- ---- sums over items
 
@@ -78,6 +82,9 @@ join p q = rw (p, q)
 
 sound-as : {d u b x d' u' b' : ℕ} {is js : List Item} → d ≡ d' → u ≡ u' → b ≡ b' → is ≡ js → Sound d u b x is → Sound d' u' b' x js
 sound-as p q r e S = rw (sym p, sym q, sym r, sym e) S
+
+clean-as : {f : List ℕ} {d d' : ℕ} {is js : List Item} → d ≡ d' → is ≡ js → Clean f d is → Clean f d' js
+clean-as p e C = rw (sym p, sym e) C
 
 -- ---- the eight lists, one by one or all at once
 
@@ -136,8 +143,17 @@ module _ {f : List ℕ} {d u b : ℕ} (H : HeaderFits f) (ed : d ≡ le 4 f atD)
       let l = h .limits in
       record { table = omega arith; order = omega arith; size = omega arith; room = omega arith }
 
+  pub sweep-ok : (words : ℕ) → length f ≤ 512 * words → (d % 8 ≡ 0) × (b % 8 ≡ 0) × (d ≤ b) × (b ≤ length f) × (b ≤ 512 * words)
+  sweep-ok words w =
+      let h = H .header in
+      let a = h .dataAt in
+      let c = h .bumpIn in
+      let s = h .size in
+      let e : d % 8 ≡ 0 = rw (ed ∙ a) (data-eight (le 4 f atN) (h .slotCap .0)) in
+      (e, omega arith, omega arith, omega arith, omega arith)
+
   -- a good frame's items are tidy
-  stands-tidy : (s : State) (S : Stands edition1 f s) → Tidy d u b (rootItems (S .root) ++ freed 1 (S .lists))
+  stands-tidy : (s : State) (S : Stands before1 f s) → Tidy d u b (rootItems (S .root) ++ freed 1 (S .lists))
   stands-tidy s S =
       let h = S .heap .header in
       let o = S .heap .sound in
@@ -154,43 +170,67 @@ module _ {f : List ℕ} {d u b : ℕ} (H : HeaderFits f) (ed : d ≡ le 4 f atD)
         few = omega (arith, sum-as isBody bodied body-is all, sound-bodies o);
       }
 
-  root-of : {s : ℕ} (st : State) (S : Stands edition1 f st) → s ≡ le 2 f atRoot → RootItems f s (rootItems (S .root))
-  root-of st S e = record { root = S .root; at = S .rootAt; slot = sym (S .rootIs) ∙ sym (S .heap .header .rootAt) ∙ sym e; are = refl }
+  root-of : {E : Edition} {s : ℕ} (st : State) (S : Stands E f st) → s ≡ le 2 f atRoot → RootAt edition1 f (S .root) → RootItems f s (rootItems (S .root))
+  root-of st S e R = record { root = S .root; at = R; slot = sym (S .rootIs) ∙ sym (S .heap .header .rootAt) ∙ sym e; are = refl }
+
+  root-old : {s : ℕ} (st : State) (S : Stands before1 f st) → s ≡ le 2 f atRoot → RootItems f s (rootItems (S .root))
+  root-old st S e = root-of st S e (root-now f (S .root) (S .rootAt))
 
   module _ {s : ℕ} (es : s ≡ le 2 f atRoot) {m : List ℕ} {t : Sums} (fresh : Seen m []) (none : (t .slots ≡ 0) × (t .bytes ≡ 0) × (t .leaves ≡ 0)) where
     book : Book m t []
     unfolding sum
     book = record { seen = fresh; slots = none .0 }
 
-    pub whole-root : {m' : List ℕ} {r : Sums} → Told (RootItems f s) (RootItems f s) f d u b m t m' r → r .good ≡ false → Good edition1 f → ⊥
+    pub whole-root : {m' : List ℕ} {r : Sums} → Told (RootItems f s) (RootItems f s) f d u b m t m' r → r .good ≡ false → Good before1 f → ⊥
     whole-root T n G =
         let S = G .1 in
         let xs = rootItems (S .root) in
         let ys = freed 1 (S .lists) in
-        T .fails n [] book xs (root-of (G .0) S es)
+        T .fails n [] book xs (root-old (G .0) S es)
         (tidy-part ys (xs ++ []) (λ v. omega (arith, sum-app v xs ys, sum-app v ys (xs ++ []), sum-app v xs [], none-sum v)) (stands-tidy (G .0) S))
 
     module _ {m' : List ℕ} {r : Sums} (K : Held (RootItems f s) f d u b m t m' r) where
-      pub whole-lists : {m'' : List ℕ} {q : Sums} → Told (FreedItems f 1) (FreedItems f 1) f d u b m' r m'' q → q .good ≡ false → Good edition1 f → ⊥
+      -- the map shows just what is live
+      seen-live : Seen m' (K .items)
+      seen-live = record { marks = λ v. omega (arith, K .grown .marks v, fresh .marks v, none-sum (cover (8 * v))) }
+
+      live-eighths : Eighths (K .items)
+      live-eighths = each-as (Sited f d u b) Eighth (λ i h. h .eighth) (K .items) (K .sited)
+
+      live-high : (a : ℕ) → b ≤ a → sum (cover a) (K .items) ≡ 0
+      live-high = fits-seen seen-live live-eighths (each-as (Sited f d u b) (Within d b) (λ i h. h .within) (K .items) (K .sited)) .high
+
+      live-is : {xs : List Item} → RootItems f s xs → K .items ≡ xs
+      live-is {xs} R = root-unique f s (K .items) xs (K .are) R
+
+      -- what it does not show is zero in a good frame
+      pub whole-unclean : (wiped : Bool) → (Unmarked wiped f m' d b → ⊥) → Good (byRule wiped) f → ⊥
+      whole-unclean true n G =
+          let S = G .1 in
+          let C = stands-clean S refl in
+          n (record { swept = λ e. clean-swept seen-live live-eighths live-high (omega (arith, ground-of .order)) (clean-as (sym ed) (sym (live-is (root-of (G .0) S es (S .rootAt)))) C) })
+      whole-unclean false n G = n (record { swept = λ e. clash (cc) })
+
+      pub whole-lists : {m'' : List ℕ} {q : Sums} → Told (FreedItems f 1) (FreedItems f 1) f d u b m' r m'' q → q .good ≡ false → Good before1 f → ⊥
       whole-lists T n G =
           let S = G .1 in
           let xs = rootItems (S .root) in
           let ys = freed 1 (S .lists) in
           let ks = K .items in
-          let same = root-unique f s ks xs (K .are) (root-of (G .0) S es) in
+          let same = live-is (root-old (G .0) S es) in
           T .fails n (ks ++ []) (book-on ks book (K .grown)) ys (all-lists f (S .lists) (S .heap .lists))
           (tidy-same (λ v. omega (arith, sum-app v xs ys, ap (sum v) same, sum-app v ys (ks ++ []), sum-app v ks [], none-sum v)) (stands-tidy (G .0) S))
 
       module _ {m'' : List ℕ} {q : Sums} (J : Held (FreedItems f 1) f d u b m' r m'' q) where
         -- the sums of a good frame close
-        pub whole-open : (Closed f (q .slots) (q .bytes) (r .leaves) → ⊥) → Good edition1 f → ⊥
+        pub whole-open : (Closed f (q .slots) (q .bytes) (r .leaves) → ⊥) → Good before1 f → ⊥
         whole-open n G =
             let S = G .1 in
             let xs = rootItems (S .root) in
             let ys = freed 1 (S .lists) in
             let h = S .heap .header in
             let o = S .heap .sound in
-            let same = root-unique f s (K .items) xs (K .are) (root-of (G .0) S es) in
+            let same = live-is (root-old (G .0) S es) in
             let F = J .are in
             let ls = F .lists in
             let eight = F .eight in
@@ -200,12 +240,12 @@ module _ {f : List ℕ} {d u b : ℕ} (H : HeaderFits f) (ed : d ≡ le 4 f atD)
             let free-same : J .items ≡ ys = sym (F .items) ∙ ap (freed 1) lists in
             n (record {
               slotsAre = omega (arith, K .grown .slots, J .grown .slots, ap (sum isBody) same, ap (sum isBody) free-same, sum-app isBody xs ys, sum-as isBody bodied body-is (xs ++ ys), sound-bodies o, h .givenAt, none .0);
-              leavesAre = omega (arith, K .grown .leaves, ap (sum isExtent) same, root-leaves f (S .root) (S .rootAt), S .counted, h .recordsAt, none .2);
+              leavesAre = omega (arith, K .grown .leaves, ap (sum isExtent) same, root-leaves f (S .root) (root-now f (S .root) (S .rootAt)), S .counted, h .recordsAt, none .2);
               accounted = omega (arith, K .grown .bytes, J .grown .bytes, ap (sum bulk) same, ap (sum bulk) free-same, sum-app bulk xs ys, o .accounted, h .dataAt, h .bumpAt, h .deadAt, none .1);
             })
 
-        pub whole-good : Closed f (q .slots) (q .bytes) (r .leaves) → Good edition1 f
-        whole-good C =
+        stands-closed : Closed f (q .slots) (q .bytes) (r .leaves) → Good before1 f
+        stands-closed C =
             let xs = K .items in
             let ys = J .items in
             let is = xs ++ ys in
@@ -222,50 +262,55 @@ module _ {f : List ℕ} {d u b : ℕ} (H : HeaderFits f) (ed : d ≡ le 4 f atD)
             (omega (arith, G .slots, none .0, C .slotsAre, eu, sum-as isBody bodied body-is is)) in
             let sound = sound-made {x = le 4 f atX} slots fits (omega (arith, G .bytes, none .1, C .accounted, ed, eb)) in
             let h = H .header in (
-              stateOf (numbersOf edition1 f) ls (W .root),
+              stateOf (numbersOf before1 f) ls (W .root),
               record {
                 bytes = H .bytes;
-                nums = numbersOf edition1 f;
+                nums = numbersOf before1 f;
                 lists = ls;
                 root = W .root;
                 heap = record {
                   header = h;
                   lists = lists-all f ls (omega arith) (F .are);
+                  clean = λ e. clash (cc);
                   sound = sound-as (ed ∙ h .dataAt) eu eb (join (sym (W .are)) (sym (F .items))) sound;
                 };
                 editionIs = refl;
                 rootIs = sym es ∙ sym (W .slot);
-                rootAt = W .at;
+                rootAt = root-before f (W .root) (W .at);
                 counted = omega (arith, K .grown .leaves, none .2, C .leavesAre, ap (sum isExtent) (W .are), root-leaves f (W .root) (W .at));
                 state = refl;
               },
             )
 
+        pub whole-good : (wiped : Bool) → Unmarked wiped f m' d b → Closed f (q .slots) (q .bytes) (r .leaves) → Good (byRule wiped) f
+        unfolding stands-closed
+        whole-good wiped Z C = rule-good wiped (stands-closed C) (λ e. clean-as ed (sym (K .are .are)) (swept-clean seen-live live-eighths live-high (Z .swept e)))
+
 -- ---- the verdict
 
-good-length : {f : List ℕ} (s : State) → Stands edition1 f s → LengthFits f
+good-length : {E : Edition} {f : List ℕ} (s : State) → Stands E f s → LengthFits f
 good-length s S =
     let h = S .heap .header in
     let e = h .size in
     record { limits = rw e (h .limits); stored = h .stored ∙ sym e }
 
-module _ {f : List ℕ} {n : ℕ} where
-  pub audit-length : (LengthFits f → ⊥) → n ≡ 1 → CheckPromise edition1 f n
+module _ {E : Edition} {f : List ℕ} {n : ℕ} where
+  pub audit-length : (LengthFits f → ⊥) → n ≡ 1 → CheckPromise E f n
   audit-length nay e =
       record {
         told = record { length1 = λ q. e; bad2 = λ L q. absurd (nay (record { limits = L .0; stored = L .1 })); good = λ a b. absurd (a e) };
         good0 = λ G. absurd (nay (good-length (G .0) (G .1)));
       }
 
-  pub audit-bad : LengthFits f → (Good edition1 f → ⊥) → n ≡ 2 → CheckPromise edition1 f n
+  pub audit-bad : LengthFits f → (Good E f → ⊥) → n ≡ 2 → CheckPromise E f n
   audit-bad L nay e = record { told = record { length1 = λ q. absurd (q (L .limits, L .stored)); bad2 = λ K q. e; good = λ a b. absurd (b e) }; good0 = λ G. absurd (nay G) }
 
-  pub audit-good : LengthFits f → Good edition1 f → n ≡ 0 → CheckPromise edition1 f n
+  pub audit-good : LengthFits f → Good E f → n ≡ 0 → CheckPromise E f n
   audit-good L G e = record { told = record { length1 = λ z. absurd (z (L .limits, L .stored)); bad2 = λ K z. absurd (z G); good = λ a b. G }; good0 = λ H. e }
 
 -- a header that no good frame has
-pub header-none : {f : List ℕ} {g : Bool} → HeaderTold f g → g ≡ false → Good edition1 f → ⊥
-header-none T n G = let S = G .1 in T .fails n (S .nums) (S .heap .header) (ap (λ (E : Edition). E .number) (S .editionIs))
+pub header-none : (wiped : Bool) {f : List ℕ} {g : Bool} → HeaderTold f g → g ≡ false → Good (byRule wiped) f → ⊥
+header-none wiped T n G = let S = rule-before wiped G .1 in T .fails n (S .nums) (S .heap .header) (ap (λ (E : Edition). E .number) (S .editionIs))
 
 -- ---- the sums compared
 

@@ -1,4 +1,4 @@
--- The items of a root, and the sums that close a good frame.
+-- By which rule a frame is good, the items of a root, and the sums that close a good frame.
 use Prim.Native.Nat.{ℕ, _+_, _≤_}
 use mathlib.Core.Path.{_≡_}
 use mathlib.Core.List.{List, [], _∷_}
@@ -6,19 +6,25 @@ use mathlib.Core.Bool.{Bool, true, false}
 use Rattle.layout.specs.Number.{le, Bytes}
 use Rattle.layout.specs.Place.{atD, atB, atU, atR, atX}
 use Rattle.layout.specs.Kind.{EmptyRoot}
-use Rattle.model.specs.Edition.{edition1}
+use Rattle.model.specs.Strings.{pick}
+use Rattle.model.specs.Edition.{Edition, edition1, before1}
 use Rattle.model.specs.Item.{Item, body}
 use Rattle.model.specs.Body.{Zero}
 use Rattle.model.specs.Frame.{Root, RootAt, rootSlot, rootItems}
 use Rattle.model.specs.Frame as frame
+use Rattle.sweep.specs.Sweep.{Swept}
 use Rattle.shape.specs.Shape.{numbersOf}
 use Rattle.census.specs.declared.Sums.{Sums}
 use Rattle.census.specs.Told.{Told}
 
--- a slice of bytes with a good header of edition 1
+-- edition 1 by the rule that what is freed is zero, or by the one from before
+abbrev pub byRule : Bool → Edition
+byRule wiped = pick wiped edition1 before1
+
+-- a slice of bytes with a good header of edition 1: the rules differ in nothing there
 pub record HeaderFits (f : List ℕ) : Type 0 where
   pub bytes : Bytes f
-  pub header : frame.Header f (numbersOf edition1 f)
+  pub header : frame.Header f (numbersOf before1 f)
 
 -- the items of the root at slot s
 pub record RootItems (f : List ℕ) (s : ℕ) (xs : List Item) : Type 0 where
@@ -34,6 +40,10 @@ pub record EmptyItems (f : List ℕ) (s o : ℕ) (xs : List Item) : Type 0 where
 
 pub record EmptyTold (f : List ℕ) (o d u b : ℕ) (m : List ℕ) (t : Sums) (m' : List ℕ) (t' : Sums) : Type 0 where
   pub of : (s : ℕ) → frame.Entry f s EmptyRoot o → 1 ≤ s → s ≤ u → Told (EmptyItems f s o) (EmptyItems f s o) f d u b m t m' t'
+
+-- what the rule asks of units that the map m has not marked
+pub record Unmarked (wiped : Bool) (f m : List ℕ) (d b : ℕ) : Type 0 where
+  pub swept : wiped ≡ true → Swept f m d b
 
 -- U slots, R Leaves, and every byte accounted for
 pub record Closed (f : List ℕ) (slots bytes leaves : ℕ) : Type 0 where

@@ -11,17 +11,17 @@ use layout::entry::Entry;
 use layout::kind::Kind;
 use pieces::zero_eight;
 use shape::leaf::lone_good;
+use sweep::swept;
 ghost use mathlib.Core.Path.{_≡_};
 ghost use mathlib.Core.List.{[]};
 ghost use Prim.Native.Nat.{_+_, _-_, _*_, _%_, _<_, _≤_};
 ghost use lib.ListN.{length};
-ghost use Rattle.model.specs.Edition.{edition1};
 ghost use Rattle.model.specs.Frame.{Good};
 ghost use Rattle.pieces.specs.Decides.{Decides};
 ghost use Rattle.claims.specs.Units.{Seen};
 ghost use Rattle.census.specs.Told.{Ground, Limits, Tally, Told};
 ghost use Rattle.audit.specs.Walk.{At};
-ghost use Rattle.audit.specs.Audit.{HeaderFits, RootItems, EmptyTold, Closes};
+ghost use Rattle.audit.specs.Audit.{byRule, HeaderFits, RootItems, EmptyTold, Unmarked, Closes};
 
 // An EmptyRoot whose body lies at o.
 fn empty(f: &[u8], map: &mut [u64], o: usize, bounds: Bounds, t: Sums) -> Sums
@@ -92,10 +92,21 @@ fn closes(f: &[u8], slots: usize, bytes: usize, leaves: usize) -> bool
     Header::data_start(f) + bytes + Header::dead_bytes(f) == Header::next_byte(f)
 }
 
-// All, with a map of units that is still zero.
-fn over(f: &[u8], map: &mut [u64]) -> bool
+// The units that the map has not marked are zero, where the rule asks for it.
+fn unmarked(f: &[u8], map: &[u64], bounds: Bounds, wiped: bool) -> bool
+    requires { ⌜ (bounds .start % 8 ≡ 0) × (bounds .next % 8 ≡ 0) × (bounds .start ≤ bounds .next) × (bounds .next ≤ length (now f)) × (bounds .next ≤ 512 * length (now map)) ⌝ }
+    ensures { λ r. ⌜ Decides (Unmarked wiped (now (f .entry)) (now (map .entry)) (bounds .start) (bounds .next)) r ⌝ }
+{
+    if !wiped {
+        return true;
+    }
+    swept(f, map, bounds.start, bounds.next)
+}
+
+// All, with a map of units that is still zero. What nothing live has marked is looked at before the freed bodies are marked too.
+fn over(f: &[u8], map: &mut [u64], wiped: bool) -> bool
     requires { ⌜ HeaderFits (now f) × (length (now f) ≤ 512 * length (now map)) × Seen (now map) [] ⌝ }
-    ensures { λ r. ⌜ Decides (Good edition1 (now (f .entry))) r ⌝ }
+    ensures { λ r. ⌜ Decides (Good (byRule wiped) (now (f .entry))) r ⌝ }
 {
     let bounds = Bounds {
         start: Header::data_start(f),
@@ -110,6 +121,9 @@ fn over(f: &[u8], map: &mut [u64]) -> bool
     };
     let r = root(f, map, Header::root(f), bounds, start);
     if !r.good {
+        return false;
+    }
+    if !unmarked(f, map, bounds, wiped) {
         return false;
     }
     let l = lists(f, map, bounds, r);
@@ -130,40 +144,40 @@ const SMALLEST_FRAME: usize = 4096;
 
 const SMALL_FRAME: usize = 16384;
 
-fn smallest(f: &[u8]) -> bool
+fn smallest(f: &[u8], wiped: bool) -> bool
     requires { ⌜ HeaderFits (now f) × (length (now f) ≤ 4096) ⌝ }
-    ensures { λ r. ⌜ Decides (Good edition1 (now (f .entry))) r ⌝ }
+    ensures { λ r. ⌜ Decides (Good (byRule wiped) (now (f .entry))) r ⌝ }
 {
     let mut map: [u64; SMALLEST_MAP] = [0; SMALLEST_MAP];
-    over(f, &mut map)
+    over(f, &mut map, wiped)
 }
 
-fn small(f: &[u8]) -> bool
+fn small(f: &[u8], wiped: bool) -> bool
     requires { ⌜ HeaderFits (now f) × (length (now f) ≤ 16384) ⌝ }
-    ensures { λ r. ⌜ Decides (Good edition1 (now (f .entry))) r ⌝ }
+    ensures { λ r. ⌜ Decides (Good (byRule wiped) (now (f .entry))) r ⌝ }
 {
     let mut map: [u64; SMALL_MAP] = [0; SMALL_MAP];
-    over(f, &mut map)
+    over(f, &mut map, wiped)
 }
 
-fn large(f: &[u8]) -> bool
+fn large(f: &[u8], wiped: bool) -> bool
     requires { ⌜ HeaderFits (now f) ⌝ }
-    ensures { λ r. ⌜ Decides (Good edition1 (now (f .entry))) r ⌝ }
+    ensures { λ r. ⌜ Decides (Good (byRule wiped) (now (f .entry))) r ⌝ }
 {
     let mut map: [u64; LARGE_MAP] = [0; LARGE_MAP];
-    over(f, &mut map)
+    over(f, &mut map, wiped)
 }
 
 // All, with a map on the stack that is no larger than it need be.
-pub fn all(f: &[u8]) -> bool
+pub fn all(f: &[u8], wiped: bool) -> bool
     requires { ⌜ HeaderFits (now f) ⌝ }
-    ensures { λ r. ⌜ Decides (Good edition1 (now (f .entry))) r ⌝ }
+    ensures { λ r. ⌜ Decides (Good (byRule wiped) (now (f .entry))) r ⌝ }
 {
     if f.len() <= SMALLEST_FRAME {
-        return smallest(f);
+        return smallest(f, wiped);
     }
     if f.len() <= SMALL_FRAME {
-        return small(f);
+        return small(f, wiped);
     }
-    large(f)
+    large(f, wiped)
 }

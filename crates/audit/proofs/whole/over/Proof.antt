@@ -1,9 +1,10 @@
--- The root, the lists and the sums together (WholeLaws). Assumes nothing.
+-- The root, the sweep, the lists and the sums together (WholeLaws). Assumes nothing.
 use mathlib.Core.Path.{refl}
 use native.Mathlib.Omega.{arith}
 use borrow.Author.Tests.{not-true, not-false}
-use Rattle.pieces.proofs.DecideLaws.{denied}
-use Rattle.audit.proofs.WholeLaws.{ground-of, limits-of, whole-root, whole-lists, whole-open, whole-good}
+use Rattle.pieces.proofs.DecideLaws.{denied, refuted, passed}
+use Rattle.audit.proofs.RuleLaws.{rule-before}
+use Rattle.audit.proofs.WholeLaws.{ground-of, limits-of, sweep-ok, whole-root, whole-unclean, whole-lists, whole-open, whole-good}
 use borrow.Author.Needs.{needs}
 use Rattle.audit.proofs.whole.over.Statement.{statement}
 use Rattle.audit.proofs.whole.over.Tie as tie
@@ -35,53 +36,83 @@ returns c =
     let R = c .before .before .before .before in
     let b = R .before .before .before in
     let d = b .before .before in
-    let p = d .before .before .before .pre in
-    denied (whole-root (p .0) (d .data-start .ensures .0) (b .before .slots-given .ensures .0) (b .next-byte .ensures .0) (R .before .root .ensures .0) (p .2) (refl, refl, refl) (R .root2 .ensures) (not-true _ (c .if1 .taken)))
+    let z = d .before .before .before in
+    let p = z .pre in
+    denied (λ G. whole-root (p .0) (d .data-start .ensures .0) (b .before .slots-given .ensures .0) (b .next-byte .ensures .0) (R .before .root .ensures .0) (p .2) (refl, refl, refl) (R .root2 .ensures) (not-true _ (c .if1 .taken)) (rule-before (z .args .wiped) G))
 
-lists-requires : tie.Need-lists-requires
-lists-requires c κs =
+unmarked-requires : tie.Need-unmarked-requires
+unmarked-requires c κs =
     let R = c .before .before .before .before .before in
     let b = R .before .before .before in
     let d = b .before .before in
-    let p = d .before .before .before .pre in
-    (ground-of (p .0) (d .data-start .ensures .0) (b .before .slots-given .ensures .0) (b .next-byte .ensures .0), limits-of (p .0) (d .data-start .ensures .0) (b .before .slots-given .ensures .0) (b .next-byte .ensures .0) (omega (arith, p .1)), R .root2 .ensures .holds (not-false _ (c .before .if1 .left)) .tally)
+    let z = d .before .before .before in
+    let p = z .pre in
+    sweep-ok (p .0) (d .data-start .ensures .0) (b .before .slots-given .ensures .0) (b .next-byte .ensures .0) _ (omega (arith, p .1))
 
 same-length-2 : tie.Need-same-length-2
 same-length-2 c = search needs
 
 returns-2 : tie.Need-returns-2
 returns-2 c =
-    let L = c .before .before .before .before in
-    let R = L .before .before .before .before .before .before in
+    let U = c .before in
+    let R = U .before .before .before .before .before .before in
     let b = R .before .before .before in
     let d = b .before .before in
-    let p = d .before .before .before .pre in
-    denied (whole-lists (p .0) (d .data-start .ensures .0) (b .before .slots-given .ensures .0) (b .next-byte .ensures .0) (R .before .root .ensures .0) (p .2) (refl, refl, refl) (R .root2 .ensures .holds (not-false _ (L .before .before .if1 .left))) (L .lists .ensures) (not-true _ (c .if2 .taken)))
+    let z = d .before .before .before in
+    let p = z .pre in
+    denied (whole-unclean (p .0) (d .data-start .ensures .0) (b .before .slots-given .ensures .0) (b .next-byte .ensures .0) (R .before .root .ensures .0) (p .2) (refl, refl, refl) (R .root2 .ensures .holds (not-false _ (U .before .before .if1 .left))) (z .args .wiped) (refuted (U .unmarked .ensures) (c .if2 .taken)))
 
-closes-requires : tie.Need-closes-requires
-closes-requires c κs =
-    let L = c .before .before .before .before in
-    let u = L .before .before .before .before .before .before .before .before .before .before in
-    let h = u .before .before .before .before .pre .0 .header in
-    let J = L .lists .ensures .holds (not-false _ (c .if2 .left)) .tally in
-    (omega (arith, h .size, h .limits), omega (arith, J .bytes, J .slots, h .givenIn, h .slotCap, u .slots-given .ensures .0))
+lists-requires : tie.Need-lists-requires
+lists-requires c κs =
+    let U = c .before .before in
+    let R = U .before .before .before .before .before .before in
+    let b = R .before .before .before in
+    let d = b .before .before in
+    let z = d .before .before .before in
+    let p = z .pre in
+    (ground-of (p .0) (d .data-start .ensures .0) (b .before .slots-given .ensures .0) (b .next-byte .ensures .0), limits-of (p .0) (d .data-start .ensures .0) (b .before .slots-given .ensures .0) (b .next-byte .ensures .0) (omega (arith, p .1)), R .root2 .ensures .holds (not-false _ (U .before .before .if1 .left)) .tally)
 
 same-length-3 : tie.Need-same-length-3
 same-length-3 c = search needs
 
 returns-3 : tie.Need-returns-3
 returns-3 c =
-    let L = c .before .before .before .before .before in
-    let R = L .before .before .before .before .before .before in
+    let L = c .before .before .before .before in
+    let U = L .before .before .before in
+    let R = U .before .before .before .before .before .before in
     let b = R .before .before .before in
     let d = b .before .before in
-    let p = d .before .before .before .pre in
-    let K = R .root2 .ensures .holds (not-false _ (L .before .before .if1 .left)) in
-    let J = L .lists .ensures .holds (not-false _ (c .before .if2 .left)) in
+    let z = d .before .before .before in
+    let p = z .pre in
+    denied (λ G. whole-lists (p .0) (d .data-start .ensures .0) (b .before .slots-given .ensures .0) (b .next-byte .ensures .0) (R .before .root .ensures .0) (p .2) (refl, refl, refl) (R .root2 .ensures .holds (not-false _ (U .before .before .if1 .left))) (L .lists .ensures) (not-true _ (c .if3 .taken)) (rule-before (z .args .wiped) G))
+
+closes-requires : tie.Need-closes-requires
+closes-requires c κs =
+    let L = c .before .before .before .before in
+    let R = L .before .before .before .before .before .before .before .before .before in
+    let u = R .before .before .before .before in
+    let h = u .before .before .before .before .pre .0 .header in
+    let J = L .lists .ensures .holds (not-false _ (c .if3 .left)) .tally in
+    (omega (arith, h .size, h .limits), omega (arith, J .bytes, J .slots, h .givenIn, h .slotCap, u .slots-given .ensures .0))
+
+same-length-4 : tie.Need-same-length-4
+same-length-4 c = search needs
+
+returns-4 : tie.Need-returns-4
+returns-4 c =
+    let L = c .before .before .before .before .before in
+    let U = L .before .before .before in
+    let R = U .before .before .before .before .before .before in
+    let b = R .before .before .before in
+    let d = b .before .before in
+    let z = d .before .before .before in
+    let p = z .pre in
+    let K = R .root2 .ensures .holds (not-false _ (U .before .before .if1 .left)) in
+    let J = L .lists .ensures .holds (not-false _ (c .before .if3 .left)) in
     let C = c .closes .ensures in
     record {
-      holds = λ e. whole-good (p .0) (d .data-start .ensures .0) (b .before .slots-given .ensures .0) (b .next-byte .ensures .0) (R .before .root .ensures .0) (p .2) (refl, refl, refl) K J (C .holds e);
-      fails = λ e G. whole-open (p .0) (d .data-start .ensures .0) (b .before .slots-given .ensures .0) (b .next-byte .ensures .0) (R .before .root .ensures .0) (p .2) (refl, refl, refl) K J (C .fails e) G;
+      holds = λ e. whole-good (p .0) (d .data-start .ensures .0) (b .before .slots-given .ensures .0) (b .next-byte .ensures .0) (R .before .root .ensures .0) (p .2) (refl, refl, refl) K J (z .args .wiped) (passed (U .unmarked .ensures) (L .before .before .if2 .left)) (C .holds e);
+      fails = λ e G. whole-open (p .0) (d .data-start .ensures .0) (b .before .slots-given .ensures .0) (b .next-byte .ensures .0) (R .before .root .ensures .0) (p .2) (refl, refl, refl) K J (C .fails e) (rule-before (z .args .wiped) G);
     }
 
 pub over-spec : {M : Type 1} → statement M
@@ -95,9 +126,12 @@ over-spec =
     root-requires-2
     same-length
     returns
-    lists-requires
+    unmarked-requires
     same-length-2
     returns-2
-    closes-requires
+    lists-requires
     same-length-3
-    returns-3)
+    returns-3
+    closes-requires
+    same-length-4
+    returns-4)

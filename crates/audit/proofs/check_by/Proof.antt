@@ -2,12 +2,12 @@
 use mathlib.Core.Path.{refl}
 use native.Mathlib.Omega.{arith}
 use borrow.Author.Tests.{not-true, not-false}
-use Rattle.model.specs.Edition.{edition1}
+use Rattle.model.specs.Edition.{before1}
 use Rattle.pieces.proofs.DecideLaws.{refuted, passed}
 use Rattle.audit.proofs.WholeLaws.{audit-length, audit-bad, audit-good, header-none}
 use borrow.Author.Needs.{needs}
-use Rattle.audit.proofs.check.Statement.{statement}
-use Rattle.audit.proofs.check.Tie as tie
+use Rattle.audit.proofs.check_by.Statement.{statement}
+use Rattle.audit.proofs.check_by.Tie as tie
 
 length-good-requires : tie.Need-length-good-requires
 length-good-requires c κs = search needs
@@ -21,13 +21,13 @@ header-good-requires c κs = passed (c .before .length-good .ensures) (c .if1 .l
 returns-2 : tie.Need-returns-2
 returns-2 c =
     let m = c .before .before .before in
-    audit-bad (passed (m .length-good .ensures) (c .before .before .if1 .left)) (header-none (c .before .header-good .ensures) (not-true _ (c .if2 .taken))) refl
+    audit-bad (passed (m .length-good .ensures) (c .before .before .if1 .left)) (header-none (m .before .before .args .wiped) (c .before .header-good .ensures) (not-true _ (c .if2 .taken))) refl
 
 all-requires : tie.Need-all-requires
 all-requires c κs =
     let k = c .before .before .before .before in
     let T = c .before .header-good .ensures .holds (not-false _ (c .if2 .left)) in
-    record { bytes = λ a. omega (arith, k .shared-slice-known .given a); header = T edition1 refl }
+    record { bytes = λ a. omega (arith, k .shared-slice-known .given a); header = T before1 refl }
 
 returns-3 : tie.Need-returns-3
 returns-3 c =
@@ -39,8 +39,8 @@ returns-4 c =
     let m = c .before .before .before .before .before in
     audit-good (passed (m .length-good .ensures) (c .before .before .before .before .if1 .left)) (c .before .all .ensures .holds (not-false _ (c .if3 .left))) refl
 
-pub check-spec : {M : Type 1} → statement M
-check-spec =
+pub check-by-spec : {M : Type 1} → statement M
+check-by-spec =
     tie.close
     (tie.spec
     length-good-requires
