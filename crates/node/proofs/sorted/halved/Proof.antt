@@ -1,6 +1,4 @@
 -- What is sought stands behind the cut, or before it, or nowhere. Assumes nothing.
-use Prim.Native.Nat.{ℕ, _+_, _-_, _<_, _≤_}
-use mathlib.Core.Path.{_≡_}
 use native.Mathlib.Omega.{arith}
 use Rattle.node.proofs.SortedLaws.{upper-half, lower-half, no-half}
 use borrow.Author.Needs.{needs}
