@@ -14,7 +14,8 @@ use Rattle.layout.proofs.NumberLaws.{le-moved, le-put, le-zero}
 use Rattle.model.specs.Body.{byteIn, childIn, Asc, lookKid, SortedAt}
 use Rattle.node.specs.Kids.{orZero, insertKid, removeKid, setKid, placeOf, rankOf, nextKid}
 use Rattle.moves.specs.Moved.{Only, Keeps, Opened, Closed}
-use Rattle.node.specs.Sorted.{Row, Between, SortedHas}
+use Rattle.node.specs.Sorted.{Row, SortedHas}
+use Rattle.node.specs.Word.{First}
 use Rattle.moves.proofs.MoveLaws.{only-none, only-set, only-put, only-sym, only-then, only-widen, le-only, le-keeps, other-child}
 use Rattle.node.proofs.KidsLaws.{insertAt, removeAt, length-insertAt, insertAt-low, insertAt-here, insertAt-high, length-removeAt, removeAt-low, removeAt-high, insert-at, remove-at, asc-insert, asc-less, asc-remove, asc-set, set-place, place-lt, place-is, rank-is, next-is, next-none, look-in, look-out}
 
@@ -39,59 +40,32 @@ module _ {f : List ℕ} {at n b r : ℕ} (ks : List (ℕ × ℕ)) (R : Row f at 
 
 -- ---- halving
 
--- the part from lo, of `left` bytes, is cut at `half`; the byte there is x, and u is how far lo moves up
-pub halve-step : {f : List ℕ} {at n b lo left half x u : ℕ} → Between f at n b lo (lo + left) → x ≡ byteAt f (at + (lo + half)) → 1 ≤ half → half + half ≤ left
-    → (x ≤ b → u ≡ half) × (b < x → u ≡ 0) → Between f at n b (lo + u) (lo + u + (left - half))
-halve-step {f} {at} {n} {b} {lo} {left} {half} {x} {u} I ex h1 h2 U = let w = I .within in elim (decLe x b) [
-  | yes h ↦
-      let e = U .0 h in
-      let m : lo + u + (left - half) ≡ lo + left = omega arith in
-      record { within = omega arith; low = λ _. rw e (omega arith); high = rw m (I .high) }
-  | no h ↦
-      let e = U .1 (omega arith) in
-      let r : lo + u ≡ lo = omega arith in
-      record {
-        within = omega arith;
-        low = rw r (I .low);
-        high = λ ks R en l.
-            let s = lo + u + (left - half) in
-            elim (ℕ-discrete s (lo + half)) [
-              | yes q ↦ rw q (omega arith)
-              | no q ↦ omega (arith, asc-less 0 ks (lo + half) s (R .asc) (omega arith) (omega arith), R .bytes (lo + half) (omega arith), R .bytes s (omega arith))
-            ];
-      }
-]
-
-pub halve-moved : {b half x u : ℕ} → (x ≤ b → u ≡ half) × (b < x → u ≡ 0) → u ≤ half
-halve-moved {b} {half} {x} {u} U = elim (decLe x b) [
-  | yes h ↦ omega (arith, U .0 h)
-  | no h ↦ omega (arith, U .1 (omega arith))
-]
-
--- one byte is left, at r: it is b, or no byte is
-module _ {f : List ℕ} {at n b r : ℕ} (H : (r < n) × Between f at n b r (r + 1)) (ks : List (ℕ × ℕ)) (R : Row f at ks) (en : n ≡ length ks) where
-  pub halve-in : byteAt f (at + r) ≡ b → r ≡ placeOf b ks
-  halve-in e =
-      let l = H .0 in
+-- the bytes are cut behind byte m; those from `half` on, w of them, hold all behind the cut, and those up to m are the first w
+module _ {f : List ℕ} {at n b w k : ℕ} (m : ℕ) (ks : List (ℕ × ℕ)) (R : Row f at ks) (en : n ≡ length ks) (cut : m + 1 ≡ w) (few : w ≤ n) where
+  pub upper-half : {half : ℕ} → byteAt f (at + m) < b → half + w ≡ n → half ≤ w → First f (at + half) w b k → half + k ≡ placeOf b ks
+  upper-half {half} above e h F =
+      let l = F .within in
       place-row ks R en (omega arith)
-      (λ k h q. omega (arith, asc-less 0 ks k r (R .asc) h (omega arith), R .bytes k (omega arith), R .bytes r (omega arith)))
-      (λ _. e)
-
-  pub halve-out : (byteAt f (at + r) ≡ b → ⊥) → n ≡ placeOf b ks
-  halve-out ne =
-      let l = H .0 in
-      place-row ks R en (omega arith)
-      (λ k h q. elim (decLt k r) [
-        | yes u ↦ omega (arith, asc-less 0 ks k r (R .asc) u (omega arith), R .bytes k (omega arith), R .bytes r (omega arith), H .1 .low (omega arith))
-        | no u ↦ elim (ℕ-discrete k r) [
-          | yes p ↦ ne (rw (← p) q)
-          | no away ↦ elim (ℕ-discrete k (r + 1)) [
-            | yes p ↦ omega (arith, H .1 .high ks R en (omega arith), ap (λ (j : ℕ). byteAt f (at + j)) p)
-            | no p ↦ omega (arith, H .1 .high ks R en (omega arith), asc-less 0 ks (r + 1) k (R .asc) (omega arith) (omega arith), R .bytes k (omega arith), R .bytes (r + 1) (omega arith))
-          ]
+      (λ j u q. elim (decLt j half) [
+        | yes low ↦ elim (ℕ-discrete j m) [
+          | yes p ↦ omega (arith, ap (λ (i : ℕ). byteAt f (at + i)) p)
+          | no p ↦ omega (arith, asc-less 0 ks j m (R .asc) (omega arith) (omega arith), R .bytes j (omega arith), R .bytes m (omega arith))
         ]
+        | no high ↦ F .before (j - half) (omega arith) (ap (byteAt f) (omega arith) ∙ q)
       ])
-      (λ z. absurd (omega arith))
+      (λ u. ap (byteAt f) (omega arith) ∙ F .here (omega arith))
+
+  pub lower-half : k < w → First f at w b k → k ≡ placeOf b ks
+  lower-half h F = place-row ks R en (omega arith) (F .before) (λ u. F .here h)
+
+  pub no-half : b ≤ byteAt f (at + m) → w ≤ k → First f at w b k → n ≡ placeOf b ks
+  no-half below h F =
+      place-row ks R en (omega arith)
+      (λ j u q. elim (decLe j m) [
+        | yes low ↦ F .before j (omega arith) q
+        | no high ↦ omega (arith, asc-less 0 ks m j (R .asc) (omega arith) (omega arith), R .bytes j (omega arith), R .bytes m (omega arith))
+      ])
+      (λ u. absurd (omega arith))
 
 -- a byte that has a child is found before the count
 pub has-place : {f : List ℕ} {o cap bytes b n r : ℕ} (H : SortedHas f o cap bytes b) → n ≡ le 2 f (o + nodeCount) → ((ks : List (ℕ × ℕ)) → Row f (o + bytes) ks → n ≡ length ks → r ≡ placeOf b ks) → r < n

@@ -2,8 +2,8 @@
 // children - bytes places; the first of them are in use, as many as the count, with bytes ascending.
 use crate::Child;
 use crate::Seat;
+use crate::word;
 use fields::body::Node;
-use fields::body::Node4;
 use fields::body::Rows;
 ghost use mathlib.Core.Path.{_≡_};
 ghost use mathlib.Core.List.{List};
@@ -14,37 +14,9 @@ ghost use Rattle.layout.specs.Number.{put};
 ghost use Rattle.model.specs.Body.{SortedAt, lookKid, byteIn, childIn};
 ghost use Rattle.node.specs.Kids.{orZero, insertKid, removeKid, placeOf, rankOf, nextKid};
 ghost use Rattle.moves.specs.Moved.{Only};
-ghost use Rattle.node.specs.Sorted.{Row, Between, Sorted, SortedOpen, SortedHas};
+ghost use Rattle.node.specs.Sorted.{Row, Sorted, SortedOpen, SortedHas};
 
-// As many bytes as are quicker looked through than halved.
-const FEW: usize = Node4::PLACES;
-
-// `half` if the byte x is b or less, and else 0, reckoned and not chosen: a jump here is mispredicted every other time.
-fn upto(x: usize, b: u8, half: usize) -> usize
-    requires { ⌜ x < 256 ⌝ }
-    ensures { λ r. ⌜ (x ≤ b → r ≡ half) × (b < x → r ≡ 0) ⌝ }
-{
-    let above = Node::BYTE_VALUES + (b as usize) - x;
-    (above / Node::BYTE_VALUES) * half
-}
-
-// Of the n ascending bytes from `at`, of which there is one at least: the place of the last that is b or less, or 0. The part where it
-// stands is halved until one byte is left.
-fn halve(f: &[u8], at: usize, n: usize, b: u8) -> usize
-    requires { ⌜ (1 ≤ n) × (at + n ≤ length (now f)) ⌝ }
-    ensures { λ r. ⌜ (r < n) × Between (now (f .entry)) at n b r (r + 1) ⌝ }
-{
-    let mut lo = 0;
-    let mut left = n;
-    while 1 < left {
-        let half = left / 2;
-        lo += upto(Rows::byte(f, at, lo + half), b, half);
-        left -= half;
-    }
-    lo
-}
-
-// The place of byte b among the n ascending bytes from `at`, or n: one after the other, for a few bytes.
+// The place of byte b among the n ascending bytes from `at`, or n: one after the other.
 fn scan(f: &[u8], at: usize, n: usize, b: u8) -> usize
     requires { ⌜ at + n ≤ length (now f) ⌝ }
     ensures { λ r. ⌜ (r ≤ n) × ((ks : List (ℕ × ℕ)) → Row (now (f .entry)) at ks → n ≡ length ks → r ≡ placeOf b ks) ⌝ }
@@ -59,27 +31,33 @@ fn scan(f: &[u8], at: usize, n: usize, b: u8) -> usize
     i
 }
 
-// The same by halving.
+// The same of bytes that fill a word and at most two: they are halved, and the half where b can stand is compared at once.
 fn halved(f: &[u8], at: usize, n: usize, b: u8) -> usize
-    requires { ⌜ (1 ≤ n) × (at + n ≤ length (now f)) ⌝ }
+    requires { ⌜ (8 ≤ n) × (n ≤ 16) × (at + n ≤ length (now f)) ⌝ }
     ensures { λ r. ⌜ (r ≤ n) × ((ks : List (ℕ × ℕ)) → Row (now (f .entry)) at ks → n ≡ length ks → r ≡ placeOf b ks) ⌝ }
 {
-    let i = halve(f, at, n, b);
-    if Rows::byte(f, at, i) == b as usize {
+    if Rows::byte(f, at, word::BYTES - 1) < b as usize {
+        let half = n - word::BYTES;
+        return half + word::first(f, at + half, b);
+    }
+    let i = word::first(f, at, b);
+    if i < word::BYTES {
         return i;
     }
     n
 }
 
-// The place of byte b among the n ascending bytes from `at`, or n.
+// The place of byte b among the n ascending bytes from `at`, or n. Fewer than a word has are as quickly looked through.
 pub fn place(f: &[u8], at: usize, n: usize, b: u8) -> usize
     requires { ⌜ at + n ≤ length (now f) ⌝ }
     ensures { λ r. ⌜ (r ≤ n) × ((ks : List (ℕ × ℕ)) → Row (now (f .entry)) at ks → n ≡ length ks → r ≡ placeOf b ks) ⌝ }
 {
-    if n <= FEW {
-        return scan(f, at, n, b);
+    if word::BYTES <= n {
+        if n <= 2 * word::BYTES {
+            return halved(f, at, n, b);
+        }
     }
-    halved(f, at, n, b)
+    scan(f, at, n, b)
 }
 
 // The place where byte b belongs among the n ascending bytes from `at`.
