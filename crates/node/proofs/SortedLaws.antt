@@ -14,7 +14,7 @@ use Rattle.layout.proofs.NumberLaws.{le-moved, le-put, le-zero}
 use Rattle.model.specs.Body.{byteIn, childIn, Asc, lookKid, SortedAt}
 use Rattle.node.specs.Kids.{orZero, insertKid, removeKid, setKid, placeOf, rankOf, nextKid}
 use Rattle.moves.specs.Moved.{Only, Keeps, Opened, Closed}
-use Rattle.node.specs.Sorted.{Row, SortedHas}
+use Rattle.node.specs.Sorted.{Row, Half, SortedHas}
 use Rattle.node.specs.Word.{First}
 use Rattle.moves.proofs.MoveLaws.{only-none, only-set, only-put, only-sym, only-then, only-widen, le-only, le-keeps, other-child}
 use Rattle.node.proofs.KidsLaws.{insertAt, removeAt, length-insertAt, insertAt-low, insertAt-here, insertAt-high, length-removeAt, removeAt-low, removeAt-high, insert-at, remove-at, asc-insert, asc-less, asc-remove, asc-set, set-place, place-lt, place-is, rank-is, next-is, next-none, look-in, look-out}
@@ -42,7 +42,7 @@ module _ {f : List ℕ} {at n b r : ℕ} (ks : List (ℕ × ℕ)) (R : Row f at 
 
 -- the bytes are cut behind byte m; those from `half` on, w of them, hold all behind the cut, and those up to m are the first w
 module _ {f : List ℕ} {at n b w k : ℕ} (m : ℕ) (ks : List (ℕ × ℕ)) (R : Row f at ks) (en : n ≡ length ks) (cut : m + 1 ≡ w) (few : w ≤ n) where
-  pub upper-half : {half : ℕ} → byteAt f (at + m) < b → half + w ≡ n → half ≤ w → First f (at + half) w b k → half + k ≡ placeOf b ks
+  upper-half : {half : ℕ} → byteAt f (at + m) < b → half + w ≡ n → half ≤ w → First f (at + half) w b k → half + k ≡ placeOf b ks
   upper-half {half} above e h F =
       let l = F .within in
       place-row ks R en (omega arith)
@@ -55,10 +55,10 @@ module _ {f : List ℕ} {at n b w k : ℕ} (m : ℕ) (ks : List (ℕ × ℕ)) (R
       ])
       (λ u. ap (byteAt f) (omega arith) ∙ F .here (omega arith))
 
-  pub lower-half : k < w → First f at w b k → k ≡ placeOf b ks
+  lower-half : k < w → First f at w b k → k ≡ placeOf b ks
   lower-half h F = place-row ks R en (omega arith) (F .before) (λ u. F .here h)
 
-  pub no-half : b ≤ byteAt f (at + m) → w ≤ k → First f at w b k → n ≡ placeOf b ks
+  no-half : b ≤ byteAt f (at + m) → w ≤ k → First f at w b k → n ≡ placeOf b ks
   no-half below h F =
       place-row ks R en (omega arith)
       (λ j u q. elim (decLe j m) [
@@ -66,6 +66,28 @@ module _ {f : List ℕ} {at n b w k : ℕ} (m : ℕ) (ks : List (ℕ × ℕ)) (R
         | no high ↦ omega (arith, asc-less 0 ks m j (R .asc) (omega arith) (omega arith), R .bytes j (omega arith), R .bytes m (omega arith))
       ])
       (λ u. absurd (omega arith))
+
+-- the half that is compared, and what it tells of all bytes
+module _ {f : List ℕ} {at n b r k : ℕ} (ks : List (ℕ × ℕ)) (R : Row f at ks) (en : n ≡ length ks) (most : n ≤ 16) (H : Half f at n b r) (F : First f (at + r) 8 b k) where
+  first-low : r ≡ 0 → First f at 8 b k
+  first-low e = let z : at + r ≡ at = omega arith in rw z at F
+
+  pub half-found : k < 8 → r + k ≡ placeOf b ks
+  half-found h =
+      let w = H .within in
+      elim (decLt (byteAt f (at + 7)) b) [
+        | yes above ↦ upper-half 7 ks R en (omega arith) (omega arith) above (H .upper above) (omega arith) F
+        | no below ↦ (let z = H .lower (omega arith) in omega (arith, z, lower-half 7 ks R en (omega arith) (omega arith) h (first-low z)))
+      ]
+
+  pub half-none : 8 ≤ k → n ≡ placeOf b ks
+  half-none h =
+      let w = H .within in
+      let l = F .within in
+      elim (decLt (byteAt f (at + 7)) b) [
+        | yes above ↦ omega (arith, H .upper above, upper-half 7 ks R en (omega arith) (omega arith) above (H .upper above) (omega arith) F)
+        | no below ↦ no-half 7 ks R en (omega arith) (omega arith) (omega arith) h (first-low (H .lower (omega arith)))
+      ]
 
 -- a byte that has a child is found before the count
 pub has-place : {f : List ℕ} {o cap bytes b n r : ℕ} (H : SortedHas f o cap bytes b) → n ≡ le 2 f (o + nodeCount) → ((ks : List (ℕ × ℕ)) → Row f (o + bytes) ks → n ≡ length ks → r ≡ placeOf b ks) → r < n

@@ -14,7 +14,7 @@ ghost use Rattle.layout.specs.Number.{put};
 ghost use Rattle.model.specs.Body.{SortedAt, lookKid, byteIn, childIn};
 ghost use Rattle.node.specs.Kids.{orZero, insertKid, removeKid, placeOf, rankOf, nextKid};
 ghost use Rattle.moves.specs.Moved.{Only};
-ghost use Rattle.node.specs.Sorted.{Row, Sorted, SortedOpen, SortedHas};
+ghost use Rattle.node.specs.Sorted.{Row, Half, Sorted, SortedOpen, SortedHas};
 
 // The place of byte b among the n ascending bytes from `at`, or n: one after the other.
 fn scan(f: &[u8], at: usize, n: usize, b: u8) -> usize
@@ -31,18 +31,26 @@ fn scan(f: &[u8], at: usize, n: usize, b: u8) -> usize
     i
 }
 
-// The same of bytes that fill a word and at most two: they are halved, and the half where b can stand is compared at once.
+// Of bytes that fill a word and at most two: where the half begins in which b can stand. The two are told by a choice of numbers, not by a jump.
+fn half(f: &[u8], at: usize, n: usize, b: u8) -> usize
+    requires { ⌜ (8 ≤ n) × (n ≤ 16) × (at + n ≤ length (now f)) ⌝ }
+    ensures { λ r. ⌜ Half (now (f .entry)) at n b r ⌝ }
+{
+    if Rows::byte(f, at, word::BYTES - 1) < b as usize {
+        return n - word::BYTES;
+    }
+    0
+}
+
+// The place of byte b among such bytes, ascending from `at`, or n: they are halved, and the half is compared at once.
 fn halved(f: &[u8], at: usize, n: usize, b: u8) -> usize
     requires { ⌜ (8 ≤ n) × (n ≤ 16) × (at + n ≤ length (now f)) ⌝ }
     ensures { λ r. ⌜ (r ≤ n) × ((ks : List (ℕ × ℕ)) → Row (now (f .entry)) at ks → n ≡ length ks → r ≡ placeOf b ks) ⌝ }
 {
-    if Rows::byte(f, at, word::BYTES - 1) < b as usize {
-        let half = n - word::BYTES;
-        return half + word::first(f, at + half, b);
-    }
-    let i = word::first(f, at, b);
+    let from = half(f, at, n, b);
+    let i = word::first(f, at + from, b);
     if i < word::BYTES {
-        return i;
+        return from + i;
     }
     n
 }
