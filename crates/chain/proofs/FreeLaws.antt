@@ -36,10 +36,13 @@ module _ {E : Edition} {f0 f : List ℕ} {h : View} {xs : List Step} {s : ℕ} {
   abbrev rest : List Item
   rest = rowItems (top .rs) loose ++ (stepsItems xs ++ forestItems ts)
 
+  placed : placeOf f (top .x .0) ≡ top .x .1
+  placed = entries-first f (top .x .0) Prefix (top .x .1) (rowItems (top .rs) loose) (loosed .entries) .0 .placeIs
+
   pub shrunk-frees : step.Frees f (getD row i 0) Prefix
   shrunk-frees =
       subst (λ n. step.Frees f n Prefix) (sym (top .slot))
-      (record { view = R .view; heap = R .work .heap; kind = prefix-kind; place = top .x .1; rest = rest; owns = first-owns loosed })
+      (record { view = R .view; heap = R .work .heap; kind = prefix-kind; place = top .x .1; rest = rest; owns = first-owns loosed; placeIs = placed })
 
   pub shrunk-step : {g : List ℕ} → ((h : View) (o : ℕ) (rest : List Item) → Heap f h → Same (h .owned) (body (getD row i 0) Prefix o ∷ rest) → placeOf f (getD row i 0) ≡ o → Freed f g h (getD row i 0) Prefix o rest)
       → Shrunk E f0 g h xs s ts rs loose row i
@@ -48,7 +51,7 @@ module _ {E : Edition} {f0 f : List ℕ} {h : View} {xs : List Step} {s : ℕ} {
       let o = top .x .1 in
       let free' : (h : View) (o : ℕ) (rest : List Item) → Heap f h → Same (h .owned) (body n Prefix o ∷ rest) → placeOf f n ≡ o → Freed f g h n Prefix o rest = subst
       (λ m. (h : View) (o : ℕ) (rest : List Item) → Heap f h → Same (h .owned) (body m Prefix o ∷ rest) → placeOf f m ≡ o → Freed f g h m Prefix o rest) (top .slot) free in
-      let F = free' (R .view) o rest (R .work .heap) (first-owns loosed) (entries-first f n Prefix o (rowItems (top .rs) loose) (loosed .entries) .0 .placeIs) in
+      let F = free' (R .view) o rest (R .work .heap) (first-owns loosed) placed in
       record {
         view = released (R .view) n Prefix o rest;
         left = top .rs;

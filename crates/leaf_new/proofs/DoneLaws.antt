@@ -1,7 +1,7 @@
 -- The end that all edits of put share: what an edit has made of a good frame is what the model's put makes of its state, and touches what the
 -- promise lets it touch. Assumes nothing.
 use Prim.Native.Nat.{ℕ, _+_, _≤_}
-use mathlib.Core.Path.{_≡_, sym, ap, subst, _∙_}
+use mathlib.Core.Path.{_≡_, refl, sym, ap, subst, _∙_}
 use mathlib.Core.List.{List, [], _∷_, _++_}
 use mathlib.Core.Bool.{true}
 use mathlib.Core.Option.{Option, some}
@@ -14,24 +14,25 @@ use Rattle.model.specs.Strings.{pick}
 use Rattle.model.specs.Edition.{edition1}
 use Rattle.model.specs.Tree.{Art, Change, over, extentOf, newKey, putTree}
 use Rattle.model.specs.State.{State, putIn, putChange, room, after, done}
-use Rattle.model.specs.Item.{Item, extent, leafy, sum}
+use Rattle.model.specs.Item.{Item, extent, cover, leafy, sum}
 use Rattle.model.specs.Frame.{Lay, slotOf, art, items, Root, tree, rootArt, rootItems, View, stateOf, Stands}
-use Rattle.model.specs.Touch.{Touch, Outside, stay, touchPut, putTouch, findLay, findAt, extentAt}
+use Rattle.model.specs.Touch.{Touch, Outside, stay, touchPut, putTouch, findLay, findAt, extentAt, dying}
 use Rattle.model.specs.Mark.{marks, rootMarks}
 use Rattle.model.proofs.UniqueLaws.{root-unique, stands-unique}
 use Rattle.model.proofs.MarkLaws.{Stay}
+use Rattle.model.proofs.ExtentLaws.{dying-less}
 use Rattle.descent.specs.declared.spot.Spot.{Spot}
 use Rattle.room.specs.Book.{RoomFor}
 use Rattle.between.specs.Hole.{Step, plug, pathOf, holderOf, artIn}
 use Rattle.between.specs.Work.{Work}
 use Rattle.between.specs.Lead.{Leads}
-use Rattle.between.specs.Since.{Since, Accounts}
+use Rattle.between.specs.Since.{Since, Extents, Accounts}
 use Rattle.between.specs.Edit.{Booked}
 use Rattle.between.proofs.HoleLaws.{art-plug, plug-sum}
 use Rattle.between.proofs.LeadLaws.{hangs-in, plug-put, plug-look, plug-touch, found-extent}
 use Rattle.between.proofs.WorkLaws.{stands-tree, standsView, stands-sum, stands-of, root-owns}
 use Rattle.between.proofs.BookedLaws.{book-of, room-of}
-use Rattle.between.proofs.OutsideLaws.{outside-of, extent-from}
+use Rattle.between.proofs.OutsideLaws.{found-covers, outside-of, extent-from}
 use Rattle.between.proofs.StayLaws.{stay-plug}
 use Rattle.leaf_new.specs.Put.{PutAt, Stepped}
 
@@ -54,14 +55,18 @@ module _ {f k v : List ℕ} {p : Spot} (P : PutAt f k v p) (s : State) (w : Stan
 
 -- ---- the end of any edit
 
+-- the extent that dies by a change
+abbrev dead : {f : List ℕ} (k : List ℕ) {s : State} → Stands edition1 f s → Change Art → List Item
+dead k w c = dying (c .dead) (extentAt (length k) (findAt edition1 (w .root) k))
+
 -- the clause of `Stepped`, for any change
 abbrev Result : (f g k v : List ℕ) {s : State} → Stands edition1 f s → Change Art → Type 0
 Result f g k v {s} w c =
     (w' : Stands edition1 g (pick (room s c) (done (pick (c .fresh) 0 9) (after s c (pick (c .fresh) (s .R + 1) (s .R)) (some (c .now)))) (done 6 s) .state))
-    × Outside f g (w .root) (w' .root) (w .lists) (w' .lists) (c .takes ++ c .frees) (putTouch edition1 (w .root) k v) (extentAt (length k) (findAt edition1 (w' .root) k)) (ltb 0 (c .extent))
+    × Outside f g (w .root) (w' .root) (w .lists) (w' .lists) (c .takes ++ c .frees) (putTouch edition1 (w .root) k v) (extentAt (length k) (findAt edition1 (w' .root) k)) (dead k w c) (ltb 0 (c .extent))
 
 -- An edit of the good frame f: in g the tree `whole` stands, the numbers are those of the model's change, and the bodies `takes`, `rewrites` and
--- `frees` were taken, rewritten and freed; the key's extent stands at `place`.
+-- `frees` were taken, rewritten and freed; the key's extent stands at `place`, and the extents `gone` died.
 record Ended (f g k v : List ℕ) {s : State} (w : Stands edition1 f s) (change : Change Art) : Type 0 where
   pub whole : Lay
   pub artIs : art whole ≡ change .now
@@ -78,7 +83,10 @@ record Ended (f g k v : List ℕ) {s : State} (w : Stands edition1 f s) (change 
   pub rewrites : List Item
   pub frees : List Item
   pub place : ℕ
-  pub since : Since f (standsView w) g view takes rewrites frees (extent place (extentOf k v) ∷ [])
+  pub gone : List Item
+  pub extents : Extents gone
+  pub dies : (a : ℕ) → sum (cover a) gone ≡ sum (cover a) (dead k w change)
+  pub since : Since f (standsView w) g view takes rewrites (gone ++ frees) (extent place (extentOf k v) ∷ [])
   pub accounts : Accounts (w .root) (putTouch edition1 (w .root) k v) (change .takes ++ change .frees) takes rewrites frees
   pub stays : stay (putTouch edition1 (w .root) k v .goes) (rootMarks (w .root)) (rootMarks (tree whole)) ≡ true
   pub look : findAt edition1 (tree whole) k ≡ some (record { at = place + length k; long = length v })
@@ -90,12 +98,13 @@ module _ (f g k v : List ℕ) {s : State} (w : Stands edition1 f s) (c : Change 
       let en : pick (c .fresh) (s .R + 1) (s .R) ≡ D .records = ap (λ (z : State). pick (c .fresh) (z .R + 1) (z .R)) (w .state) ∙ sym (D .counts) in
       rw q (ap (λ i. after s c i (some (c .now))) en ∙ book-of w c (D .whole) (c .now) (D .booked) (D .artIs))
 
-  outside : Outside f g (w .root) (tree (D .whole)) (w .lists) (D .view .lists) (c .takes ++ c .frees) (putTouch edition1 (w .root) k v) (extentAt (length k) (findAt edition1 (tree (D .whole)) k)) (ltb 0 (c .extent))
+  outside : Outside f g (w .root) (tree (D .whole)) (w .lists) (D .view .lists) (c .takes ++ c .frees) (putTouch edition1 (w .root) k v) (extentAt (length k) (findAt edition1 (tree (D .whole)) k)) (dead k w c) (ltb 0 (c .extent))
   outside =
       let e : extentAt (length k) (findAt edition1 (tree (D .whole)) k) ≡ extent (D .place) (extentOf k v) ∷ [] = ap (extentAt (length k)) (D .look) ∙ found-extent (D .place) k v in
-      subst (λ (z : List Item). Outside f g (w .root) (tree (D .whole)) (w .lists) (D .view .lists) (c .takes ++ c .frees) (putTouch edition1 (w .root) k v) z (ltb 0 (c .extent))) (sym e)
-      (outside-of (w .nums) (w .lists) (w .root) (tree (D .whole)) (D .since) (w .heap) (D .work .heap) (root-owns (D .whole) (D .work))
-      (putTouch edition1 (w .root) k v) (c .takes ++ c .frees) (D .accounts) (D .stays) (ltb 0 (c .extent))
+      subst (λ (z : List Item). Outside f g (w .root) (tree (D .whole)) (w .lists) (D .view .lists) (c .takes ++ c .frees) (putTouch edition1 (w .root) k v) z (dead k w c) (ltb 0 (c .extent))) (sym e)
+      (outside-of (w .nums) (w .lists) (w .root) (tree (D .whole)) (D .gone) (D .extents) (D .since) (w .heap) (D .work .heap) (root-owns (D .whole) (D .work))
+      (putTouch edition1 (w .root) k v) (c .takes ++ c .frees) (D .accounts) (D .stays) (dead k w c)
+      (λ a. (D .dies a, omega (arith, dying-less (cover a) (c .dead) (extentAt (length k) (findAt edition1 (w .root) k)), found-covers edition1 k (w .root) a))) (ltb 0 (c .extent))
       (λ q a h. omega (arith, D .fromB q, extent-from (D .place) (extentOf k v) a h)))
 
   result : room s c ≡ true → Result f g k v w c
@@ -130,6 +139,9 @@ module _ {f : List ℕ} {st : State} (S : Stands edition1 f st) (k v : List ℕ)
         rewrites = rs;
         frees = gs;
         place = e;
+        gone = [];
+        extents = tt;
+        dies = λ a. refl;
         since = C;
         accounts = N;
         stays = stays;
@@ -150,8 +162,8 @@ pub room-is : {f : List ℕ} (k v : List ℕ) {s : State} (w : Stands edition1 f
 room-is k v {s} w c xs e q = room-of w (over (artIn xs) c) (subst (λ (x : Change Art). room s x ≡ true) e q)
 
 -- An edit of the good frame f with the tree t in the hole xs: in g the tree `lay` stands there, the numbers are those of the model's change,
--- and the bodies `takes`, `rewrites` and `frees` were taken, rewritten and freed; the key's extent stands at `place`.
-pub record Edited (f g k v : List ℕ) {s : State} (w : Stands edition1 f s) (xs : List Step) (t : Lay) : Type 0 where
+-- and the bodies `takes`, `rewrites` and `frees` were taken, rewritten and freed; the key's extent stands at `place`, and the extents `gone` died.
+pub record EditedOver (gone : List Item) (f g k v : List ℕ) {s : State} (w : Stands edition1 f s) (xs : List Step) (t : Lay) : Type 0 where
   pub change : Change Art
   pub puts : putTree edition1 (art t) (length (pathOf xs)) k v ≡ change
   pub lay : Lay
@@ -169,13 +181,18 @@ pub record Edited (f g k v : List ℕ) {s : State} (w : Stands edition1 f s) (xs
   pub rewrites : List Item
   pub frees : List Item
   pub place : ℕ
-  pub since : Since f (standsView w) g view takes rewrites frees (extent place (extentOf k v) ∷ [])
+  pub since : Since f (standsView w) g view takes rewrites (gone ++ frees) (extent place (extentOf k v) ∷ [])
   pub accounts : Accounts (w .root) (touchPut edition1 t (holderOf xs) (length (pathOf xs)) k v) (change .takes ++ change .frees) takes rewrites frees
   pub stays : Stay (touchPut edition1 t (holderOf xs) (length (pathOf xs)) k v .goes) (marks (pathOf xs) t) (marks (pathOf xs) lay)
   pub look : findLay edition1 lay (length (pathOf xs)) k ≡ some (record { at = place + length k; long = length v })
   pub fromB : ltb 0 (change .extent) ≡ true → w .nums .B ≤ place
 
-module _ (f g k v : List ℕ) {s : State} (w : Stands edition1 f s) (xs : List Step) (t : Lay) {r : List ℕ} (er : w .root ≡ tree (plug xs t)) (L : Leads edition1 k xs r) (D : Edited f g k v w xs t) where
+-- and no extent died
+abbrev pub Edited : (f g k v : List ℕ) {s : State} → Stands edition1 f s → List Step → Lay → Type 0
+Edited f g k v w xs t = EditedOver [] f g k v w xs t
+
+module _ (f g k v : List ℕ) {s : State} (w : Stands edition1 f s) (xs : List Step) (t : Lay) {r : List ℕ} (er : w .root ≡ tree (plug xs t)) (L : Leads edition1 k xs r) {gone : List Item} (D : EditedOver gone f g k v w xs t)
+    (extents : Extents gone) (dies : (a : ℕ) → sum (cover a) gone ≡ sum (cover a) (dead k w (D .change))) where
   touch-is : putTouch edition1 (w .root) k v ≡ touchPut edition1 t (holderOf xs) (length (pathOf xs)) k v
   touch-is = ap (λ (z : Root). putTouch edition1 z k v) er ∙ plug-touch L v t
 
@@ -197,6 +214,9 @@ module _ (f g k v : List ℕ) {s : State} (w : Stands edition1 f s) (xs : List S
         rewrites = D .rewrites;
         frees = D .frees;
         place = D .place;
+        gone = gone;
+        extents = extents;
+        dies = dies;
         since = D .since;
         accounts = subst (λ (z : Touch). Accounts (w .root) z (D .change .takes ++ D .change .frees) (D .takes) (D .rewrites) (D .frees)) (sym touch-is) (D .accounts);
         stays = stay-plug xs t (D .lay) (D .stays) (ap (λ (z : Touch). z .goes) touch-is) er;
@@ -204,5 +224,9 @@ module _ (f g k v : List ℕ) {s : State} (w : Stands edition1 f s) (xs : List S
         fromB = D .fromB;
       }
 
-  pub put-done : room s (putChange edition1 s k v) ≡ true → Stepped f k v g s w
-  put-done q = ended f g k v w (over (artIn xs) (D .change)) whole-ended (change-is k v w xs t er L (D .puts)) q
+  pub put-done-over : room s (putChange edition1 s k v) ≡ true → Stepped f k v g s w
+  put-done-over q = ended f g k v w (over (artIn xs) (D .change)) whole-ended (change-is k v w xs t er L (D .puts)) q
+
+pub put-done : (f g k v : List ℕ) {s : State} (w : Stands edition1 f s) (xs : List Step) (t : Lay) {r : List ℕ} → w .root ≡ tree (plug xs t) → Leads edition1 k xs r → (D : Edited f g k v w xs t)
+    → room s (putChange edition1 s k v) ≡ true → D .change .dead ≡ 0 → Stepped f k v g s w
+put-done f g k v w xs t er L D q z = put-done-over f g k v w xs t er L D tt (λ a. ap (λ n. sum (cover a) (dying n (extentAt (length k) (findAt edition1 (w .root) k)))) (sym z)) q

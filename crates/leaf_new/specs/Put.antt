@@ -9,7 +9,7 @@ use Rattle.model.specs.Edition.{edition1, Legal, LegalValue}
 use Rattle.model.specs.State.{State, putChange, callPut}
 use Rattle.model.specs.State as state
 use Rattle.model.specs.Frame.{Lay, tree, Stands}
-use Rattle.model.specs.Touch.{Outside, putTouch, findAt, extentAt}
+use Rattle.model.specs.Touch.{Outside, putTouch, findAt, extentAt, dying}
 use Rattle.descent.specs.declared.spot.Spot.{Spot}
 use Rattle.descent.specs.Spot.{Way}
 
@@ -32,7 +32,7 @@ pub record PutAt (f k v : List ℕ) (p : Spot) : Type 0 where
 abbrev pub Stepped : (f k v f' : List ℕ) (s : State) → Stands edition1 f s → Type 0
 Stepped f k v f' s w =
     (w' : Stands edition1 f' (callPut edition1 s k v .state)) × (let c = putChange edition1 s k v in
-    Outside f f' (w .root) (w' .root) (w .lists) (w' .lists) (c .takes ++ c .frees) (putTouch edition1 (w .root) k v) (extentAt (length k) (findAt edition1 (w' .root) k)) (ltb 0 (c .extent)))
+    Outside f f' (w .root) (w' .root) (w .lists) (w' .lists) (c .takes ++ c .frees) (putTouch edition1 (w .root) k v) (extentAt (length k) (findAt edition1 (w' .root) k)) (dying (c .dead) (extentAt (length k) (findAt edition1 (w .root) k))) (ltb 0 (c .extent)))
 
 pub record PutStep (f k v f' : List ℕ) : Type 0 where
   pub after : (s : State) (w : Stands edition1 f s) → Stepped f k v f' s w

@@ -87,7 +87,7 @@ module _ {f : List ℕ} {st : State} (S : Stands edition1 f st) {k : List ℕ} {
       rest = stepsItems [] ++ forestItems (([], t1) ∷ [])
 
       pub first-frees : Frees f2 n EmptyRoot
-      first-frees = record { view = h2; heap = W2 .heap; kind = bare-kind; place = o; rest = rest; owns = first-owns W2 }
+      first-frees = record { view = h2; heap = W2 .heap; kind = bare-kind; place = o; rest = rest; owns = first-owns W2; placeIs = entries-first f2 n EmptyRoot o [] (W2 .entries) .0 .placeIs }
 
       module _ {f3 : List ℕ} (free : (h : View) (o : ℕ) (rest : List Item) → Heap f2 h → Same (h .owned) (body n EmptyRoot o ∷ rest) → placeOf f2 n ≡ o → Freed f2 f3 h n EmptyRoot o rest) where
         R : Freed f2 f3 h2 n EmptyRoot o rest

@@ -238,7 +238,7 @@ module _ {f : List ℕ} {st : State} {S : Stands edition1 f st} {k : List ℕ} {
               rest = stepsItems [] ++ forestItems (([], T1) ∷ [])
 
               pub grow-frees : Frees f4 n kind
-              grow-frees = record { view = h4; heap = W7 .heap; kind = K0; place = o; rest = rest; owns = first-owns W7 }
+              grow-frees = record { view = h4; heap = W7 .heap; kind = K0; place = o; rest = rest; owns = first-owns W7; placeIs = entries-first f4 n kind o [] (W7 .entries) .0 .placeIs }
 
               module _ {f5 : List ℕ} (free : (h : View) (o : ℕ) (rest : List Item) → Heap f4 h → Same (h .owned) (body n kind o ∷ rest) → placeOf f4 n ≡ o → Freed f4 f5 h n kind o rest) where
                 R : Freed f4 f5 h4 n kind o rest

@@ -177,4 +177,4 @@ module _ {f k v : List ℕ} {p : Spot} (N : AfterLeft f k v p) where
           pub after-put : {g : List ℕ} → Counted f4 g → Bytes g → PutStep f k v g
           after-put {g} C by =
               let A = N .at in
-              record { after = λ s w. put-done f g k v w (xs A) (old A) (root-at A w) (A .put .way .leads) (edited C by w) (any-room (A .put) s w) }
+              record { after = λ s w. put-done f g k v w (xs A) (old A) (root-at A w) (A .put .way .leads) (edited C by w) (any-room (A .put) s w) refl }

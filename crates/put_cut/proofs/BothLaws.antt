@@ -236,4 +236,4 @@ module _ {f k v : List ℕ} {p : Spot} (N : BothLeft f k v p) where
                 pub both-put : {g : List ℕ} → Counted f6 g → Bytes g → PutStep f k v g
                 both-put {g} C by =
                     let A = N .at in
-                    record { after = λ s w. put-done f g k v w (xs A) (old A) (root-at A w) (A .put .way .leads) (edited C by w) (any-room (A .put) s w) }
+                    record { after = λ s w. put-done f g k v w (xs A) (old A) (root-at A w) (A .put .way .leads) (edited C by w) (any-room (A .put) s w) refl }

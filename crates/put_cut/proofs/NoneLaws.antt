@@ -92,7 +92,7 @@ module _ {f k v : List ℕ} {p : Spot} (N : NoneLeft f k v p) where
       rest w = stepsItems [] ++ forestItems (([], plug (xs (N .at)) (knot w)) ∷ [])
 
       pub none-frees : Frees f3 (p .here .slot) Prefix
-      none-frees = record { view = view3 (w0 (N .at)); heap = closed (w0 (N .at)) .heap; kind = prefix-kind; place = p .here .place; rest = rest (w0 (N .at)); owns = first-owns (closed (w0 (N .at))) }
+      none-frees = record { view = view3 (w0 (N .at)); heap = closed (w0 (N .at)) .heap; kind = prefix-kind; place = p .here .place; rest = rest (w0 (N .at)); owns = first-owns (closed (w0 (N .at))); placeIs = entries-first f3 (p .here .slot) Prefix (p .here .place) [] (closed (w0 (N .at)) .entries) .0 .placeIs }
 
       module _ {f4 : List ℕ} (free : (h : View) (o : ℕ) (rest : List Item) → Heap f3 h → Same (h .owned) (body (p .here .slot) Prefix o ∷ rest) → placeOf f3 (p .here .slot) ≡ o → Freed f3 f4 h (p .here .slot) Prefix o rest) where
         freed : {s : State} (w : Stands edition1 f s) → Freed f3 f4 (view3 w) (p .here .slot) Prefix (p .here .place) (rest w)
@@ -174,4 +174,4 @@ module _ {f k v : List ℕ} {p : Spot} (N : NoneLeft f k v p) where
         pub none-put : {g : List ℕ} → Counted f4 g → Bytes g → PutStep f k v g
         none-put {g} C by =
             let A = N .at in
-            record { after = λ s w. put-done f g k v w (xs A) (old A) (root-at A w) (A .put .way .leads) (edited C by w) (any-room (A .put) s w) }
+            record { after = λ s w. put-done f g k v w (xs A) (old A) (root-at A w) (A .put .way .leads) (edited C by w) (any-room (A .put) s w) refl }
