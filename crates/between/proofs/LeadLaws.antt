@@ -16,10 +16,10 @@ use Rattle.model.specs.Edition.{Edition}
 use Rattle.model.specs.Item.{extent}
 use Rattle.model.specs.Tree.{Art, Kids, extentOf, count, has, join, placeIn, carried, over, newKey, findTree, findKids, putTree, putKids}
 use Rattle.model.proofs.StandsGood.{length-pairs}
-use Rattle.model.specs.Frame.{Lay, LayKids, art, artKids, pairs, Begins, Tree}
+use Rattle.model.specs.Frame.{Lay, LayKids, art, artKids, pairs, Begins, Tree, Root, tree}
 use Rattle.model.specs.Frame.Lay.{leaf, prefix, node}
 use Rattle.model.specs.Frame.LayKids.{nil, kid}
-use Rattle.model.specs.Touch.{hasByte, touchPut, touchPutKids, findLay, findLayKids, extentAt}
+use Rattle.model.specs.Touch.{hasByte, touchPut, touchPutKids, findLay, findLayKids, findAt, extentAt}
 use Rattle.model.proofs.StringLaws.{shared-whole, same-refl}
 use Rattle.model.proofs.ChainLaws.{Hung, hung-atop, atop-full, below-hung, put-atop, find-atop}
 use Rattle.inner.proofs.InnerLaws.{inner-asc}
@@ -275,6 +275,11 @@ join-look E k d b i t (kid c j l ks) e h =
 
 pub found-extent : (e : ℕ) (k v : List ℕ) → extentAt (length k) (some (record { at = e + length k; long = length v })) ≡ extent e (extentOf k v) ∷ []
 found-extent e k v = let q : e + length k - length k ≡ e = omega arith in rw q refl
+
+-- where the extent of a key stands whose way ends at its Leaf
+pub plug-extent : {E : Edition} {k : List ℕ} {xs : List Step} {r : List ℕ} → Leads E k xs r → (root : Root) (s o e : ℕ) (v : List ℕ) → root ≡ tree (plug xs (leaf s o e k v)) → extentAt (length k) (findAt E root k) ≡ extent e (extentOf k v) ∷ []
+plug-extent {E} {k} {xs} L root s o e v q =
+    ap (λ (z : Root). extentAt (length k) (findAt E z k)) q ∙ ap (extentAt (length k)) (plug-look L (leaf s o e k v) ∙ leaf-look E s o e k v (length (pathOf xs))) ∙ found-extent e k v
 
 -- ---- put at a node without that byte
 

@@ -181,6 +181,7 @@ pub record EditedOver (gone : List Item) (f g k v : List ℕ) {s : State} (w : S
   pub rewrites : List Item
   pub frees : List Item
   pub place : ℕ
+  pub dies : (a : ℕ) → sum (cover a) gone ≡ sum (cover a) (dead k w change)
   pub since : Since f (standsView w) g view takes rewrites (gone ++ frees) (extent place (extentOf k v) ∷ [])
   pub accounts : Accounts (w .root) (touchPut edition1 t (holderOf xs) (length (pathOf xs)) k v) (change .takes ++ change .frees) takes rewrites frees
   pub stays : Stay (touchPut edition1 t (holderOf xs) (length (pathOf xs)) k v .goes) (marks (pathOf xs) t) (marks (pathOf xs) lay)
@@ -192,7 +193,7 @@ abbrev pub Edited : (f g k v : List ℕ) {s : State} → Stands edition1 f s →
 Edited f g k v w xs t = EditedOver [] f g k v w xs t
 
 module _ (f g k v : List ℕ) {s : State} (w : Stands edition1 f s) (xs : List Step) (t : Lay) {r : List ℕ} (er : w .root ≡ tree (plug xs t)) (L : Leads edition1 k xs r) {gone : List Item} (D : EditedOver gone f g k v w xs t)
-    (extents : Extents gone) (dies : (a : ℕ) → sum (cover a) gone ≡ sum (cover a) (dead k w (D .change))) where
+    (extents : Extents gone) where
   touch-is : putTouch edition1 (w .root) k v ≡ touchPut edition1 t (holderOf xs) (length (pathOf xs)) k v
   touch-is = ap (λ (z : Root). putTouch edition1 z k v) er ∙ plug-touch L v t
 
@@ -216,7 +217,7 @@ module _ (f g k v : List ℕ) {s : State} (w : Stands edition1 f s) (xs : List S
         place = D .place;
         gone = gone;
         extents = extents;
-        dies = dies;
+        dies = D .dies;
         since = D .since;
         accounts = subst (λ (z : Touch). Accounts (w .root) z (D .change .takes ++ D .change .frees) (D .takes) (D .rewrites) (D .frees)) (sym touch-is) (D .accounts);
         stays = stay-plug xs t (D .lay) (D .stays) (ap (λ (z : Touch). z .goes) touch-is) er;
@@ -227,6 +228,6 @@ module _ (f g k v : List ℕ) {s : State} (w : Stands edition1 f s) (xs : List S
   pub put-done-over : room s (putChange edition1 s k v) ≡ true → Stepped f k v g s w
   put-done-over q = ended f g k v w (over (artIn xs) (D .change)) whole-ended (change-is k v w xs t er L (D .puts)) q
 
-pub put-done : (f g k v : List ℕ) {s : State} (w : Stands edition1 f s) (xs : List Step) (t : Lay) {r : List ℕ} → w .root ≡ tree (plug xs t) → Leads edition1 k xs r → (D : Edited f g k v w xs t)
-    → room s (putChange edition1 s k v) ≡ true → D .change .dead ≡ 0 → Stepped f k v g s w
-put-done f g k v w xs t er L D q z = put-done-over f g k v w xs t er L D tt (λ a. ap (λ n. sum (cover a) (dying n (extentAt (length k) (findAt edition1 (w .root) k)))) (sym z)) q
+pub put-done : (f g k v : List ℕ) {s : State} (w : Stands edition1 f s) (xs : List Step) (t : Lay) {r : List ℕ} → w .root ≡ tree (plug xs t) → Leads edition1 k xs r → Edited f g k v w xs t
+    → room s (putChange edition1 s k v) ≡ true → Stepped f k v g s w
+put-done f g k v w xs t er L D q = put-done-over f g k v w xs t er L D tt q

@@ -151,6 +151,7 @@ module _ {f k v : List ℕ} {p : Spot} (N : AfterLeft f k v p) where
                 rewrites = holderItems (xs A) ++ own A ∷ [];
                 frees = [];
                 place = taken h1 Leaf .nums .B;
+                dies = λ a. refl;
                 since = end-since (knot w) (forked w) link (fits w) refl suits R C Z;
                 accounts = subst (λ (t : Touch). Accounts (w .root) t (Leaf ∷ Node4 ∷ []) bs (holderItems (xs A) ++ own A ∷ []) [])
                     (sym (touch-after k (pathOf (xs A)) (word A) Q v (p .here .slot) (p .here .place) (holderOf (xs A)) (A .part .below) (front-none A (N .before)) after-some))
@@ -177,4 +178,4 @@ module _ {f k v : List ℕ} {p : Spot} (N : AfterLeft f k v p) where
           pub after-put : {g : List ℕ} → Counted f4 g → Bytes g → PutStep f k v g
           after-put {g} C by =
               let A = N .at in
-              record { after = λ s w. put-done f g k v w (xs A) (old A) (root-at A w) (A .put .way .leads) (edited C by w) (any-room (A .put) s w) refl }
+              record { after = λ s w. put-done f g k v w (xs A) (old A) (root-at A w) (A .put .way .leads) (edited C by w) (any-room (A .put) s w) }

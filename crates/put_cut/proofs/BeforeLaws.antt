@@ -129,6 +129,7 @@ module _ {f k v : List ℕ} {p : Spot} (N : BeforeLeft f k v p) where
             rewrites = own A ∷ [];
             frees = [];
             place = taken h1 Leaf .nums .B;
+            dies = λ a. refl;
             since = since-count (since-write (Y .only) (λ a l u. omega (arith, cover-body a (p .here .slot) Prefix (p .here .place) (omega arith) (omega arith), sum-cons (cover a) (own A) []))
                 (bare-since A before-gone before-puts took ey G w (since-also (own A ∷ []) (since-start (w .heap))))) C3;
             accounts = subst (λ (t : Touch). Accounts (w .root) t (Leaf ∷ Node4 ∷ []) bs (own A ∷ []) [])
@@ -164,4 +165,4 @@ module _ {f k v : List ℕ} {p : Spot} (N : BeforeLeft f k v p) where
       pub before-put : {g : List ℕ} → Counted f3 g → Bytes g → PutStep f k v g
       before-put {g} C by =
           let A = N .at in
-          record { after = λ s w. put-done f g k v w (xs A) (old A) (root-at A w) (A .put .way .leads) (edited C by w) (any-room (A .put) s w) refl }
+          record { after = λ s w. put-done f g k v w (xs A) (old A) (root-at A w) (A .put .way .leads) (edited C by w) (any-room (A .put) s w) }

@@ -206,6 +206,7 @@ module _ {f k v : List ℕ} {p : Spot} (N : BothLeft f k v p) where
                       rewrites = holderItems (xs A) ++ own A ∷ [];
                       frees = [];
                       place = taken (view2 w) Leaf .nums .B;
+                      dies = λ a. refl;
                       since = end-since (crown w) (topped w) link (fits w) refl suits R C Z4;
                       accounts = subst (λ (t : Touch). Accounts (w .root) t (Leaf ∷ Node4 ∷ Prefix ∷ []) bs (holderItems (xs A) ++ own A ∷ []) [])
                           (sym (touch-both k (pathOf (xs A)) (word A) Q v (p .here .slot) (p .here .place) (holderOf (xs A)) (A .part .below) some both-some))
@@ -236,4 +237,4 @@ module _ {f k v : List ℕ} {p : Spot} (N : BothLeft f k v p) where
                 pub both-put : {g : List ℕ} → Counted f6 g → Bytes g → PutStep f k v g
                 both-put {g} C by =
                     let A = N .at in
-                    record { after = λ s w. put-done f g k v w (xs A) (old A) (root-at A w) (A .put .way .leads) (edited C by w) (any-room (A .put) s w) refl }
+                    record { after = λ s w. put-done f g k v w (xs A) (old A) (root-at A w) (A .put .way .leads) (edited C by w) (any-room (A .put) s w) }

@@ -139,6 +139,7 @@ module _ {f k v : List ℕ} {p : Spot} (N : NoneLeft f k v p) where
               rewrites = holderItems (xs A) ++ [];
               frees = own A ∷ [];
               place = taken h1 Leaf .nums .B;
+              dies = λ a. refl;
               since = since-count (since-free prefix-kind (closed w .heap) (first-owns (closed w))
                   (since-link m (p .here .link) (xs A) (A .put .way .linkIs) (forked w) R (bare-since A none-gone none-puts took ey G w (since-start (w .heap)))) (freed w)) C4;
               accounts = subst (λ (t : Touch). Accounts (w .root) t (Leaf ∷ Node4 ∷ Prefix ∷ []) bs (holderItems (xs A) ++ []) (own A ∷ []))
@@ -174,4 +175,4 @@ module _ {f k v : List ℕ} {p : Spot} (N : NoneLeft f k v p) where
         pub none-put : {g : List ℕ} → Counted f4 g → Bytes g → PutStep f k v g
         none-put {g} C by =
             let A = N .at in
-            record { after = λ s w. put-done f g k v w (xs A) (old A) (root-at A w) (A .put .way .leads) (edited C by w) (any-room (A .put) s w) refl }
+            record { after = λ s w. put-done f g k v w (xs A) (old A) (root-at A w) (A .put .way .leads) (edited C by w) (any-room (A .put) s w) }

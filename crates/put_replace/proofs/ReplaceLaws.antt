@@ -14,22 +14,23 @@ use Rattle.layout.specs.Kind.{Leaf}
 use Rattle.model.specs.Edition.{edition1}
 use Rattle.model.specs.Tree.{Art, Change, up8, extentOf, putTree}
 use Rattle.model.specs.State.{State, room}
-use Rattle.model.specs.Item.{Item, body, extent, cover, Same}
+use Rattle.model.specs.Item.{Item, body, extent, cover, sum, Same}
 use Rattle.model.specs.Item as item
 use Rattle.model.specs.Frame.{Lay, slotOf, LeafOf, View, Heap, tree, Stands}
 use Rattle.model.specs.Frame.Lay.{leaf}
-use Rattle.model.specs.Touch.{Touch, touch, touchPut}
+use Rattle.model.specs.Touch.{Touch, touch, touchPut, findAt, extentAt}
 use Rattle.model.specs.Freedom.{is}
 use Rattle.model.proofs.StringLaws.{same-refl}
+use Rattle.model.proofs.Edition1.{key-passes}
 use Rattle.model.proofs.ItemLaws.{sum-app, sum-cons}
 use Rattle.model.proofs.MarkLaws.{leaf-marks, stay-more}
 use Rattle.moves.specs.Moved.{Keeps}
 use Rattle.moves.proofs.MoveLaws.{le-keeps}
 use Rattle.room.specs.View.{extended, retired}
 use Rattle.moves.specs.Pasted.{Pasted}
-use Rattle.room.specs.Step.{Extends, Extended, Retires, Renumbered}
+use Rattle.room.specs.Step.{Extends, Extended, Retires, Died}
 use Rattle.room.specs.Book.{takenAll, Kinds}
-use Rattle.room.proofs.HeapLaws.{touch-extent, cover-body, cover-extent}
+use Rattle.room.proofs.HeapLaws.{any-write, touch-extent, cover-body, cover-extent}
 use Rattle.room.proofs.BookLaws.{room-last}
 use Rattle.descent.specs.declared.spot.Spot.{Spot}
 use Rattle.between.specs.Hole.{Step, plug, pathOf, stepsItems, holderOf}
@@ -38,16 +39,16 @@ use Rattle.between.specs.Since.{written, Accounts}
 use Rattle.between.specs.Edit.{LeafWritten, Booked}
 use Rattle.between.proofs.TreeLaws.{sum-none, leaf-sum, body-kept}
 use Rattle.between.proofs.HoleLaws.{suits-any, plug-sum}
-use Rattle.between.proofs.LeadLaws.{leaf-look}
-use Rattle.between.proofs.WorkLaws.{standsView, stands-sum, work-close, work-extend, work-turn, work-write, work-paste, work-retire, first-owns, any-write, make-leaf, leafy-leaf}
-use Rattle.between.proofs.EditLaws.{leaf-written, text-of, up8-is}
+use Rattle.between.proofs.LeadLaws.{leaf-look, plug-extent}
+use Rattle.between.proofs.WorkLaws.{standsView, stands-sum, work-close, work-extend, work-turn, work-write, work-paste, work-retire, first-owns, make-leaf, leafy-leaf}
+use Rattle.between.proofs.EditLaws.{leaf-written, text-of, up8-is, extent-some}
 use Rattle.between.proofs.ChangeLaws.{changed-only}
 use Rattle.between.proofs.SinceLaws.{stepped-start, since-start, since-also, since-extend, since-write, since-retire}
 use Rattle.between.proofs.OutsideLaws.{among-here}
 use Rattle.between.proofs.BookedLaws.{booked-row, booked-extend, booked-retire}
 use Rattle.leaf_new.specs.Put.{PutStep}
 use Rattle.leaf_new.proofs.OpenLaws.{leaf-opened, leaf-loose, leaf-room}
-use Rattle.leaf_new.proofs.DoneLaws.{any-root, any-room, Edited, change-is, room-is, put-done}
+use Rattle.leaf_new.proofs.DoneLaws.{any-root, any-room, Edited, EditedOver, change-is, room-is, put-done, put-done-over}
 use Rattle.put_replace.specs.Put.{Present}
 
 -- ---- what put makes of the Leaf
@@ -139,6 +140,7 @@ module _ {f : List ℕ} {s : State} (w : Stands edition1 f s) (xs : List Step) (
           rewrites = [];
           frees = [];
           place = e;
+          dies = λ a. refl;
           since = record {
             changed = changed-only (written [] [] [] (x ∷ [])) (G .only) (λ a p q. omega (arith, sum-cons (cover a) x [], cover-extent a e (extentOf k v) (omega arith) (omega arith)));
             stepped = stepped-start (w .heap);
@@ -195,13 +197,14 @@ module _ {f : List ℕ} {s : State} (w : Stands edition1 f s) (xs : List Step) (
     abbrev pub lastView : View
     lastView = retired (extended (standsView w) (extentOf k v)) (extentOf k v') others
 
-    module _ (f3 : List ℕ) (C : Renumbered f2 f3 (extended (standsView w) (extentOf k v)) lastView) where
+    module _ (f3 : List ℕ) (C : Died f2 f3 (extended (standsView w) (extentOf k v)) e (extentOf k v') others) where
       book : Booked (standsView w) lastView [] [] (extentOf k v) (extentOf k v') (w .nums .R)
       unfolding takenAll
       book = booked-retire (booked-extend (booked-row (standsView w) [] Kinds.nil (w .heap .lists .eight)) (extentOf k v) (extentOf k v) (omega arith)) (extentOf k v') (extentOf k v') others (omega arith)
 
-      pub renewed : Bytes f3 → Edited f f3 k v w xs (leaf n o e k v')
-      renewed by =
+      -- the extent was the key's
+      pub renewed : extentAt (length k) (findAt edition1 (w .root) k) ≡ extent e (extentOf k v') ∷ [] → 1 ≤ extentOf k v' → Bytes f3 → EditedOver (extent e (extentOf k v') ∷ []) f f3 k v w xs (leaf n o e k v')
+      renewed was some by =
           let d = length (pathOf xs) in
           let b = body n Leaf o in
           let Z0 = since-also (b ∷ []) (since-start (w .heap)) in
@@ -225,6 +228,7 @@ module _ {f : List ℕ} {s : State} (w : Stands edition1 f s) (xs : List Step) (
             rewrites = b ∷ [];
             frees = [];
             place = e';
+            dies = λ a. rw (ne-eqb (extentOf k v') 0 (λ z. omega arith)) (ap (sum (cover a)) (sym was));
             since = since-retire e (extentOf k v') (first-owns renewed-work) Z2 C;
             accounts = subst (λ (t : Touch). Accounts (w .root) t [] [] (b ∷ []) []) (sym (touch-other n o e k v v' (holderOf xs) d diff))
                 (record {
@@ -330,27 +334,31 @@ module _ {f k v : List ℕ} {p : Spot} (P : Present f k v p) where
             size-old : m ≡ extentOf k (P .found .value)
             size-old = em ∙ ap (λ i. up8 (length k + i)) old-is
 
+            size-some : 1 ≤ extentOf k (P .found .value)
+            size-some = extent-some k (P .found .value) (key-passes k (P .put .ready .legal .passes) .some)
+
             module _ {was : ℕ} (ee : was ≡ le 4 f (p .here .place + leafExtent)) where
               pub retire-ok : Retires f2 was m
               retire-ok =
                   let W = work-at (P .put .ready .st) (P .put .ready .stands) in
-                  rw (size-old, extent-is ee) (record { view = extended (standsView (P .put .ready .stands)) (extentOf k v); heap = W .heap; rest = _; owns = first-owns W })
+                  rw (size-old, extent-is ee) (record { view = extended (standsView (P .put .ready .stands)) (extentOf k v); heap = W .heap; rest = _; owns = first-owns W; some = size-some })
 
-              pub ends-other : {g : List ℕ} → ((h : View) (rest : List Item) → Heap f2 h → Same (h .owned) (extent was m ∷ rest) → Renumbered f2 g h (retired h m rest)) → Bytes g → PutStep f k v g
+              pub ends-other : {g : List ℕ} → ((h : View) (rest : List Item) → Heap f2 h → Same (h .owned) (extent was m ∷ rest) → Died f2 g h was m rest) → Bytes g → PutStep f k v g
               ends-other {g} C by =
                   let xs = P .put .way .steps in
                   let n = p .here .slot in
                   let o = p .here .place in
                   let x = P .found .extent in
                   let v' = P .found .value in
-                  let C1 : (h : View) (rest : List Item) → Heap f2 h → Same (h .owned) (extent was (extentOf k v') ∷ rest) → Renumbered f2 g h (retired h (extentOf k v') rest)
-                  = subst (λ i. (h : View) (rest : List Item) → Heap f2 h → Same (h .owned) (extent was i ∷ rest) → Renumbered f2 g h (retired h i rest)) size-old C in
-                  let C' : (h : View) (rest : List Item) → Heap f2 h → Same (h .owned) (extent x (extentOf k v') ∷ rest) → Renumbered f2 g h (retired h (extentOf k v') rest)
-                  = subst (λ i. (h : View) (rest : List Item) → Heap f2 h → Same (h .owned) (extent i (extentOf k v') ∷ rest) → Renumbered f2 g h (retired h (extentOf k v') rest)) (extent-is ee) C1 in
+                  let C1 : (h : View) (rest : List Item) → Heap f2 h → Same (h .owned) (extent was (extentOf k v') ∷ rest) → Died f2 g h was (extentOf k v') rest
+                  = subst (λ i. (h : View) (rest : List Item) → Heap f2 h → Same (h .owned) (extent was i ∷ rest) → Died f2 g h was i rest) size-old C in
+                  let C' : (h : View) (rest : List Item) → Heap f2 h → Same (h .owned) (extent x (extentOf k v') ∷ rest) → Died f2 g h x (extentOf k v') rest
+                  = subst (λ i. (h : View) (rest : List Item) → Heap f2 h → Same (h .owned) (extent i (extentOf k v') ∷ rest) → Died f2 g h i (extentOf k v') rest) (extent-is ee) C1 in
                   record {
                     after = λ s w.
                         let W = work-at s w in
-                        put-done f g k v w xs (leaf n o x k v') (root-at s w) (P .put .way .leads)
-                        (renewed w xs n o x k v' (root-at s w) f1 f2 v e other-length (extended-at s w) leaf-at g (C' (extended (standsView w) (extentOf k v)) _ (W .heap) (first-owns W)) by)
+                        put-done-over f g k v w xs (leaf n o x k v') (root-at s w) (P .put .way .leads)
+                        (renewed w xs n o x k v' (root-at s w) f1 f2 v e other-length (extended-at s w) leaf-at g (C' (extended (standsView w) (extentOf k v)) _ (W .heap) (first-owns W))
+                        (plug-extent (P .put .way .leads) (w .root) n o x v' (root-at s w)) size-some by) tt
                         (any-room (P .put) s w);
                   }

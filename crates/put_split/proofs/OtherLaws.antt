@@ -273,5 +273,5 @@ module _ {f k v : List ℕ} {p : Spot} (A : AtOther f k v p) where
                     record {
                       after = λ s w.
                           put-done f g k v w xs old (root-at s w) (A .put .way .leads)
-                          (split-all (beside s w) v (room-of s w) (took-node s w) (grown s w) (forked-as G) (written-row s w) R C by) (any-room (A .put) s w) refl;
+                          (split-all (beside s w) v (room-of s w) (took-node s w) (grown s w) (forked-as G) (written-row s w) R C by) (any-room (A .put) s w);
                     }

@@ -211,6 +211,7 @@ module _ {f : List ℕ} {st : State} {w : Stands edition1 f st} {k : List ℕ} {
                   rewrites = holderItems xs ++ [];
                   frees = [];
                   place = taken view2 Leaf .nums .B;
+                  dies = λ a. refl;
                   since = end-since (Y .lay) raised (P .link) top-fits et suits R C Z4;
                   accounts = accounts (made .takes ++ []) bs
                       (record { takes = row-bodies (Z .new) (b4 ∷ []) tt; frees = λ s. refl; kindsIn = tt; slotsIn = holders-in w xs old (P .is) opened; freesIn = λ z. omega (arith, sum-none z); rewritesIn = holders-some w xs old (P .is) });
