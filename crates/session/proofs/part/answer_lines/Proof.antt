@@ -7,10 +7,10 @@ use lib.ListN.{length, take, drop}
 use borrow.Author.Needs.{needs}
 use Rattle.model.specs.Edition.{edition1}
 use Rattle.lines.specs.Input.{Held}
-use Rattle.turns.specs.Part.{Part}
-use Rattle.turns.proofs.PartLaws.{moved, begins, on}
-use Rattle.turns.proofs.part.answer_lines.Statement.{statement}
-use Rattle.turns.proofs.part.answer_lines.Tie as tie
+use Rattle.session.specs.Part.{Part}
+use Rattle.session.proofs.PartLaws.{moved, begins, on}
+use Rattle.session.proofs.part.answer_lines.Statement.{statement}
+use Rattle.session.proofs.part.answer_lines.Tie as tie
 
 abbrev Inv-loop : tie.InvT-loop
 Inv-loop buffer₀ packed₀ held₀ out₀ piece from long have long₀ have₀ next₀ written₀ buffer packed held out long' have' next written =

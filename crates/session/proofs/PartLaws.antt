@@ -13,10 +13,10 @@ use Rattle.lines.specs.declared.input.Taking.{Taking}
 use Rattle.lines.specs.Input.{linesAfter, restAfter, Held, Takes}
 use Rattle.lines.proofs.CutLaws.{rest-append, goes-on, ends, wholeLine}
 use Rattle.dialog.specs.Answer.{question, Answer, Replies}
-use Rattle.turns.specs.declared.part.Answered.{Answered}
-use Rattle.turns.specs.Session.{done, turn, unended}
-use Rattle.turns.specs.Part.{Part, Answers}
-use Rattle.turns.proofs.SessionLaws.{parts}
+use Rattle.session.specs.declared.part.Answered.{Answered}
+use Rattle.session.specs.Session.{done, turn, unended}
+use Rattle.session.specs.Part.{Part, Answers}
+use Rattle.session.proofs.SessionLaws.{parts}
 
 -- ---- the end
 

@@ -12,8 +12,8 @@ ghost use lib.ListN.{length};
 ghost use Rattle.model.specs.Edition.{edition1};
 ghost use Rattle.lines.specs.Input.{Held};
 ghost use Rattle.dialog.specs.Answer.{Wide, Answer};
-ghost use Rattle.turns.specs.Session.{greeting, unended};
-ghost use Rattle.turns.specs.Part.{Lent, Answers};
+ghost use Rattle.session.specs.Session.{greeting, unended};
+ghost use Rattle.session.specs.Part.{Lent, Answers};
 
 // The length of the frame in use, and how much of a line has come.
 pub struct Answered {

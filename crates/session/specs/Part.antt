@@ -5,8 +5,8 @@ use lib.ListN.{length, take, drop}
 use Rattle.model.specs.Edition.{Edition}
 use Rattle.lines.specs.Input.{linesAfter, restAfter, Held}
 use Rattle.dialog.specs.Answer.{Wide}
-use Rattle.turns.specs.declared.part.Answered.{Answered}
-use Rattle.turns.specs.Session.{Turns}
+use Rattle.session.specs.declared.part.Answered.{Answered}
+use Rattle.session.specs.Session.{Turns}
 
 -- the buffers of a session: the frame's and the packed frame's, a line's, and the replies'
 pub record Lent (b packed held out : List ℕ) : Type 0 where

@@ -1,9 +1,9 @@
--- `run` is safe: what it writes stands in `out`. Assumes nothing.
+-- `main` is safe: what it writes stands in `out`. Assumes nothing.
 use mathlib.Core.Path.{sym}
 use lib.Seq.{length-take-le}
 use borrow.Author.Needs.{needs}
-use Rattle.turns.proofs.run.Statement.{statement}
-use Rattle.turns.proofs.run.Tie as tie
+use Rattle.session.proofs.main.Statement.{statement}
+use Rattle.session.proofs.main.Tie as tie
 
 slice-aggregate-greet : tie.Need-slice-aggregate-greet
 slice-aggregate-greet c = search needs
@@ -53,8 +53,8 @@ write-all-requires-2 c κs = search needs
 returns : tie.Need-returns
 returns c = search needs
 
-pub run-spec : {M : Type 1} → statement M
-run-spec =
+pub main-spec : {M : Type 1} → statement M
+main-spec =
     tie.close
     (tie.spec
     slice-aggregate-greet

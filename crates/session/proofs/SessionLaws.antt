@@ -6,7 +6,7 @@ use lib.ListN.{length}
 use Rattle.model.specs.Edition.{Edition}
 use Rattle.lines.specs.Input.{linesAfter, restAfter}
 use Rattle.lines.proofs.CutLaws.{lines-append, rest-append}
-use Rattle.turns.specs.Session.{Turns, done, turn, Pieces, over, piece, Session, greeting, unended}
+use Rattle.session.specs.Session.{Turns, done, turn, Pieces, over, piece, Session, greeting, unended}
 
 module _ {E : Edition} where
   pub turns-append : {b b₁ b₂ t u : List ℕ} {long long₁ long₂ : ℕ} {l m : List (List ℕ)} → Turns E b long l b₁ long₁ t → Turns E b₁ long₁ m b₂ long₂ u

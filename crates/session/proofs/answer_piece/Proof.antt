@@ -8,10 +8,10 @@ use lib.Seq.{take-all, length-take-le}
 use borrow.Author.Needs.{needs}
 use Rattle.model.specs.Edition.{edition1}
 use Rattle.lines.specs.Input.{Held}
-use Rattle.turns.specs.Part.{Part}
-use Rattle.turns.proofs.PartLaws.{begins, further}
-use Rattle.turns.proofs.answer_piece.Statement.{statement}
-use Rattle.turns.proofs.answer_piece.Tie as tie
+use Rattle.session.specs.Part.{Part}
+use Rattle.session.proofs.PartLaws.{begins, further}
+use Rattle.session.proofs.answer_piece.Statement.{statement}
+use Rattle.session.proofs.answer_piece.Tie as tie
 
 abbrev Inv-loop : tie.InvT-loop
 Inv-loop buffer₀ packed₀ held₀ out₀ piece long₀ have₀ from₀ buffer packed held out long have from =

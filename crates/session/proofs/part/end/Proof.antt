@@ -1,9 +1,9 @@
 -- `part::end` meets its contract: nothing is left of a line, or something. Assumes nothing.
 use native.Mathlib.Omega.{arith}
 use borrow.Author.Needs.{needs}
-use Rattle.turns.proofs.PartLaws.{none-left, some-left}
-use Rattle.turns.proofs.part.end.Statement.{statement}
-use Rattle.turns.proofs.part.end.Tie as tie
+use Rattle.session.proofs.PartLaws.{none-left, some-left}
+use Rattle.session.proofs.part.end.Statement.{statement}
+use Rattle.session.proofs.part.end.Tie as tie
 
 returns : tie.Need-returns
 returns c = record { within = omega arith; text = none-left (c .if1 .taken) }

@@ -6,10 +6,10 @@ use native.Mathlib.Omega.{arith}
 use lib.ListN.{length}
 use borrow.Author.Needs.{needs}
 use Rattle.model.specs.Edition.{edition1}
-use Rattle.turns.specs.Part.{Part}
-use Rattle.turns.proofs.PartLaws.{fresh, begins, read-on}
-use Rattle.turns.proofs.answer_all.Statement.{statement}
-use Rattle.turns.proofs.answer_all.Tie as tie
+use Rattle.session.specs.Part.{Part}
+use Rattle.session.proofs.PartLaws.{fresh, begins, read-on}
+use Rattle.session.proofs.answer_all.Statement.{statement}
+use Rattle.session.proofs.answer_all.Tie as tie
 
 abbrev Inv-loop : tie.InvT-loop
 Inv-loop buffer₀ packed₀ held₀ out₀ kept₀ turns₀ buffer packed held out kept turns =

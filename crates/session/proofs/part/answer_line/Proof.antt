@@ -1,9 +1,9 @@
 -- `part::answer_line` meets its contract: the line is answered, or it goes on. Assumes nothing.
 use native.Mathlib.Omega.{arith}
 use borrow.Author.Needs.{needs}
-use Rattle.turns.proofs.PartLaws.{answered, unanswered}
-use Rattle.turns.proofs.part.answer_line.Statement.{statement}
-use Rattle.turns.proofs.part.answer_line.Tie as tie
+use Rattle.session.proofs.PartLaws.{answered, unanswered}
+use Rattle.session.proofs.part.answer_line.Statement.{statement}
+use Rattle.session.proofs.part.answer_line.Tie as tie
 
 take-requires : tie.Need-take-requires
 take-requires c κs = search needs
