@@ -19,8 +19,8 @@ pub enum Fill {
     Sparse,
     /// Records put until 6, less a few, so that there is room for each call.
     Full,
-    /// A full one of which a third was erased, and of what is left a quarter got
-    /// a value of another length, as far as there was room.
+    /// Three quarters of a full one's records, of which a third was erased again,
+    /// and of the others about a quarter got a value of another length.
     Churned,
 }
 
@@ -38,7 +38,8 @@ impl Fill {
     fn records(self, most: usize) -> usize {
         match self {
             Fill::Sparse => (most / 10).max(2),
-            Fill::Full | Fill::Churned => most - (most / 50).max(1),
+            Fill::Full => most - (most / 50).max(1),
+            Fill::Churned => most - most / 4,
         }
     }
 }
@@ -208,7 +209,7 @@ fn filled(f: usize, n: usize, fill: Fill) -> (Vec<Record>, Vec<Record>, Vec<u8>)
     }
 }
 
-/// Erases a third of the records, and gives a quarter of the others another
+/// Erases a third of the records, and gives about a quarter of the others another
 /// length; gives those that are there then.
 fn churned(frame: &mut [u8], records: Vec<Record>) -> Vec<Record> {
     let mut left = Vec::new();
