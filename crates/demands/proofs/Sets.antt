@@ -19,7 +19,7 @@ use Rattle.model.specs.State.{State, Done, unless, formatted, findIn, putChange
 use Rattle.model.specs.Image.{treeOf}
 use Rattle.model.specs.Visits.{visitsIn}
 use Rattle.model.specs.Frame.{Root, Stands, RootAt, rootArt}
-use Rattle.model.specs.Touch.{Part, Outside, putTouch, findAt, extentAt}
+use Rattle.model.specs.Touch.{Part, Outside, putTouch, findAt, dying, extentAt}
 use Rattle.model.specs.Promise.{FormatOk, FormatPromise, Found, foundOf, onLookUp, LookUpPromise, ValuePromise, changes, WritePromise, PutPromise, ReplacePromise, PutOrReplacePromise, ErasePromise, PackPromise}
 use Rattle.model.specs.Call.{Call, put, replace, erase, keyOf, edited, given, Called}
 use Rattle.model.proofs.StringLaws.{eqb-cases, leb-cases, clash}
@@ -152,7 +152,7 @@ module _ {E : Edition} (L : Lawful E) (faults : (k : List ℕ) → E .keyFault k
         answer = λ s w. p .answer s w ∙ ap (λ (d : Done). d .answer) (is s w);
         after = λ s w. subst
             (λ (d : Done). (w' : Stands E f' (d .state)) × (changes n ≡ true → let c = putChange E s k v in
-            Outside f f' (w .root) (w' .root) (w .lists) (w' .lists) (c .takes ++ c .frees) (putTouch E (w .root) k v) (extentAt (length k) (findAt E (w' .root) k)) (ltb 0 (c .extent))))
+            Outside f f' (w .root) (w' .root) (w .lists) (w' .lists) (c .takes ++ c .frees) (putTouch E (w .root) k v) (extentAt (length k) (findAt E (w' .root) k)) (dying (c .dead) (extentAt (length k) (findAt E (w .root) k))) (ltb 0 (c .extent))))
             (is s w) (p .after s w);
         kept = p .kept;
       }
