@@ -85,7 +85,7 @@ format-ok f len cap h = (
     least a b g = leb-cases a b (λ t q. q) (λ t q. absurd (h (λ x. (let y = g x in omega arith))))
 
 module _ {E : Edition} (L : Lawful E) (faults : (k : List ℕ) → E .keyFault k ≤ 7) where
-  ascends : (f : List ℕ) (rs : List Record) → Holds E f rs → Ascending rs
+  pub ascends : (f : List ℕ) (rs : List Record) → Holds E f rs → Ascending rs
   ascends f rs h = subst Ascending (h .set) (tree-ascending L (h .state .tree) (stands-good E f (h .state) (h .stands) .well))
 
   pub one-set : (f : List ℕ) (rs qs : List Record) → Holds E f rs → Holds E f qs → rs ≡ qs
@@ -95,7 +95,7 @@ module _ {E : Edition} (L : Lawful E) (faults : (k : List ℕ) → E .keyFault k
   tree-legal none w = tt
   tree-legal (some a) w = legal-records L a [] w
 
-  legals : (f : List ℕ) (rs : List Record) → Holds E f rs → LegalRecords E rs
+  pub legals : (f : List ℕ) (rs : List Record) → Holds E f rs → LegalRecords E rs
   legals f rs h = subst (LegalRecords E) (h .set) (tree-legal (h .state .tree) (stands-good E f (h .state) (h .stands) .well))
 
   formats : (f : List ℕ) (len cap n : ℕ) (f' : List ℕ) → FormatPromise E f len cap n f' → NotRefused n → Holds E f' [] × (length f' ≡ len) × (slotsOf f' ≡ cap)
