@@ -18,7 +18,7 @@
  *   3  FRAME_KEY_LENGTH    the key has no byte, or more than 112; list: the prefix has more than 112
  *   4  FRAME_KEY_ZERO      the key holds a byte 0
  *   5  FRAME_VALUE_LENGTH  the value has more than 65,535 bytes
- *   7  FRAME_OUT_LENGTH    pack: the output is not as long as the frame; batch: the second frame is not
+ *   7  FRAME_OUT_LENGTH    pack, pack_before: the output is not as long as the frame; batch: the second frame is not
  *  12  FRAME_LAYOUT        batch: not laid out as docs/FORMAT.md says
  *   6  FRAME_NO_ROOM       not enough slots or bytes are left for what the call needs
  *  10  FRAME_BUFFER        list: the buffer is too small for the first entry
@@ -35,8 +35,10 @@
  * Blank bytes (all 0, all 255) of the right length hold no F: they are answered 1 and not 2. But a frame whose F was damaged is
  * answered 1, too, so neither number alone says that nothing was ever stored there.
  *
- * The bytes of a record that was erased, and of a value that was replaced by one of another length, stay in the frame where
- * nothing leads to them. They are gone from the packed image; until it is used, and the frame overwritten, a secret is still there.
+ * What a call frees it overwrites with zero: the bytes of a record that was erased, of a value that was replaced by one of another length,
+ * and of the nodes above them. In a good frame all bytes that nothing uses are zero, but for the up to seven that fill a record's up to a
+ * multiple of 8; the check looks at them. So a frame from before freed bytes were wiped is answered 2 by every call but
+ * frame_pack_before, which packs it once. Copies of a frame made earlier (in flash, in another buffer) are the caller's to overwrite.
  *
  * What the caller answers for, because no call can test it:
  *   - each pointer leads to as many bytes (for found, page and counts: numbers) as the length after it says, and is not NULL even
@@ -133,6 +135,12 @@ uint32_t frame_erase(uint8_t *frame, frame_length frame_len, const uint8_t *key,
  * Gives 0, 1, 2 or 7, and never 6. The frame is only read.
  */
 uint32_t frame_pack(const uint8_t *frame, frame_length frame_len, uint8_t *out, frame_length out_len);
+
+/*
+ * The same for a frame from before freed bytes were wiped: it takes whatever was a good frame then, and what is one now. Gives 0, 1, 2 or 7.
+ * A device that meets a 2 on its first start with this store packs the frame by this call and goes on with out, which is a good frame.
+ */
+uint32_t frame_pack_before(const uint8_t *frame, frame_length frame_len, uint8_t *out, frame_length out_len);
 
 /*
  * Tells how full a frame is. Gives 0, 1 or 2. Reads only.

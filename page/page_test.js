@@ -165,6 +165,12 @@ async function damagedImages(browser) {
         assert.ok(said.includes(rule), `the page says ${rule}, the tool ${said}`);
         await browser.picture(path.join(pictures, `${name}.png`));
     }
+    // A frame that is not good is not packed, and stays as it is.
+    const last = inFolder(`${damages[damages.length - 1][0]}.frame`);
+    await open(browser, last);
+    await browser.press('#pack');
+    assert.ok((await browser.text('answer')).startsWith('pack: 2'));
+    assert.ok((await saved(browser, path.basename(last))).equals(fs.readFileSync(last)));
     const short = inFolder('short.frame');
     fs.writeFileSync(short, good.subarray(0, 1000));
     await open(browser, short);
@@ -173,6 +179,26 @@ async function damagedImages(browser) {
     fs.writeFileSync(empty, '');
     await open(browser, empty);
     assert.ok((await browser.text('verdict')).startsWith('1, refused'));
+}
+
+// An image from before freed bytes were wiped: the page says so, and packs it as the tool does.
+async function imageFromBefore(browser) {
+    const good = fs.readFileSync(settings('wiped.frame'));
+    const image = inFolder('before.frame');
+    const bytes = Buffer.from(good);
+    bytes.write('an old password', bytes.length - 64);
+    fs.writeFileSync(image, bytes);
+    await open(browser, image);
+    const verdict = await browser.text('verdict');
+    assert.ok(verdict.startsWith('2, refused') && verdict.includes('Pack packs it once'), verdict);
+    assert.deepStrictEqual(await browser.value("[...document.querySelectorAll('#broken li')].map((line) => line.dataset.rule)"), ['NeverGiven']);
+    await browser.picture(path.join(pictures, 'before.png'));
+    await browser.press('#pack');
+    assert.ok((await browser.text('answer')).startsWith('pack by the old rule: 0'));
+    assert.strictEqual(await browser.text('verdict'), '0: a good frame');
+    const packed = inFolder('moved.frame');
+    tool('pack', '--before', image, packed);
+    assert.ok((await saved(browser, 'before.frame')).equals(fs.readFileSync(packed)));
 }
 
 // A full frame of 524,288 bytes: every name once over the pages, and a click answers soon.
@@ -211,6 +237,7 @@ async function main() {
         await goodImage(browser);
         await newImage(browser);
         await damagedImages(browser);
+        await imageFromBefore(browser);
         await largeImage(browser);
         assert.deepStrictEqual(browser.errors, []);
         const outside = browser.requests.filter((url) => !url.startsWith('file://') && !url.startsWith('blob:') && !url.startsWith('data:'));

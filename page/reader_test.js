@@ -1,5 +1,6 @@
 // Holds the page's reader to the second store's rules: of good frames and of thousands of damaged ones, both name the same broken rules at the same
-// slots and bytes, and the same live slots. And to the proved check: no rule is broken exactly where its answer is 0.
+// slots and bytes, and the same live slots. And to the proved calls: no rule is broken exactly where the check's answer is 0, and none but those of
+// wiped bytes where the packing by the old rule gives 0.
 // reader_test.js MODULE BROKEN: the WebAssembly module, and the program tools/rules/examples/broken.
 'use strict';
 const assert = require('assert');
@@ -11,6 +12,8 @@ const { readFrame, RULES, KINDS } = require('./src/reader.js');
 const { Store } = require('./src/store.js');
 
 const DAMAGED_EACH = 3000;
+// What a frame from before freed bytes were wiped may break.
+const WIPED = ['FreedBody', 'DeadExtent', 'NeverGiven'];
 
 // The same numbers in every run.
 let seed = 1;
@@ -38,7 +41,7 @@ function frames(store) {
     return made;
 }
 
-// Some of a frame's bytes changed: mostly in the header, the table and what is given out.
+// Some of a frame's bytes changed: mostly in the header, the table and what is given out, now and then behind it.
 function damaged(frame) {
     const bytes = frame.slice();
     const given = new DataView(frame.buffer, frame.byteOffset).getUint32(16, true);
@@ -49,7 +52,7 @@ function damaged(frame) {
         view.setUint32(entry, (view.getUint32(entry, true) % 131072) + 131072 * below(9), true);
     }
     for (let changes = below(3); changes > 0; changes -= 1) {
-        const at = below(3) === 0 ? below(64) : below(given);
+        const at = below(3) === 0 ? below(64) : below(8) === 0 ? given + below(bytes.length - given) : below(given);
         bytes[at] = below(2) === 0 ? below(256) : bytes[at] ^ (1 << below(8));
     }
     return bytes;
@@ -94,6 +97,8 @@ async function main() {
             assert.strictEqual(line, said[place]);
             const number = store.check(one);
             assert.strictEqual(number, line === 'length' ? 1 : line.startsWith('|') ? 0 : 2);
+            const before = line.split('|')[0].split(' ').filter((one) => one !== '').every((one) => WIPED.includes(one.split(':')[0]));
+            assert.strictEqual(store.packBefore(one).answer, line === 'length' ? 1 : before ? 0 : 2);
             for (const { rule } of readFrame(one).broken) met.add(rule);
             compared += 1;
         });

@@ -42,7 +42,7 @@ fn wide_times() {
 
 fn times_head(what: &str) {
     println!(
-        "{:<22} {:>7} {:<6} {:>6} {:>10} {:>10} {:>6} {:>10} {:>11}",
+        "{:<22} {:>7} {:<7} {:>6} {:>10} {:>10} {:>6} {:>10} {:>11}",
         "call", "F", what, "slots", "ns plain", "ns proved", "ratio", "plain/slot", "proved/slot"
     );
 }
@@ -52,7 +52,7 @@ fn times_of(workload: &Workload, what: &str) {
     for task in &workload.tasks {
         let measured = measure(workload, task);
         println!(
-            "{:<22} {:>7} {:<6} {:>6} {:>10.0} {:>10.0} {:>6.2} {:>10.1} {:>11.1}",
+            "{:<22} {:>7} {:<7} {:>6} {:>10.0} {:>10.0} {:>6.2} {:>10.1} {:>11.1}",
             task.name,
             workload.frame.len(),
             what,

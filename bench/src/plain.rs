@@ -15,7 +15,7 @@ mod walk;
 pub use change::{erase, put, replace};
 pub use check::check;
 pub use list::{list, Asked};
-pub use pack::pack;
+pub use pack::{pack, pack_before};
 
 use layout::number::*;
 use layout::*;

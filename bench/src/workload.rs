@@ -19,15 +19,19 @@ pub enum Fill {
     Sparse,
     /// Records put until 6, less a few, so that there is room for each call.
     Full,
+    /// Three quarters of a full one's records, of which a third was erased again,
+    /// and of the others about a quarter got a value of another length.
+    Churned,
 }
 
 impl Fill {
-    pub const ALL: [Fill; 2] = [Fill::Sparse, Fill::Full];
+    pub const ALL: [Fill; 3] = [Fill::Sparse, Fill::Full, Fill::Churned];
 
     pub fn name(self) -> &'static str {
         match self {
             Fill::Sparse => "sparse",
             Fill::Full => "full",
+            Fill::Churned => "churned",
         }
     }
 
@@ -35,6 +39,7 @@ impl Fill {
         match self {
             Fill::Sparse => (most / 10).max(2),
             Fill::Full => most - (most / 50).max(1),
+            Fill::Churned => most - most / 4,
         }
     }
 }
@@ -198,7 +203,31 @@ fn filled(f: usize, n: usize, fill: Fill) -> (Vec<Record>, Vec<Record>, Vec<u8>)
     let mut frame = formatted(f, n);
     let refused = puts_until_no_room(&mut frame, &records);
     assert_eq!(refused, None, "fewer records than a full frame's have room");
-    (records, absent, frame)
+    match fill {
+        Fill::Sparse | Fill::Full => (records, absent, frame),
+        Fill::Churned => (churned(&mut frame, records), absent, frame),
+    }
+}
+
+/// Erases a third of the records, and gives about a quarter of the others another
+/// length; gives those that are there then.
+fn churned(frame: &mut [u8], records: Vec<Record>) -> Vec<Record> {
+    let mut left = Vec::new();
+    for (turn, mut record) in records.into_iter().enumerate() {
+        if turn % 3 == 0 && plain::erase(frame, &record.key) == DONE {
+            continue;
+        }
+        let other = other_length(&record.value);
+        if turn % 4 == 1 && plain::replace(frame, &record.key, &other) == REPLACED {
+            record.value = other;
+        }
+        left.push(record);
+    }
+    left
+}
+
+fn other_length(value: &[u8]) -> Vec<u8> {
+    vec![b'+'; value.len() % 16 + 1]
 }
 
 fn formatted(f: usize, n: usize) -> Vec<u8> {
@@ -242,7 +271,6 @@ fn tasks(frame: &[u8], n: usize, present: &[Record], absent: &[Record]) -> Vec<T
     };
     let same: fn(&[u8]) -> Vec<u8> = |value| value.to_vec();
     let same_length: fn(&[u8]) -> Vec<u8> = |value| value.iter().map(|byte| !byte).collect();
-    let other_length: fn(&[u8]) -> Vec<u8> = |value| vec![b'+'; value.len() % 16 + 1];
     let nothing = || vec![Record { key: Vec::new(), value: Vec::new() }];
     let tasks = [
         ("format", Call::Format, DONE, nothing()),

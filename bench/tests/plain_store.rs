@@ -38,6 +38,9 @@ impl Calls for Plain {
     fn pack(&self, frame: &[u8], out: &mut [u8]) -> u32 {
         plain::pack(frame, out)
     }
+    fn pack_before(&self, frame: &[u8], out: &mut [u8]) -> u32 {
+        plain::pack_before(frame, out)
+    }
     /// It has none of its own.
     fn batch(
         &self,

@@ -1,6 +1,6 @@
 /*
  * A frame of 1,024 bytes with 8 slots: three settings put, one replaced, one read, all listed, one erased, the rest packed, and how full the frame
- * is before and after that. README.md says how to build it.
+ * is before and after that; then a frame from before freed bytes were wiped, and one that is not good. README.md says how to build it.
  */
 #include <stdio.h>
 #include <string.h>
@@ -90,6 +90,10 @@ int main(void) {
     tell(packed);
     show(packed, "line.rate");
     printf("check: %u\n", (unsigned)frame_check(packed, F));
+    frame[F - 1] = 1; /* a byte that nothing uses, as it could be before such bytes were wiped: packed once, by a call of its own */
+    printf("check: %u\n", (unsigned)frame_check(frame, F));
+    printf("pack before: %u\n", (unsigned)frame_pack_before(frame, F, packed, F));
+    show(packed, "line.rate");
     frame[20] ^= 1; /* U is wrong now: no good frame, and refused by every call */
     show(frame, "line.rate");
     tell(frame);

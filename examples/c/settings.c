@@ -13,6 +13,9 @@
  * the plug is pulled meanwhile, that generation's checksum is wrong and the one in use stays in use. On a device the generations
  * are two erase blocks, and the calls on the file those of its flash. One program at a time uses a file.
  *
+ * A file from before the store wiped what it frees is moved over: its frames are packed as they are read, and the next changes save
+ * them so. Two compacts write both generations anew.
+ *
  * It ends with 0; 1: no such key; 2: refused, nothing was saved; 3: no generation stands; 4: the file cannot be read or written.
  */
 #define _POSIX_C_SOURCE 200809L
@@ -57,9 +60,20 @@ static void set_number(uint8_t *bytes, int width, uint64_t n) {
     }
 }
 
-static int stands(const uint8_t *generation) {
-    return number(generation + SUMMED, CHECKSUM) == checksum(generation) &&
-           frame_check(generation + COUNTER, F) == FRAME_DONE;
+/* A frame from before freed bytes were wiped stands, too: here, in memory, it is packed. */
+static int stands(uint8_t *generation) {
+    uint8_t *held = generation + COUNTER;
+    if (number(generation + SUMMED, CHECKSUM) != checksum(generation)) {
+        return 0;
+    }
+    if (frame_check(held, F) == FRAME_DONE) {
+        return 1;
+    }
+    if (frame_pack_before(held, F, packed, F) != FRAME_DONE) {
+        return 0;
+    }
+    memcpy(held, packed, F);
+    return 1;
 }
 
 /* Which generation is in use, or -1 if none stands. */

@@ -9,7 +9,7 @@ const VALUE_SHOWN = 4096;
 
 const part = (id) => document.getElementById(id);
 
-const page = { store: null, frame: null, name: '', past: [], reading: null, start: null, way: [], broken: null };
+const page = { store: null, frame: null, name: '', past: [], reading: null, start: null, way: [], broken: null, before: false };
 
 const map = new FrameMap(part('map'));
 const tree = new FrameTree(part('tree'), (node) => choose(node));
@@ -28,7 +28,10 @@ function show() {
     part('name').textContent = `${page.name}, ${grouped(frame.length)} bytes`;
     const verdict = part('verdict');
     verdict.className = number === 0 ? 'good' : 'bad';
-    verdict.textContent = number === 0 ? '0: a good frame' : `${number}, ${NUMBERS[number]}`;
+    // The proved packing by the old rule tells what was good before freed bytes were wiped.
+    page.before = number !== 0 && store.packBefore(frame).answer === 0;
+    const hint = page.before ? '; it was good before freed bytes were wiped, and Pack packs it once' : '';
+    verdict.textContent = number === 0 ? '0: a good frame' : `${number}, ${NUMBERS[number]}${hint}`;
     showBroken(number);
     showNumbers(number);
     drawMap();
@@ -270,8 +273,8 @@ function start() {
     part('new').addEventListener('submit', made);
     part('save').addEventListener('click', () => saveAs(page.name, page.frame));
     part('pack').addEventListener('click', () => {
-        const { answer, image } = page.store.pack(page.frame);
-        change('pack', { answer, frame: image });
+        const { answer, image } = page.before ? page.store.packBefore(page.frame) : page.store.pack(page.frame);
+        change(page.before ? 'pack by the old rule' : 'pack', { answer, frame: answer === 0 ? image : page.frame });
     });
     part('undo').addEventListener('click', () => {
         page.frame = page.past.pop();

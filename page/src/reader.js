@@ -57,6 +57,9 @@ const RULES = {
     Path: "a Leaf's walked string begins with the path that leads to it",
     EmptyRootPlace: 'EmptyRoot stands only at the root',
     Records: 'R is 0 with an EmptyRoot, and otherwise counts the Leaves',
+    FreedBody: 'freed bodies are zero',
+    DeadExtent: 'dead extents are zero',
+    NeverGiven: 'bytes from B on are zero',
 };
 
 // The header's fields, and what stands behind it.
@@ -79,7 +82,8 @@ class Reader {
         this.live = new Map();
         this.lists = Array.from({ length: 9 }, () => []);
         this.listed = new Set();
-        this.taken = new Uint8Array(Math.ceil(frame.length / UNIT));
+        // By unit: the slot whose body or extent has it, the last one that was met, so a live one before a freed one.
+        this.taken = new Uint16Array(Math.ceil(frame.length / UNIT));
         this.sizes = 0;
         this.root = 0;
     }
@@ -111,7 +115,6 @@ class Reader {
         }
     }
 
-
     inSlots(slot) { return slot >= 1 && slot <= this.U; }
 
     // False if the slice's length is against F's limits or the stored F: the answer is then 1.
@@ -132,7 +135,18 @@ class Reader {
         const leaves = [...this.live.values()].filter(({ kind }) => kind === 1).length;
         this.demand('Records', this.R === leaves, 0, AT.R, AT.R + 4);
         this.demand('Sum', this.B - this.D === this.sizes + this.X, 0, AT.X, AT.X + 4);
+        this.wiped();
         return this;
+    }
+
+    // What nothing live has is zero, from D to the frame's end.
+    wiped() {
+        for (let at = this.D; at < this.B; at += UNIT) {
+            const slot = this.taken[at / UNIT];
+            if (slot === 0) this.demandZero('DeadExtent', 0, at, at + UNIT);
+            else if (this.listed.has(slot) && !this.live.has(slot)) this.demandZero('FreedBody', slot, at, at + UNIT);
+        }
+        this.demandZero('NeverGiven', 0, this.B, this.F);
     }
 
     numbers() {
@@ -164,7 +178,7 @@ class Reader {
         if (!this.demand(rule, part.from >= this.D && part.to <= this.B, part.slot, part.from, part.to)) return false;
         for (let unit = Math.floor(part.from / UNIT); unit < Math.ceil(part.to / UNIT); unit += 1) {
             this.demand('Overlap', this.taken[unit] === 0, part.slot, unit * UNIT, (unit + 1) * UNIT);
-            this.taken[unit] = 1;
+            this.taken[unit] = part.slot;
         }
         this.parts.push(part);
         return true;

@@ -92,8 +92,13 @@ class Store {
         return { answer, frame: left[0] };
     }
 
-    pack(frame) {
-        const { answer, left } = this.call('frame_pack', frame, new Uint8Array(frame.length));
+    pack(frame) { return this.packed('frame_pack', frame); }
+
+    // The same for a frame from before freed bytes were wiped.
+    packBefore(frame) { return this.packed('frame_pack_before', frame); }
+
+    packed(name, frame) {
+        const { answer, left } = this.call(name, frame, new Uint8Array(frame.length));
         return { answer, image: left[1] };
     }
 

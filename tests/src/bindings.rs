@@ -70,6 +70,10 @@ impl Calls for Bindings {
         number(View::over(frame).pack(out).map(|_| DONE))
     }
 
+    fn pack_before(&self, frame: &[u8], out: &mut [u8]) -> u32 {
+        number(View::over(frame).pack_before(out).map(|_| DONE))
+    }
+
     fn list(&self, frame: &[u8], asked: &Asked, buffer: &mut [u8]) -> Page {
         let Asked { prefix, start, delimiter } = *asked;
         match View::over(frame).list(prefix, start, delimiter, buffer) {

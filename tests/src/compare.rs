@@ -7,7 +7,7 @@
 //! write outside it shows; buffers lent for reading must be as they were.
 
 use crate::batch;
-use crate::check::{self, Reading};
+use crate::check::{self, Reading, Rule};
 use crate::decode;
 use crate::image::image;
 use crate::layout::{key_refusal, number::*, Kind, END_BYTE, INFO_NUMBERS};
@@ -32,6 +32,8 @@ pub trait Calls {
     fn replace(&self, frame: &mut [u8], key: &[u8], value: &[u8]) -> u32;
     fn erase(&self, frame: &mut [u8], key: &[u8]) -> u32;
     fn pack(&self, frame: &[u8], out: &mut [u8]) -> u32;
+    /// A packing that still takes a frame from before Q-3.
+    fn pack_before(&self, frame: &[u8], out: &mut [u8]) -> u32;
     /// The number, and what is told; all 0 of a refusal.
     fn info(&self, frame: &[u8]) -> (u32, [u64; INFO_NUMBERS]);
     fn list(&self, frame: &[u8], asked: &Asked, buffer: &mut [u8]) -> Page;
@@ -70,6 +72,9 @@ impl Calls for Second {
     fn pack(&self, frame: &[u8], out: &mut [u8]) -> u32 {
         store::pack(frame, out)
     }
+    fn pack_before(&self, frame: &[u8], out: &mut [u8]) -> u32 {
+        store::pack_before(frame, out)
+    }
     fn info(&self, frame: &[u8]) -> (u32, [u64; INFO_NUMBERS]) {
         store::info(frame)
     }
@@ -103,18 +108,37 @@ pub type Compared<T> = Result<T, Difference>;
 #[derive(Clone)]
 pub struct Held {
     bytes: Vec<u8>,
-    /// The model of a good frame, else the refusal that every call gives.
+    /// The model of a good frame, else the refusal that every call gives but the
+    /// one that takes the old rule.
     known: Result<State, u32>,
+    before: Option<OnlyBefore>,
+}
+
+/// A frame that was good before Q-3, and is not now.
+#[derive(Clone)]
+struct OnlyBefore {
+    state: State,
+    broken: Vec<Rule>,
 }
 
 impl Held {
     pub fn new(bytes: Vec<u8>) -> Held {
-        let known = match check::read(&bytes) {
-            None => Err(LENGTHS),
-            Some(reading) if reading.broken.is_empty() => Ok(decode::state(&bytes, &reading)),
-            Some(_) => Err(NOT_GOOD),
+        let Some(reading) = check::read(&bytes) else {
+            return Held { bytes, known: Err(LENGTHS), before: None };
         };
-        Held { bytes, known }
+        if reading.good() {
+            let state = decode::state(&bytes, &reading);
+            return Held::good(bytes, state);
+        }
+        let before = reading.good_before().then(|| OnlyBefore {
+            state: decode::state(&bytes, &reading),
+            broken: reading.broken.into_keys().collect(),
+        });
+        Held { bytes, known: Err(NOT_GOOD), before }
+    }
+
+    fn good(bytes: Vec<u8>, state: State) -> Held {
+        Held { bytes, known: Ok(state), before: None }
     }
 
     pub fn bytes(&self) -> &[u8] {
@@ -128,6 +152,14 @@ impl Held {
 
     pub fn refusal(&self) -> Option<u32> {
         self.known.as_ref().err().copied()
+    }
+
+    /// What is known by the old rule.
+    fn known_before(&self) -> Result<&State, u32> {
+        match &self.before {
+            Some(before) => Ok(&before.state),
+            None => self.known.as_ref().map_err(|refused| *refused),
+        }
     }
 
     fn reading(&self) -> Reading {
@@ -250,8 +282,7 @@ impl<'a> Comparer<'a> {
             return self.differs(format!("{call}: the two readings of format differ"));
         }
         self.unchanged(&call, "formatted frame as it should be", &mut frame, &expected)?;
-        let held = Held { bytes: expected, known: Ok(State::fresh(f, n)) };
-        Ok(Some(held))
+        Ok(Some(Held::good(expected, State::fresh(f, n))))
     }
 
     pub fn check(&mut self, held: &Held) -> Compared<()> {
@@ -262,8 +293,19 @@ impl<'a> Comparer<'a> {
         self.margins(&call, &mut [&mut frame])?;
         self.unchanged(&call, "frame", &mut frame, &held.bytes)?;
         let number = held.refusal().unwrap_or(DONE);
-        self.tally.add(Entry::Number(Call::Check, number));
+        self.count(Call::Check, held, number);
         self.same_number(&call, given, number)
+    }
+
+    /// The number; and that the call met a frame from before, which breaks one
+    /// rule of Q-3 alone.
+    fn count(&mut self, of: Call, held: &Held, number: u32) {
+        self.tally.add(Entry::Number(of, number));
+        if let Some(OnlyBefore { broken, .. }) = &held.before {
+            if let [rule] = broken[..] {
+                self.tally.add(Entry::Before(of, rule));
+            }
+        }
     }
 
     /// Gives the slots that were visited.
@@ -285,7 +327,7 @@ impl<'a> Comparer<'a> {
             (None, Some(Ok(_))) => DONE,
             (None, _) => ABSENT,
         };
-        self.tally.add(Entry::Number(Call::LookUp, number));
+        self.count(Call::LookUp, held, number);
         if let Some(Err(end)) = found {
             self.tally.add(Entry::Absent(Call::LookUp, end));
         }
@@ -353,7 +395,7 @@ impl<'a> Comparer<'a> {
         let mut predicted = held.known.clone();
         let number = match &mut predicted {
             Err(refused) => {
-                self.tally.add(Entry::Number(of, *refused));
+                self.count(of, held, *refused);
                 *refused
             }
             Ok(state) => {
@@ -381,7 +423,8 @@ impl<'a> Comparer<'a> {
         } else {
             touched::by_put(&held.bytes, key)
         };
-        self.stepped(&call, held, &was, touched, frame.seen(), state)?;
+        let step = Step { of, call: &call, was, touched, predicted: state };
+        self.stepped(held, step, frame.seen())?;
         Ok(number)
     }
 
@@ -396,7 +439,7 @@ impl<'a> Comparer<'a> {
         let mut predicted = held.known.clone();
         let number = match &mut predicted {
             Err(refused) => {
-                self.tally.add(Entry::Number(Call::Erase, *refused));
+                self.count(Call::Erase, held, *refused);
                 *refused
             }
             Ok(state) => {
@@ -413,29 +456,23 @@ impl<'a> Comparer<'a> {
         if state.r == 0 {
             let formatted = image(state.f, state.n, &Records::new());
             self.unchanged(&call, "frame as format leaves it", &mut frame, &formatted)?;
-            *held = Held { bytes: formatted, known: Ok(state) };
+            *held = Held::good(formatted, state);
             return Ok(number);
         }
         let was = held.reading();
         let touched = touched::by_erase(&held.bytes, &was, key);
-        self.stepped(&call, held, &was, touched, frame.seen(), state)?;
+        let step = Step { of: Call::Erase, call: &call, was, touched, predicted: state };
+        self.stepped(held, step, frame.seen())?;
         Ok(number)
     }
 
     /// The frame after a put, a replacement or an erase that was done.
-    fn stepped(
-        &self,
-        call: &str,
-        held: &mut Held,
-        was: &Reading,
-        touched: touched::Touched,
-        after: &[u8],
-        predicted: State,
-    ) -> Compared<()> {
+    fn stepped(&mut self, held: &mut Held, step: Step, after: &[u8]) -> Compared<()> {
+        let Step { of, call, was, touched, predicted } = step;
         let Some(is) = check::read(after) else {
             return self.differs(format!("{call} spoilt the frame's length"));
         };
-        if !is.broken.is_empty() {
+        if !is.good() {
             return self.differs(format!("{call} left no good frame: {:?}", is.broken));
         }
         let found = decode::state(after, &is);
@@ -443,29 +480,59 @@ impl<'a> Comparer<'a> {
             let what = differing(&found, &predicted);
             return self.differs(format!("{call} left another frame: {what}"));
         }
-        if let Some(what) = touched.overstepped((&held.bytes, was), (after, &is)) {
+        if let Some(what) = touched.overstepped((&held.bytes, &was), (after, &is)) {
             return self.differs(format!("{call} changed what it should not: {what}"));
         }
-        *held = Held { bytes: after.to_vec(), known: Ok(predicted) };
+        self.count_wiped(of, &held.bytes, &was, &is);
+        *held = Held::good(after.to_vec(), predicted);
         Ok(())
+    }
+
+    /// What the step has freed, and so wiped, that was not zero before. That it
+    /// is zero now is a rule of the frame after.
+    fn count_wiped(&mut self, of: Call, before: &[u8], was: &Reading, is: &Reading) {
+        for (slot, kind) in was.live.iter().filter(|(slot, _)| !is.live.contains_key(slot)) {
+            let body = store::body_at(before, *slot);
+            if before[body..body + kind.body_bytes()].iter().any(|byte| *byte != 0) {
+                self.tally.add(Entry::WipedBody(of, *kind));
+            }
+        }
+        if was.extents.iter().any(|(slot, extent)| is.extents.get(slot) != Some(extent)) {
+            self.tally.add(Entry::WipedExtent(of));
+        }
     }
 
     /// Gives the packed frame if there is one.
     pub fn pack(&mut self, held: &Held, out_before: &[u8]) -> Compared<Option<Held>> {
+        self.packing(Call::Pack, held, out_before)
+    }
+
+    /// The same by the old rule.
+    pub fn pack_before(&mut self, held: &Held, out_before: &[u8]) -> Compared<Option<Held>> {
+        self.packing(Call::PackBefore, held, out_before)
+    }
+
+    fn packing(&mut self, of: Call, held: &Held, out_before: &[u8]) -> Compared<Option<Held>> {
         self.step += 1;
-        let call = format!("pack into {} bytes", out_before.len());
         let (mut frame, mut out) = (self.lend(&held.bytes), self.lend(out_before));
-        let given = self.calls.pack(frame.part(), out.part_mut());
+        let (part, lent) = (frame.part(), out.part_mut());
+        let (name, given, known) = if of == Call::PackBefore {
+            ("pack by the old rule", self.calls.pack_before(part, lent), held.known_before())
+        } else {
+            let known = held.known.as_ref().map_err(|refused| *refused);
+            ("pack", self.calls.pack(part, lent), known)
+        };
+        let call = format!("{name} into {} bytes", out_before.len());
         self.margins(&call, &mut [&mut frame, &mut out])?;
         self.unchanged(&call, "frame", &mut frame, &held.bytes)?;
-        let number = match &held.known {
-            Err(refused) => *refused,
+        let number = match known {
+            Err(refused) => refused,
             Ok(state) if out_before.len() != state.f => OUTPUT_LENGTH,
             Ok(_) => DONE,
         };
         self.same_number(&call, given, number)?;
-        self.tally.add(Entry::Number(Call::Pack, number));
-        let (DONE, Ok(state)) = (number, &held.known) else {
+        self.count(of, held, number);
+        let (DONE, Ok(state)) = (number, known) else {
             self.unchanged(&call, "refused output", &mut out, out_before)?;
             return Ok(None);
         };
@@ -493,7 +560,7 @@ impl<'a> Comparer<'a> {
             Err(refused) => (*refused, [0; INFO_NUMBERS]),
             Ok(state) => (DONE, fullness(state)),
         };
-        self.tally.add(Entry::Number(Call::Info, number));
+        self.count(Call::Info, held, number);
         if let Ok(state) = &held.known {
             let listed = Kind::ALL.into_iter().filter(|kind| state.list_lengths[kind.number()] > 0);
             listed.for_each(|kind| self.tally.add(Entry::Listed(kind)));
@@ -548,7 +615,7 @@ impl<'a> Comparer<'a> {
                 Expected { page, written: Vec::new(), left: Vec::new() }
             }
         };
-        self.tally.add(Entry::Number(Call::List, expected.page.number));
+        self.count(Call::List, held, expected.page.number);
         let mut after = buffer.to_vec();
         let text = expected.text();
         after[..text.len()].copy_from_slice(&text);
@@ -671,7 +738,7 @@ impl<'a> Comparer<'a> {
         applied: &Result<Applied, u32>,
     ) {
         let number = applied.as_ref().map_or_else(|refused| *refused, |applied| applied.number);
-        self.tally.add(Entry::Number(Call::Batch, number));
+        self.count(Call::Batch, held, number);
         let other_length = held.known.is_ok() && second.len() != held.bytes.len();
         match (read, applied) {
             (Err(_), _) if other_length => self.tally.add(Entry::Batch(Batch::LengthAndFault)),
@@ -701,6 +768,16 @@ impl<'a> Comparer<'a> {
             _ => {}
         }
     }
+}
+
+/// A put, a replacement or an erase that was done: the frame before it, what it
+/// may touch, and the model after it.
+struct Step<'a> {
+    of: Call,
+    call: &'a str,
+    was: Reading,
+    touched: touched::Touched,
+    predicted: State,
 }
 
 /// What a batch comes to, by the changes one after another.

@@ -1,8 +1,8 @@
 //! Good frames that use every freedom document 01 leaves.
 //!
 //! Believed here: slot numbers, places, gaps, list order and Node48 places may
-//! be any; freed bodies, dead extents, padding and bytes from B on may hold
-//! anything. No call of the store is used to make these frames.
+//! be any; padding may hold anything; freed bodies, dead extents and bytes from
+//! B on are zero. No call of the store is used to make these frames.
 
 use crate::layout::*;
 use crate::random::Random;
@@ -87,12 +87,10 @@ impl<'a> Builder<'a> {
     fn new(random: &mut Random, state: &'a State) -> Builder<'a> {
         let mut slots: Vec<usize> = (1..=state.u).collect();
         random.shuffle(&mut slots);
-        let mut frame = random.bytes(state.f);
-        frame[..data_start(state.n)].fill(0);
         let places = vec![0; state.u + 1];
         Builder {
             state,
-            frame,
+            frame: vec![0; state.f],
             slots,
             parts: Vec::new(),
             body_places: places.clone(),
@@ -117,8 +115,7 @@ impl<'a> Builder<'a> {
         let root = match &state.tree {
             Some(tree) => self.write(tree, &mut numbered),
             None => {
-                let (slot, body) = self.live_body(numbered.next(), Kind::EmptyRoot);
-                self.frame[body..body + Kind::EmptyRoot.body_bytes()].fill(0);
+                let (slot, _) = self.live_body(numbered.next(), Kind::EmptyRoot);
                 slot
             }
         };
@@ -163,7 +160,8 @@ impl<'a> Builder<'a> {
             .collect()
     }
 
-    /// Puts bodies, extents and gaps between D and B in any order.
+    /// Puts bodies, extents and gaps between D and B in any order; an extent's
+    /// bytes are any, and so is what of them stays as padding.
     fn place(&mut self, random: &mut Random) {
         let mut dead = self.state.x;
         while dead > 0 {
@@ -182,6 +180,7 @@ impl<'a> Builder<'a> {
                 }
                 Part::Extent { slot, size } => {
                     self.extent_places[*slot] = at;
+                    self.frame[at..at + size].copy_from_slice(&random.bytes(*size));
                     size
                 }
                 Part::Gap { size } => size,
@@ -195,7 +194,6 @@ impl<'a> Builder<'a> {
         let slot = slot.expect("every live node has a slot");
         let body = self.body_places[slot];
         set_entry(&mut self.frame, slot, body, kind.number());
-        self.frame[body..body + kind.body_bytes()].fill(0);
         (slot, body)
     }
 

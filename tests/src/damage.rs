@@ -3,7 +3,9 @@
 //! Believed here: for each damage, the number every call must give, the rule
 //! it breaks, and mostly that it breaks no other. A damage that breaks one
 //! rule alone shows a check that lacks just this rule; so the book-keeping
-//! around it (lists, X, R) is made right again where it has to be.
+//! around it (lists, X, R, zeros in what is freed) is made right again where it
+//! has to be. The number of the packing that takes the old rule is another one
+//! where only rules of Q-3 are broken.
 
 use crate::check::{self, Rule};
 use crate::crafted::{build, Spare};
@@ -11,6 +13,7 @@ use crate::layout::*;
 use crate::random::Random;
 use crate::slotless::{inner, ByKind, Tree};
 use crate::store::{self, body_at, release, take, write_inner, write_prefix};
+use crate::unused::soiled;
 use std::collections::BTreeMap;
 use std::ops::Range;
 use std::rc::Rc;
@@ -146,8 +149,14 @@ impl Specimen {
         let slot = self.node(key, Kind::Leaf);
         let fields = store::leaf_fields(&self.bytes, slot);
         release(&mut self.bytes, slot, Kind::Leaf);
-        self.add(AT_X, extent_bytes(fields.key_length, fields.value_length));
+        store::retire(&mut self.bytes, &fields);
         self.subtract(AT_R, 1);
+    }
+
+    /// Zero where a key's extent stood, which is named elsewhere now.
+    fn wipe_extent(&mut self, key: &[u8]) {
+        let extent = store::leaf_fields(&self.bytes, self.node(key, Kind::Leaf)).bytes();
+        self.bytes[extent].fill(0);
     }
 
     /// Takes a Leaf out, and lets its parent stand as it is.
@@ -262,6 +271,7 @@ fn make_all() -> Vec<Damage> {
     prefixes(&mut shop);
     leaf_keys(&mut shop);
     records(&mut shop);
+    unwiped(&mut shop);
     shop.damages
 }
 
@@ -575,7 +585,9 @@ fn places(shop: &mut Workshop) {
     shop.full(rule, "a live Leaf's body past the frame, its record gone", |s| {
         let slot = s.node(b"apple", Kind::Leaf);
         let fields = store::leaf_fields(&s.bytes, slot);
-        s.add(AT_X, extent_bytes(fields.key_length, fields.value_length));
+        store::retire(&mut s.bytes, &fields);
+        let body = body_at(&s.bytes, slot);
+        s.bytes[body..body + Kind::Leaf.body_bytes()].fill(0);
         s.set_offset(slot, MOST_UNITS * UNIT);
     });
     shop.empty(rule, "the EmptyRoot's body below D", |s| {
@@ -599,11 +611,13 @@ fn places(shop: &mut Workshop) {
         let name = format!("an extent {what}");
         shop.full(Aim::Alone(Rule::ExtentPlace), &name, |s| {
             let leaf = s.body(b"eb", Kind::Leaf);
+            s.wipe_extent(b"eb");
             s.set(leaf + LEAF_EXTENT, place(s));
         });
     }
     shop.full(Aim::Alone(Rule::ExtentPlace), "an extent across B", |s| {
         let leaf = s.body(b"f", Kind::Leaf);
+        s.wipe_extent(b"f");
         s.set(leaf + LEAF_EXTENT, s.get(AT_B) - UNIT);
     });
     shop.full(Aim::Among(Rule::Sum), "a value length 32,768 more", |s| {
@@ -618,6 +632,7 @@ fn places(shop: &mut Workshop) {
             let content = fields.extent..fields.extent + fields.key_length + fields.value_length;
             let to = s.dead_part(2 * UNIT).start + shift;
             s.bytes.copy_within(content, to);
+            s.wipe_extent(b"eb");
             s.set(body + LEAF_EXTENT, to);
         });
     }
@@ -641,12 +656,14 @@ fn places(shop: &mut Workshop) {
         let body = s.body(b"eb", Kind::Leaf);
         let freed = body_at(&s.bytes, s.list(Kind::Node16)[0]);
         s.bytes[freed..freed + 3].copy_from_slice(b"ebv");
+        s.wipe_extent(b"eb");
         s.set(body + LEAF_EXTENT, freed);
     });
     shop.full(rule, "an extent inside another's value", |s| {
         let body = s.body(b"eb", Kind::Leaf);
         let extent = store::leaf_fields(&s.bytes, s.node(b"f", Kind::Leaf)).extent + 2 * UNIT;
         s.bytes[extent..extent + 3].copy_from_slice(b"ebv");
+        s.wipe_extent(b"eb");
         s.set(body + LEAF_EXTENT, extent);
     });
     shop.full(rule, "an extent over its own Leaf's zero field", |s| {
@@ -944,6 +961,8 @@ fn leaf_keys(shop: &mut Workshop) {
         let node = take(&mut s.bytes, Kind::Node4);
         let slots = [s.get(field), take(&mut s.bytes, Kind::Leaf)];
         let key = [&b"apple"[..], &[b'x'; LONGEST_KEY - 5]].concat();
+        let fields = store::leaf_fields(&s.bytes, slots[0]);
+        store::retire(&mut s.bytes, &fields);
         for slot in slots {
             let extent = store::write_extent(&mut s.bytes, &key, b"");
             store::write_leaf(&mut s.bytes, slot, extent, key.len(), 0);
@@ -951,7 +970,6 @@ fn leaf_keys(shop: &mut Workshop) {
         write_inner(&mut s.bytes, node, &[(1, slots[0]), (2, slots[1])]);
         s.set(field, node);
         s.insert_prefix(field, &key[1..]);
-        s.add(AT_X, extent_bytes(5, 3));
         s.add(AT_R, 1);
     });
 }
@@ -972,4 +990,76 @@ fn records(shop: &mut Workshop) {
     shop.full(rule, "R with bit 16", |s| s.add(AT_R, 1 << 16));
     shop.empty(rule, "R 1 with an EmptyRoot", |s| s.set(AT_R, 1));
     shop.empty(rule, "R the largest number with an EmptyRoot", |s| s.set(AT_R, MOST_32));
+}
+
+/// What was freed and what was never given out, with one byte or more left in it.
+fn unwiped(shop: &mut Workshop) {
+    for kind in Kind::ALL {
+        for (what, at) in [("first", 0), ("last", kind.body_bytes() - 1)] {
+            let name = format!("the {what} byte of a freed {kind:?} set");
+            shop.full(Aim::Alone(Rule::FreedBody), &name, |s| {
+                let body = body_at(&s.bytes, s.list(kind)[1]);
+                s.bytes[body + at] = 1;
+            });
+        }
+    }
+    shop.full(Aim::Alone(Rule::FreedBody), "a freed Leaf as it was", |s| {
+        let body = body_at(&s.bytes, s.list(Kind::Leaf)[0]);
+        let live = s.body(b"apple", Kind::Leaf);
+        s.bytes.copy_within(live..live + Kind::Leaf.body_bytes(), body);
+    });
+    let rule = Aim::Alone(Rule::DeadExtent);
+    shop.full(rule, "an old password in a dead extent", |s| {
+        let dead = s.dead_part(2 * UNIT).start;
+        s.bytes[dead..dead + 12].copy_from_slice(b"pinhunter2!!");
+    });
+    shop.full(rule, "the first byte of a dead extent set", |s| {
+        let dead = s.dead_part(UNIT).start;
+        s.bytes[dead] = 0x80;
+    });
+    shop.full(rule, "the last byte of a dead extent set", |s| {
+        let dead = s.dead_part(UNIT).end;
+        s.bytes[dead - 1] = 1;
+    });
+    shop.full(rule, "a Leaf taken out, and its extent left as it was", |s| {
+        let extent = store::leaf_fields(&s.bytes, s.node(b"hc", Kind::Leaf)).bytes();
+        let left = s.bytes[extent.clone()].to_vec();
+        store::erase(&mut s.bytes, b"hc");
+        s.bytes[extent].copy_from_slice(&left);
+    });
+    shop.full(rule, "the last unit before B dead and not zero", |s| {
+        let b = s.get(AT_B);
+        s.add(AT_B, UNIT);
+        s.add(AT_X, UNIT);
+        s.bytes[b + UNIT - 1] = 1;
+    });
+    let places: [(&str, Figure); 4] = [
+        ("at B", |s| s.get(AT_B)),
+        ("just behind a unit from B on", |s| s.get(AT_B) + UNIT),
+        ("amid what was never given out", |s| (s.get(AT_B) + s.bytes.len()) / 2),
+        ("at the frame's end", |s| s.bytes.len() - 1),
+    ];
+    for (what, place) in places {
+        let rule = Aim::Alone(Rule::NeverGiven);
+        let mut set = |s: &mut Specimen| {
+            let at = place(s);
+            s.bytes[at] = 1;
+        };
+        shop.full(rule, &format!("the byte {what} set"), &mut set);
+        shop.empty(rule, &format!("the byte {what} set, all freed"), &mut set);
+    }
+    shop.full(Aim::Among(Rule::DeadExtent), "nothing wiped that was freed", |s| {
+        let reading = check::read(&s.bytes).expect("the lengths agree");
+        s.bytes = soiled(&mut Random::new(LAYOUT_SEED), &s.bytes, &reading, &Rule::WIPED);
+    });
+    shop.full(
+        Aim::Among(Rule::DeadExtent),
+        "a freed body and a dead extent not zero, R wrong",
+        |s| {
+            let reading = check::read(&s.bytes).expect("the lengths agree");
+            let rules = [Rule::FreedBody, Rule::DeadExtent];
+            s.bytes = soiled(&mut Random::new(LAYOUT_SEED), &s.bytes, &reading, &rules);
+            s.add(AT_R, 1);
+        },
+    );
 }

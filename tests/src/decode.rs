@@ -3,6 +3,7 @@
 //! Believed here: which parts of a frame document 01 settles apart from slots
 //! and places: the counters, the list lengths and the tree with the places of
 //! Node48 children. Two frames with equal models differ only in what is free.
+//! A frame from before Q-3 has a model too: what it has freed is no part of it.
 
 use crate::check::Reading;
 use crate::layout::*;
@@ -11,9 +12,9 @@ use crate::store::{body_at, children, leaf_fields, prefix_bytes, prefix_child, s
 use std::collections::BTreeMap;
 use std::rc::Rc;
 
-/// `reading` is the frame's own, and breaks no rule.
+/// `reading` is the frame's own, and breaks no rule, or none but those of Q-3.
 pub fn state(frame: &[u8], reading: &Reading) -> State {
-    assert!(reading.broken.is_empty(), "only a good frame has a model");
+    assert!(reading.good_before(), "only a good frame has a model");
     let mut list_lengths = ByKind::default();
     for (length, list) in list_lengths.iter_mut().zip(&reading.lists) {
         *length = list.len();

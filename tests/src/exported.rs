@@ -41,6 +41,12 @@ mod c {
         pub fn frame_erase(frame: *mut u8, frame_len: usize, key: *const u8, key_len: usize)
             -> u32;
         pub fn frame_pack(frame: *const u8, frame_len: usize, out: *mut u8, out_len: usize) -> u32;
+        pub fn frame_pack_before(
+            frame: *const u8,
+            frame_len: usize,
+            out: *mut u8,
+            out_len: usize,
+        ) -> u32;
         pub fn frame_list(
             frame: *const u8,
             frame_len: usize,
@@ -122,6 +128,10 @@ impl Calls for Exported {
 
     fn pack(&self, frame: &[u8], out: &mut [u8]) -> u32 {
         unsafe { c::frame_pack(frame.as_ptr(), frame.len(), out.as_mut_ptr(), out.len()) }
+    }
+
+    fn pack_before(&self, frame: &[u8], out: &mut [u8]) -> u32 {
+        unsafe { c::frame_pack_before(frame.as_ptr(), frame.len(), out.as_mut_ptr(), out.len()) }
     }
 
     fn info(&self, frame: &[u8]) -> (u32, [u64; INFO_NUMBERS]) {

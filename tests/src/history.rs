@@ -1,4 +1,5 @@
-//! Long random histories, cuts to the brim, and bytes of any kind.
+//! Long random histories, cuts to the brim, frames from before Q-3, and bytes of
+//! any kind.
 //!
 //! Believed here: nothing but that these calls are worth making. Small
 //! alphabets make deep Prefixes; wide ones make every node grow and give way;
@@ -6,6 +7,7 @@
 //! and last bytes and fail for either.
 
 use crate::batch::laid;
+use crate::check::{self, Rule};
 use crate::compare::{Compared, Comparer, Held};
 use crate::crafted::{build, Spare};
 use crate::layout::*;
@@ -14,6 +16,7 @@ use crate::random::Random;
 use crate::slotless::{bodies, ByKind, State, Tree};
 use crate::store;
 use crate::trees::{aimed, random_tree, small_value, Change};
+use crate::unused::{soiled, speckled};
 use std::rc::Rc;
 
 /// How keys of one history look.
@@ -117,6 +120,10 @@ fn history(
                 comparer.pack(held, &out)?;
             }
             5 => comparer.info(held)?,
+            6 => {
+                let out = random.bytes(held.bytes().len());
+                comparer.pack_before(held, &out)?;
+            }
             _ => {}
         }
     }
@@ -258,6 +265,40 @@ pub fn large_frames(comparer: &mut Comparer, seed: u64, rounds: u64) -> Compared
     Ok(())
 }
 
+/// Frames from before: crafted ones, and in what they have freed, or never given
+/// out, any bytes or a single one. Every call refuses them but one, and what that
+/// packs can be changed.
+pub fn frames_before(comparer: &mut Comparer, seed: u64, rounds: u64) -> Compared<()> {
+    for round in 0..rounds {
+        comparer.begin(format!("frames from before, seed {seed}, round {round}"));
+        let mut random = Random::new(seed.wrapping_mul(1_000_151).wrapping_add(round));
+        let random = &mut random;
+        let leaves = *random.pick(&[1, 2, 5, 20, 60]);
+        let tree = if random.one_in(10) { None } else { Some(random_tree(random, leaves)) };
+        let mut lists = ByKind::default();
+        for kind in Kind::ALL {
+            lists[kind.number()] = random.below(3);
+        }
+        let dead = random.below(100) * UNIT;
+        let spare = if random.one_in(4) { Spare { slots: 0, bytes: 0 } } else { ROOMY };
+        let (good, state) = build(random, &tree, &lists, dead, spare);
+        let reading = check::read(&good).expect("the lengths agree");
+        let rules: Vec<Rule> = Rule::WIPED.into_iter().filter(|_| random.one_in(2)).collect();
+        let mut frames = vec![soiled(random, &good, &reading, &rules)];
+        frames.extend((0..6).filter_map(|_| speckled(random, &good, &reading)));
+        for frame in frames {
+            let held = Held::new(frame);
+            all_calls(comparer, random, &held)?;
+            let out = random.bytes(state.f);
+            let moved = comparer.pack_before(&held, &out)?;
+            let mut moved = moved.expect("a frame from before packs");
+            let change = aimed(random, &moved.state().tree);
+            make(comparer, &mut moved, &change)?;
+        }
+    }
+    Ok(())
+}
+
 fn all_calls(comparer: &mut Comparer, random: &mut Random, held: &Held) -> Compared<()> {
     comparer.check(held)?;
     comparer.info(held)?;
@@ -272,6 +313,7 @@ fn all_calls(comparer: &mut Comparer, random: &mut Random, held: &Held) -> Compa
     comparer.list(held, &asked, &random.bytes(40))?;
     let out = random.bytes(held.bytes().len());
     comparer.pack(held, &out)?;
+    comparer.pack_before(held, &out)?;
     Ok(())
 }
 
@@ -368,8 +410,8 @@ pub fn small_frames() -> Vec<Vec<u8>> {
     ]
 }
 
-/// Every change of one byte in a few small frames; bytes from B on, which are
-/// not looked at, get only a few values.
+/// Every change of one byte in a few small frames; bytes from B on, of which
+/// there are many, get only a few values.
 pub fn single_bytes(comparer: &mut Comparer, frames: &[Vec<u8>]) -> Compared<()> {
     const FEW_VALUES: [u8; 3] = [1, 0x80, 0xFF];
     for (frame, bytes) in frames.iter().enumerate() {

@@ -29,5 +29,6 @@ pub mod store;
 pub mod tally;
 pub mod touched;
 pub mod trees;
+pub mod unused;
 pub mod worked;
 pub mod wrong;

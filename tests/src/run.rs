@@ -42,6 +42,7 @@ pub fn all_stages(calls: &dyn Calls, effort: Effort) -> Compared<Tally> {
     limits(&mut comparer)?;
     history::crafted_frames(&mut comparer, seed, rounds * 2_000)?;
     history::histories(&mut comparer, seed, rounds * 12)?;
+    history::frames_before(&mut comparer, seed, rounds * 100)?;
     history::scratched_frames(&mut comparer, seed, rounds * 100)?;
     history::arbitrary_bytes(&mut comparer, seed, rounds * 500)?;
     history::large_frames(&mut comparer, seed, rounds * 2)?;
@@ -59,7 +60,8 @@ pub fn worked_cases(comparer: &mut Comparer) -> Compared<()> {
     worked::puts_and_replacements(comparer)?;
     worked::slots_visited(comparer)?;
     worked::worked_listings(comparer)?;
-    worked::worked_batches(comparer)
+    worked::worked_batches(comparer)?;
+    worked::wiped_bytes(comparer)
 }
 
 pub fn limits(comparer: &mut Comparer) -> Compared<()> {

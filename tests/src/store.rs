@@ -1,15 +1,17 @@
 //! The second store, over the bytes of a lent frame.
 //!
 //! Believed here: format, look-up, put, erase and pack of document 01, and info;
-//! of document 02 the replacement and the slots that a look-up visits
-//!
+//! of document 02 the replacement, the slots that a look-up visits,
+//! that whatever frees a body or an extent writes zero over it, and the packing
+//! that still takes the old rule.
 //! Clear before fast: every call checks the whole frame, works out all it needs,
 //! compares that with the room left, and only then writes.
 
-use crate::check::check;
+use crate::check::{check, check_before};
 use crate::layout::number::*;
 use crate::layout::*;
 use std::collections::BTreeMap;
+use std::ops::Range;
 
 pub type Records = BTreeMap<Vec<u8>, Vec<u8>>;
 
@@ -293,7 +295,15 @@ fn collapse(
 }
 
 pub fn pack(frame: &[u8], out: &mut [u8]) -> u32 {
-    let checked = check(frame);
+    pack_if(check(frame), frame, out)
+}
+
+/// For a frame from before Q-3: the check is by the old rule.
+pub fn pack_before(frame: &[u8], out: &mut [u8]) -> u32 {
+    pack_if(check_before(frame), frame, out)
+}
+
+fn pack_if(checked: u32, frame: &[u8], out: &mut [u8]) -> u32 {
     if checked != DONE {
         return checked;
     }
@@ -535,9 +545,9 @@ pub(crate) fn take(frame: &mut [u8], kind: Kind) -> usize {
 }
 
 pub(crate) fn release(frame: &mut [u8], slot: usize, kind: Kind) {
+    let offset = clear_body(frame, slot, kind);
     let head_at = list_head_at(kind.number());
     let next = get16(frame, head_at);
-    let offset = body_at(frame, slot);
     set_entry(frame, slot, offset, next);
     set16(frame, head_at, slot);
 }
@@ -548,6 +558,13 @@ pub(crate) struct LeafFields {
     pub extent: usize,
     pub key_length: usize,
     pub value_length: usize,
+}
+
+impl LeafFields {
+    /// The whole extent, with its padding.
+    pub fn bytes(&self) -> Range<usize> {
+        self.extent..self.extent + extent_bytes(self.key_length, self.value_length)
+    }
 }
 
 pub(crate) fn leaf_fields(frame: &[u8], slot: usize) -> LeafFields {
@@ -591,9 +608,10 @@ pub(crate) fn write_leaf(frame: &mut [u8], slot: usize, extent: usize, key: usiz
     set16(frame, body + LEAF_VALUE_LENGTH, value);
 }
 
-fn retire(frame: &mut [u8], leaf: &LeafFields) {
-    let dead = get32(frame, AT_X) + extent_bytes(leaf.key_length, leaf.value_length);
-    set32(frame, AT_X, dead);
+pub(crate) fn retire(frame: &mut [u8], leaf: &LeafFields) {
+    let dead = leaf.bytes();
+    set32(frame, AT_X, get32(frame, AT_X) + dead.len());
+    frame[dead].fill(0);
 }
 
 fn clear_body(frame: &mut [u8], slot: usize, kind: Kind) -> usize {

@@ -5,6 +5,7 @@
 //! that entry, and fails.
 
 use crate::batch::Fault;
+use crate::check::Rule;
 use crate::layout::{number::*, Kind};
 use crate::slotless::{Case, End, Survivor, Told};
 use std::collections::BTreeMap;
@@ -18,9 +19,26 @@ pub enum Call {
     Replace,
     Erase,
     Pack,
+    PackBefore,
     Info,
     List,
     Batch,
+}
+
+impl Call {
+    /// The calls on a frame that is there.
+    const ON_A_FRAME: [Call; 10] = [
+        Call::Check,
+        Call::LookUp,
+        Call::Put,
+        Call::Replace,
+        Call::Erase,
+        Call::Pack,
+        Call::PackBefore,
+        Call::Info,
+        Call::List,
+        Call::Batch,
+    ];
 }
 
 /// How a case ended.
@@ -156,6 +174,12 @@ pub enum Entry {
     WentOn(u32),
     /// An info tells that this kind's list is not empty.
     Listed(Kind),
+    /// A call on a frame from before Q-3, which breaks this rule of Q-3 alone.
+    Before(Call, Rule),
+    /// A call frees a body of this kind that is not zero before,
+    WipedBody(Call, Kind),
+    /// or an extent.
+    WipedExtent(Call),
 }
 
 #[derive(Clone, Default, Debug)]
@@ -288,7 +312,7 @@ pub fn expected() -> Vec<Entry> {
     all.extend(Fault::ALL.map(Entry::BatchFault));
     all.extend(Batch::ALL.map(Entry::Batch));
     all.extend([DONE, ABSENT, REPLACED, PRESENT].map(Entry::WentOn));
-    let numbers: [(Call, &[u32]); 10] = [
+    let numbers: [(Call, &[u32]); 11] = [
         (Call::Format, &[DONE, LENGTHS]),
         (Call::Check, &[DONE, LENGTHS, NOT_GOOD]),
         (Call::LookUp, &[DONE, ABSENT, LENGTHS, NOT_GOOD, KEY_LENGTH, KEY_HOLDS_ZERO]),
@@ -311,6 +335,7 @@ pub fn expected() -> Vec<Entry> {
         ),
         (Call::Erase, &[DONE, ABSENT, LENGTHS, NOT_GOOD, KEY_LENGTH, KEY_HOLDS_ZERO, NO_ROOM]),
         (Call::Pack, &[DONE, LENGTHS, NOT_GOOD, OUTPUT_LENGTH]),
+        (Call::PackBefore, &[DONE, LENGTHS, NOT_GOOD, OUTPUT_LENGTH]),
         (Call::Info, &[DONE, LENGTHS, NOT_GOOD]),
         (
             Call::Batch,
@@ -332,5 +357,13 @@ pub fn expected() -> Vec<Entry> {
         all.extend(given.iter().map(|number| Entry::Number(call, *number)));
     }
     all.extend(Kind::ALL.map(Entry::Listed));
+    let before = |call: Call| Rule::WIPED.map(|rule| Entry::Before(call, rule));
+    all.extend(Call::ON_A_FRAME.into_iter().flat_map(before));
+    // An EmptyRoot is zero as long as it is live.
+    let put = [Kind::Prefix, Kind::Node4, Kind::Node16, Kind::Node48];
+    let erase = Kind::ALL.into_iter().filter(|kind| *kind != Kind::EmptyRoot);
+    all.extend(put.map(|kind| Entry::WipedBody(Call::Put, kind)));
+    all.extend(erase.map(|kind| Entry::WipedBody(Call::Erase, kind)));
+    all.extend([Call::Replace, Call::Erase].map(Entry::WipedExtent));
     all
 }

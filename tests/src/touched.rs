@@ -5,8 +5,8 @@
 //! the child field it relinks and the extent it overwrites or retires. All
 //! other bytes are equal after the call. What stays free is which listed slot
 //! is taken, the places of fresh bodies and of the extent between the old B
-//! and the new, the links of a list that is touched, and what padding and
-//! just freed bodies hold.
+//! and the new, the links of a list that is touched, and what padding holds.
+//! Bytes that are freed change, and are zero after: a rule of the frame says so.
 
 use crate::check::Reading;
 use crate::layout::*;

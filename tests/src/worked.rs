@@ -483,6 +483,91 @@ pub fn worked_batches(comparer: &mut Comparer) -> Compared<()> {
     Ok(())
 }
 
+/// Where a text stands in a frame.
+fn places_of(held: &Held, text: &[u8]) -> Vec<usize> {
+    let parts = held.bytes().windows(text.len()).enumerate();
+    parts.filter(|(_, part)| *part == text).map(|(at, _)| at).collect()
+}
+
+/// How often a text may stand in a frame.
+fn stands(comparer: &Comparer, held: &Held, text: &[u8], times: usize) -> Compared<()> {
+    let found = places_of(held, text);
+    if found.len() != times {
+        let text = text.escape_ascii();
+        return comparer.differs(format!("{text} stands at {found:?}, and not {times} times"));
+    }
+    Ok(())
+}
+
+/// what is freed is nowhere in the frame; a frame from before, in which it
+/// still is, gets 2 from every call but the packing that takes the old rule.
+pub fn wiped_bytes(comparer: &mut Comparer) -> Compared<()> {
+    comparer.begin("wiped bytes".to_string());
+    let done = || Figures { name: "a call on its way to be wiped", number: 0, fields: &[] };
+    let replaced = || Figures { name: "a replacement that wipes", number: 9, fields: &[] };
+    let mut held = formatted(comparer, (2_048, 40), 0xEE)?;
+    put(comparer, &mut held, b"pin", b"hunter2!", done())?;
+    put(comparer, &mut held, b"user", b"nobody", done())?;
+    let secret = places_of(&held, b"hunter2!");
+    stands(comparer, &held, b"hunter2!", 1)?;
+    replace(comparer, &mut held, b"pin", b"-", replaced())?;
+    for text in [&b"hunter2!"[..], b"hunt", b"er2!"] {
+        stands(comparer, &held, text, 0)?;
+    }
+    stands(comparer, &held, b"pin", 1)?;
+
+    // The same frame from before.
+    let mut before = held.bytes().to_vec();
+    before[secret[0]..][..8].copy_from_slice(b"hunter2!");
+    let before = Held::new(before);
+    comparer.check(&before)?;
+    let refused = comparer.pack(&before, &[0xEE; 2_048])?;
+    let moved = comparer.pack_before(&before, &[0xEE; 2_048])?;
+    let packed = comparer.pack(&held, &[0x11; 2_048])?.expect("a good frame packs");
+    let Some(moved) = moved.filter(|_| refused.is_none()) else {
+        return comparer.differs("a frame from before is packed by the old rule alone".to_string());
+    };
+    if moved.bytes() != packed.bytes() {
+        return comparer.differs("what was wiped is in no packed image".to_string());
+    }
+    let again = comparer.pack_before(&held, &[0x55; 2_048])?.expect("a good frame packs");
+    if again.bytes() != packed.bytes() {
+        return comparer.differs("a good frame packs alike by both rules".to_string());
+    }
+
+    // A Leaf, a Node4, a Prefix and an extent at once.
+    put(comparer, &mut held, b"subscriber.1", b"one", done())?;
+    put(comparer, &mut held, b"subscriber.2", b"two", done())?;
+    stands(comparer, &held, b"bscriber.", 3)?;
+    comparer.erase(&mut held, b"subscriber.2")?;
+    stands(comparer, &held, b"bscriber.", 1)?;
+    stands(comparer, &held, b"two", 0)?;
+    // A Node4 that grows.
+    for key in [b"k1", b"k2", b"k3", b"k4"] {
+        put(comparer, &mut held, key, b"v", done())?;
+    }
+    stands(comparer, &held, b"1234", 1)?;
+    put(comparer, &mut held, b"k5", b"v", done())?;
+    stands(comparer, &held, b"1234", 1)?;
+    stands(comparer, &held, b"12345", 1)?;
+    // In a batch, and in the frame that it is made in.
+    put(comparer, &mut held, b"line", b"secret", done())?;
+    let changes = [
+        Change::Replace { key: b"line".to_vec(), value: b"open".to_vec() },
+        Change::Erase { key: b"user".to_vec() },
+    ];
+    let mut frames = [held.bytes().to_vec(), vec![0xEE; 2_048]];
+    comparer.batch(&mut held, &frames[1], &laid(&changes, 0), &[0xEE; 2])?;
+    let [first, second] = &mut frames;
+    comparer.calls().batch(first, second, &laid(&changes, 0), &mut [0; 2]);
+    for frame in frames.map(Held::new).iter().chain([&held]) {
+        stands(comparer, frame, b"secret", 0)?;
+        stands(comparer, frame, b"nobody", 0)?;
+        stands(comparer, frame, b"open", 1)?;
+    }
+    Ok(())
+}
+
 /// F and N around their limits, and slices of another length.
 pub fn format_limits(comparer: &mut Comparer) -> Compared<()> {
     comparer.begin("format around the limits".to_string());
@@ -520,9 +605,12 @@ pub fn order_of_refusals(comparer: &mut Comparer) -> Compared<()> {
     not_good[AT_X] ^= 8;
     let mut wrong_length = not_good.clone();
     wrong_length.truncate(1_016);
+    // The EmptyRoot that the put has freed.
+    let mut before = full.bytes().to_vec();
+    before[96] = 1;
     let long_value = vec![1; LONGEST_VALUE + 1];
     let keys: [&[u8]; 6] = [b"", &[b'k'; 113], &[0; 113], b"a\0", b"b", b"a"];
-    for bytes in [full.bytes().to_vec(), not_good, wrong_length] {
+    for bytes in [full.bytes().to_vec(), not_good, wrong_length, before] {
         let mut held = Held::new(bytes);
         for key in keys {
             for value in [&b""[..], b"v", &fill, &long_value] {
@@ -534,6 +622,7 @@ pub fn order_of_refusals(comparer: &mut Comparer) -> Compared<()> {
         }
         for out in [0, 1, 1_016, 1_023, 1_025, 1_032, 524_288, 1_024] {
             comparer.pack(&held, &vec![0xEE; out])?;
+            comparer.pack_before(&held, &vec![0xEE; out])?;
         }
         for (prefix, start) in [(&[b'p'; 113][..], None), (b"", Some(&b""[..])), (b"", None)] {
             comparer.list(&held, &Asked { prefix, start, delimiter: None }, &[])?;

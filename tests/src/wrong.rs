@@ -7,11 +7,14 @@
 use crate::batch::{self, AT_KIND, AT_VALUE_LENGTH, COUNT_BYTES, OFFSET_BYTES, PUT};
 use crate::check::{self, Rule};
 use crate::compare::{Calls, Second};
+use crate::image::image;
 use crate::layout::number::*;
 use crate::layout::*;
 use crate::names::{self, Asked, Page, LENGTH_BYTES};
 use crate::store::{self, body_at, children, release, set_link, take, Found, Step};
 use crate::trees::Change;
+use crate::unused;
+use std::ops::Range;
 
 type Format = dyn Fn(&mut [u8], usize, usize) -> u32;
 type Check = dyn Fn(&[u8]) -> u32;
@@ -33,6 +36,7 @@ pub struct Altered {
     replace: Box<Put>,
     erase: Box<Erase>,
     pack: Box<Pack>,
+    pack_before: Box<Pack>,
     info: Box<Info>,
     list: Box<List>,
     batch: Box<Batch>,
@@ -49,6 +53,7 @@ impl Altered {
             replace: Box::new(|frame, key, value| Second.replace(frame, key, value)),
             erase: Box::new(|frame, key| Second.erase(frame, key)),
             pack: Box::new(|frame, out| Second.pack(frame, out)),
+            pack_before: Box::new(|frame, out| Second.pack_before(frame, out)),
             info: Box::new(|frame| Second.info(frame)),
             list: Box::new(|frame, asked, buffer| Second.list(frame, asked, buffer)),
             batch: Box::new(|frame, second, batch, answers| {
@@ -79,6 +84,9 @@ impl Calls for Altered {
     }
     fn pack(&self, frame: &[u8], out: &mut [u8]) -> u32 {
         (self.pack)(frame, out)
+    }
+    fn pack_before(&self, frame: &[u8], out: &mut [u8]) -> u32 {
+        (self.pack_before)(frame, out)
     }
     fn info(&self, frame: &[u8]) -> (u32, [u64; INFO_NUMBERS]) {
         (self.info)(frame)
@@ -123,6 +131,10 @@ fn with_erase(name: &str, erase: impl Fn(&mut [u8], &[u8]) -> u32 + 'static) -> 
 
 fn with_pack(name: &str, pack: impl Fn(&[u8], &mut [u8]) -> u32 + 'static) -> Altered {
     Altered { pack: Box::new(pack), ..Altered::named(name) }
+}
+
+fn with_pack_before(name: &str, pack: impl Fn(&[u8], &mut [u8]) -> u32 + 'static) -> Altered {
+    Altered { pack_before: Box::new(pack), ..Altered::named(name) }
 }
 
 fn with_info(name: &str, info: impl Fn(&[u8]) -> (u32, [u64; INFO_NUMBERS]) + 'static) -> Altered {
@@ -198,6 +210,42 @@ pub fn checks() -> Vec<Altered> {
             DONE
         }
     }));
+    all.push(with_check("a check by the old rule", check::check_before));
+    // What is freed is looked at, but for one part of it.
+    let passing = |name: &str, passed: fn(&[u8], usize) -> bool| {
+        with_check(name, move |frame| match check::read(frame) {
+            Some(reading) if reading.good_before() => {
+                let parts = unused::parts(frame, &reading).into_iter().flat_map(|part| part.bytes);
+                let mut seen = parts.filter(|at| !passed(frame, *at));
+                if seen.any(|at| frame[at] != 0) {
+                    NOT_GOOD
+                } else {
+                    DONE
+                }
+            }
+            _ => check::check(frame),
+        })
+    };
+    all.extend([
+        passing("a check that passes over the unit at D", |frame, at| {
+            at < get32(frame, AT_D) + UNIT
+        }),
+        passing("a check that passes over the unit before B", |frame, at| {
+            (get32(frame, AT_B) - UNIT..get32(frame, AT_B)).contains(&at)
+        }),
+        passing("a check that passes over the unit at B", |frame, at| {
+            (get32(frame, AT_B)..get32(frame, AT_B) + UNIT).contains(&at)
+        }),
+        passing("a check that passes over the frame's last unit", |frame, at| {
+            at >= frame.len() - UNIT
+        }),
+        passing("a check that looks at the first byte of each unit", |_, at| {
+            !at.is_multiple_of(UNIT)
+        }),
+        passing("a check that looks at the low bits of each byte", |frame, at| {
+            frame[at] & 0x7F == 0
+        }),
+    ]);
     all.push(with_check("a check that writes into the frame", |frame| {
         // As a C function could: the comparer looks at memory anew.
         let last = frame.as_ptr().cast_mut().wrapping_add(frame.len().saturating_sub(1));
@@ -417,11 +465,11 @@ pub fn puts() -> Vec<Altered> {
                 given => given,
             },
         ),
-        with_put("a put that clears all from B on", |frame, key, value| {
+        with_put("a put that writes a byte behind what it takes", |frame, key, value| {
             let given = Second.put(frame, key, value);
-            if given == DONE {
-                let b = get32(frame, AT_B);
-                frame[b..].fill(0);
+            let b = if given == DONE { get32(frame, AT_B) } else { frame.len() };
+            if b < frame.len() {
+                frame[b] = 1;
             }
             given
         }),
@@ -632,6 +680,170 @@ pub fn replaces() -> Vec<Altered> {
     ]
 }
 
+/// What a call has freed.
+struct Freed {
+    bodies: Vec<Range<usize>>,
+    /// With the bytes of key and value in each.
+    extents: Vec<(Range<usize>, usize)>,
+}
+
+impl Freed {
+    fn of(before: &[u8], after: &[u8]) -> Freed {
+        let was = check::read(before).expect("the lengths agree");
+        let is = check::read(after).expect("the lengths agree");
+        let gone = was.live.iter().filter(|(slot, _)| !is.live.contains_key(slot));
+        let body = |(slot, kind): (&usize, &Kind)| {
+            let at = body_at(before, *slot);
+            at..at + kind.body_bytes()
+        };
+        let dead = was.extents.iter().filter(|(slot, part)| is.extents.get(slot) != Some(part));
+        let extent = |(slot, part): (&usize, &Range<usize>)| {
+            let leaf = store::leaf_fields(before, *slot);
+            (part.clone(), leaf.key_length + leaf.value_length)
+        };
+        Freed { bodies: gone.map(body).collect(), extents: dead.map(extent).collect() }
+    }
+}
+
+fn last_unit(part: &Range<usize>) -> Range<usize> {
+    part.end - UNIT..part.end
+}
+
+/// Parts of what a call has freed.
+type Parts = fn(&Freed) -> Vec<Range<usize>>;
+
+/// What was left as it was, of what a call that is done has freed. An erase of
+/// the only record frees nothing: it formats.
+fn leave(before: &[u8], frame: &mut [u8], given: u32, parts: Parts) {
+    if matches!(given, DONE | REPLACED) && get32(frame, AT_R) > 0 {
+        for part in parts(&Freed::of(before, frame)) {
+            frame[part.clone()].copy_from_slice(&before[part]);
+        }
+    }
+}
+
+/// A unit wiped behind each extent that a call has retired.
+fn wipe_on(before: &[u8], frame: &mut [u8], given: u32) {
+    if matches!(given, DONE | REPLACED) && get32(frame, AT_R) > 0 {
+        for (extent, _) in Freed::of(before, frame).extents {
+            let more = (extent.end + UNIT).min(frame.len());
+            frame[extent.end..more].fill(0);
+        }
+    }
+}
+
+/// Stores that do not wipe all that they free, or more than that.
+pub fn wipes() -> Vec<Altered> {
+    let put = |name: &str, parts: Parts| {
+        with_put(name, move |frame, key, value| {
+            let before = frame.to_vec();
+            let given = Second.put(frame, key, value);
+            leave(&before, frame, given, parts);
+            given
+        })
+    };
+    let replace = |name: &str, parts: Parts| {
+        with_replace(name, move |frame, key, value| {
+            let before = frame.to_vec();
+            let given = Second.replace(frame, key, value);
+            leave(&before, frame, given, parts);
+            given
+        })
+    };
+    let erase = |name: &str, parts: Parts| {
+        with_erase(name, move |frame, key| {
+            let before = frame.to_vec();
+            let given = Second.erase(frame, key);
+            leave(&before, frame, given, parts);
+            given
+        })
+    };
+    let all_of_it: Parts = |freed| {
+        let extents = freed.extents.iter().map(|(part, _)| part.clone());
+        freed.bodies.iter().cloned().chain(extents).collect()
+    };
+    let bodies: Parts = |freed| freed.bodies.clone();
+    let extents: Parts = |freed| freed.extents.iter().map(|(part, _)| part.clone()).collect();
+    let short: Parts = |freed| freed.bodies.iter().map(last_unit).collect();
+    let extent_short: Parts =
+        |freed| freed.extents.iter().map(|(part, _)| last_unit(part)).collect();
+    let padding: Parts =
+        |freed| freed.extents.iter().map(|(part, text)| part.start + text..part.end).collect();
+    let mut all = vec![
+        put("a put that does not wipe what it frees", bodies),
+        put("a put that wipes a body one unit short", short),
+        put("a put that wipes a body's first unit alone", |freed| {
+            freed.bodies.iter().map(|part| part.start + UNIT..part.end).collect()
+        }),
+        replace("a replacement that does not wipe the old extent", extents),
+        replace("a replacement that wipes one unit short", extent_short),
+        replace("a replacement that leaves the padding", padding),
+        replace("a replacement that wipes the first unit alone", |freed| {
+            freed.extents.iter().map(|(part, _)| part.start + UNIT..part.end).collect()
+        }),
+        erase("an erase that does not wipe what it frees", all_of_it),
+        erase("an erase that wipes the body and not the extent", extents),
+        erase("an erase that wipes the extent and not the body", bodies),
+        erase("an erase that wipes the Leaf alone of what it frees", |freed| {
+            let leaf = Kind::Leaf.body_bytes();
+            freed.bodies.iter().filter(|part| part.len() != leaf).cloned().collect()
+        }),
+        erase("an erase that wipes a body one unit short", short),
+        erase("an erase that wipes an extent one unit short", extent_short),
+        erase("an erase that leaves the padding", padding),
+    ];
+    all.extend([
+        with_replace("a replacement that wipes the key of a live record", |frame, key, value| {
+            let before = frame.to_vec();
+            let given = Second.replace(frame, key, value);
+            wipe_on(&before, frame, given);
+            given
+        }),
+        with_replace("a replacement that wipes the key of the new extent", |frame, key, value| {
+            let dead = if check::check(frame) == DONE { get32(frame, AT_X) } else { 0 };
+            let given = Second.replace(frame, key, value);
+            if given == REPLACED && get32(frame, AT_X) > dead {
+                let Found { place, .. } = Second.look_up(frame, key);
+                frame[place as usize - key.len()..place as usize].fill(0);
+            }
+            given
+        }),
+        with_erase("an erase that wipes the key of a live record", |frame, key| {
+            let before = frame.to_vec();
+            let given = Second.erase(frame, key);
+            wipe_on(&before, frame, given);
+            given
+        }),
+        with_erase("an erase that wipes with another byte than zero", |frame, key| {
+            let before = frame.to_vec();
+            let given = Second.erase(frame, key);
+            if given == DONE && get32(frame, AT_R) > 0 {
+                for (extent, _) in Freed::of(&before, frame).extents {
+                    frame[extent].fill(u8::MAX);
+                }
+            }
+            given
+        }),
+        with_batch("a batch that does not wipe", move |frame, second, batch, answers| {
+            let before = frame.to_vec();
+            let given = Second.batch(frame, second, batch, answers);
+            if given == (DONE, 0) {
+                leave(&before, frame, DONE, all_of_it);
+                second.copy_from_slice(frame);
+            }
+            given
+        }),
+    ]);
+    all
+}
+
+/// A frame that is good by the old rule alone, as a good one.
+fn as_good(frame: &[u8]) -> Option<Vec<u8>> {
+    let reading = check::read(frame)?;
+    let only_before = !reading.good() && reading.good_before();
+    only_before.then(|| unused::wiped(frame, &reading))
+}
+
 fn highest_place(frame: &mut [u8], key: &[u8], value: &[u8]) -> u32 {
     let step = end_of_way(frame, key);
     let given = Second.put(frame, key, value);
@@ -706,17 +918,6 @@ pub fn erases() -> Vec<Altered> {
             if given == DONE && get32(frame, AT_R) == 0 {
                 let b = get32(frame, AT_B);
                 frame[b..].copy_from_slice(&before[b..]);
-            }
-            given
-        }),
-        with_erase("an erase that wipes what was freed before", |frame, key| {
-            let given = Second.erase(frame, key);
-            if given == DONE {
-                let reading = check::read(frame).expect("the lengths agree");
-                for slot in &reading.lists[Kind::Leaf.number()] {
-                    let body = body_at(frame, *slot);
-                    frame[body..body + Kind::Leaf.body_bytes()].fill(0);
-                }
             }
             given
         }),
@@ -879,6 +1080,133 @@ pub fn packs() -> Vec<Altered> {
             if given == OUTPUT_LENGTH {
                 out.fill(0);
             }
+            given
+        }),
+    ]
+}
+
+/// Packings for frames from before.
+pub fn packs_before() -> Vec<Altered> {
+    vec![
+        with_pack_before("a packing for frames from before by the new rule", |frame, out| {
+            Second.pack(frame, out)
+        }),
+        with_pack_before("a packing for frames from before that only wipes", |frame, out| {
+            let given = Second.pack_before(frame, out);
+            if given == DONE {
+                let reading = check::read(frame).expect("the lengths agree");
+                out.copy_from_slice(&unused::wiped(frame, &reading));
+            }
+            given
+        }),
+        with_pack_before("a packing for frames from before that copies them", |frame, out| {
+            let given = Second.pack_before(frame, out);
+            if given == DONE {
+                out.copy_from_slice(frame);
+            }
+            given
+        }),
+        with_pack_before("a packing for frames from before that keeps their end", |frame, out| {
+            let given = Second.pack_before(frame, out);
+            if given == DONE {
+                let b = get32(frame, AT_B);
+                out[b..].copy_from_slice(&frame[b..]);
+            }
+            given
+        }),
+        with_pack_before("a packing for frames from before with one fixed image", |frame, out| {
+            let given = Second.pack_before(frame, out);
+            if given == DONE {
+                Second.format(out, get32(frame, AT_F), get32(frame, AT_N));
+            }
+            given
+        }),
+        with_pack_before(
+            "a packing for frames from before that takes no good one",
+            |frame, out| {
+                if check::check(frame) == DONE {
+                    return NOT_GOOD;
+                }
+                Second.pack_before(frame, out)
+            },
+        ),
+        with_pack_before("a packing for frames from before that forgets the sum", |frame, out| {
+            let only_the_sum = check::read(frame).is_some_and(|reading| {
+                let broken = |rule: &Rule| *rule == Rule::Sum || Rule::WIPED.contains(rule);
+                !reading.good_before() && reading.broken.keys().all(broken)
+            });
+            if only_the_sum && frame.len() == out.len() {
+                let (f, n) = (get32(frame, AT_F), get32(frame, AT_N));
+                out.copy_from_slice(&image(f, n, &store::records(frame)));
+                return DONE;
+            }
+            Second.pack_before(frame, out)
+        }),
+        with_pack_before(
+            "a packing for frames from before that looks at its output first",
+            |frame, out| match Second.pack_before(frame, out) {
+                NOT_GOOD if frame.len() != out.len() => OUTPUT_LENGTH,
+                given => given,
+            },
+        ),
+        with_pack_before(
+            "a packing for frames from before that clears an output it refuses",
+            |frame, out| {
+                let given = Second.pack_before(frame, out);
+                if given == OUTPUT_LENGTH {
+                    out.fill(0);
+                }
+                given
+            },
+        ),
+        with_pack_before("a packing for frames from before that wipes them", |frame, out| {
+            let given = Second.pack_before(frame, out);
+            if let (DONE, Some(good)) = (given, as_good(frame)) {
+                // As a C function could: the comparer looks at memory anew.
+                let first = frame.as_ptr().cast_mut();
+                for (at, byte) in good.into_iter().enumerate() {
+                    unsafe { first.wrapping_add(at).write_volatile(byte) };
+                }
+            }
+            given
+        }),
+    ]
+}
+
+/// Calls that take a frame from before, as only one may.
+pub fn by_the_old_rule() -> Vec<Altered> {
+    // The frame as it is taken, and the change that it gets.
+    fn changed(frame: &mut [u8], change: impl FnOnce(&mut [u8]) -> u32) -> u32 {
+        if let Some(good) = as_good(frame) {
+            frame.copy_from_slice(&good);
+        }
+        change(frame)
+    }
+    fn taken(frame: &[u8]) -> Vec<u8> {
+        as_good(frame).unwrap_or_else(|| frame.to_vec())
+    }
+    vec![
+        with_look_up("a look-up by the old rule", |frame, key| Second.look_up(&taken(frame), key)),
+        with_put("a put by the old rule", |frame, key, value| {
+            changed(frame, |frame| Second.put(frame, key, value))
+        }),
+        with_replace("a replacement by the old rule", |frame, key, value| {
+            changed(frame, |frame| Second.replace(frame, key, value))
+        }),
+        with_erase("an erase by the old rule", |frame, key| {
+            changed(frame, |frame| Second.erase(frame, key))
+        }),
+        with_pack("a pack by the old rule", |frame, out| Second.pack_before(frame, out)),
+        with_info("an info by the old rule", |frame| Second.info(&taken(frame))),
+        with_list("a listing by the old rule", |frame, asked, buffer| {
+            Second.list(&taken(frame), asked, buffer)
+        }),
+        with_batch("a batch by the old rule", |frame, second, batch, answers| {
+            let mut given = (DONE, 0);
+            changed(frame, |frame| {
+                given = Second.batch(frame, second, batch, answers);
+                given.0
+            });
             given
         }),
     ]
@@ -1499,24 +1827,14 @@ fn turn_list(frame: &mut [u8], kind: Kind, list: &[usize]) {
     set16(frame, list_head_at(kind.number()), next);
 }
 
-/// Touched lists the other way round; garbage in just freed bodies, in just
-/// retired extents and in the padding of new ones.
+/// Touched lists the other way round; garbage in the padding of new extents.
 fn use_freedoms(before: &[u8], frame: &mut [u8]) {
     let was = check::read(before).expect("the lengths agree");
     let is = check::read(frame).expect("the lengths agree");
     for kind in Kind::ALL {
         let (old, new) = (&was.lists[kind.number()], &is.lists[kind.number()]);
-        for slot in new.iter().filter(|slot| !old.contains(slot)) {
-            let body = body_at(frame, *slot);
-            frame[body..body + kind.body_bytes()].fill(GARBAGE);
-        }
         if old != new {
             turn_list(frame, kind, new);
-        }
-    }
-    for (slot, extent) in &was.extents {
-        if is.extents.get(slot) != Some(extent) {
-            frame[extent.clone()].fill(GARBAGE);
         }
     }
     for (slot, extent) in &is.extents {

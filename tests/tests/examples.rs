@@ -1,6 +1,10 @@
 //! The C header and the examples in C and Rust, compiled and run against the
 //! archive; the settings files of both through torn and damaged saves.
 
+use second_store::check::{check, check_before, read, Rule};
+use second_store::layout::{number, AT_R};
+use second_store::random::Random;
+use second_store::unused::soiled;
 use std::fs;
 use std::path::{Path, PathBuf};
 use std::process::{Command, Output};
@@ -105,7 +109,17 @@ const NONE_STANDS: i32 = 3;
 const BAD_FILE: i32 = 4;
 
 /// A counter, a frame and a checksum.
-const GENERATION: usize = 8 + 1_024 + 4;
+const COUNTER: usize = 8;
+const SUMMED: usize = COUNTER + 1_024;
+const GENERATION: usize = SUMMED + 4;
+
+/// The checksum of a generation made right again.
+fn sum_up(generation: &mut [u8]) {
+    let sum = !generation[..SUMMED].iter().fold(!0, |sum: u32, byte| {
+        (0..8).fold(sum ^ u32::from(*byte), |sum, _| (sum >> 1) ^ (0xEDB8_8320 * (sum & 1)))
+    });
+    generation[SUMMED..].copy_from_slice(&sum.to_le_bytes());
+}
 
 /// A settings program and the file that it keeps.
 struct Settings {
@@ -253,5 +267,46 @@ fn a_damaged_generation_is_left_for_the_other() {
             let expected = if at < GENERATION { "new" } else { "old" };
             assert_eq!(settings.holding(&damaged).get("rate"), value(expected), "byte {at}");
         }
+    }
+}
+
+/// The frames of a file, as bytes.
+fn frames(file: &[u8]) -> Vec<&[u8]> {
+    file.chunks(GENERATION).map(|generation| &generation[COUNTER..SUMMED]).collect()
+}
+
+#[test]
+fn a_file_from_before_is_moved_over() {
+    for settings in Settings::both("before") {
+        settings.saved_over();
+        let mut before = settings.bytes();
+        for generation in before.chunks_mut(GENERATION) {
+            let frame = &mut generation[COUNTER..SUMMED];
+            let reading = read(frame).expect("the lengths agree");
+            let old = soiled(&mut Random::new(1), frame, &reading, &Rule::WIPED);
+            frame.copy_from_slice(&old);
+            assert_eq!((check(frame), check_before(frame)), (number::NOT_GOOD, number::DONE));
+            sum_up(generation);
+        }
+        assert_eq!(settings.holding(&before).get("rate"), value("new"));
+        assert!(settings.bytes() == before, "only a change is saved");
+        assert_eq!(settings.run(&["init"]).0, REFUSED, "never over settings that stand");
+        settings.does(&["set", "mode", "vdsl"]);
+        let after = settings.bytes();
+        assert_eq!(check(frames(&after)[0]), number::DONE, "the generation that was saved");
+        assert!(after[GENERATION..] == before[GENERATION..], "what stood still stands");
+        settings.does(&["compact"]);
+        for frame in frames(&settings.bytes()) {
+            assert_eq!(check(frame), number::DONE);
+        }
+        assert_eq!((settings.get("rate"), settings.get("mode")), (value("new"), value("vdsl")));
+
+        // Good by neither rule, though the checksum is right.
+        let mut wrong = before.clone();
+        for generation in wrong.chunks_mut(GENERATION) {
+            generation[COUNTER + AT_R] += 1;
+            sum_up(generation);
+        }
+        assert_eq!(settings.holding(&wrong).get("rate"), (NONE_STANDS, String::new()));
     }
 }

@@ -182,7 +182,7 @@ fn the_check_does_not_notice_every_damage() {
     }
     println!("single bits of a packed frame of {} bytes with 500 settings:", image.len());
     println!("{noticed} noticed, {without_effect} without effect, {other_records} other records");
-    assert_eq!((noticed, without_effect, other_records), (318_641, 155_448, 50_199));
+    assert_eq!((noticed, without_effect, other_records), (459_505, 14_584, 50_199));
 }
 
 /// Blank bytes hold no F: 1 and not 2, like a frame whose F was damaged.

@@ -50,6 +50,11 @@ fn worked_batches_hold() {
 }
 
 #[test]
+fn wiped_bytes_hold() {
+    passes(worked::wiped_bytes(&mut Comparer::new(&Second)));
+}
+
+#[test]
 fn format_limits_hold() {
     passes(worked::format_limits(&mut Comparer::new(&Second)));
 }

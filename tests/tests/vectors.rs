@@ -1,8 +1,8 @@
 //! W1 to W11, the lengths and children that document 01 lists under "Run and
-//! compared", and puts, replacements, listings and batches of document 02, told
-//! step by step: the number given and U, B, R and X after it, or what is listed. The
-//! exported calls and the second store are held to the stored lines, and these
-//! to the figures that document 01 prints.
+//! compared", and puts, replacements, listings, batches and wiped bytes of
+//! document 02, told step by step: the number given and U, B, R and X after it,
+//! or what is listed. The exported calls and the second store are held to the
+//! stored lines, and these to the figures that document 01 prints.
 
 use second_store::batch::laid;
 use second_store::compare::{Calls, Second};
@@ -51,6 +51,17 @@ const TOLD_BY_Q5: [&str; 8] = [
     "Q-5 replace a of 895: 6 ",
     "Q-5 put a of 895: 11 ",
     "Q-5 replace b of 895: 8 ",
+];
+
+/// And of what is freed: it is nowhere in the frame, and a frame in which
+/// something is left is taken by one call alone.
+const TOLD_BY_Q3: [&str; 6] = [
+    "Q-3 replace pin=-: 9 ",
+    "  of hunter2! 0, of nobody 1",
+    "Q-3 erase user: 0 ",
+    "  of hunter2! 0, of nobody 0",
+    "Q-3 nothing left: check 0, pack 0, pack by the old rule 0",
+    "Q-3 a byte left: check 2, pack 2, pack by the old rule 0",
 ];
 
 /// Children and the kind they are kept in, on the way up and down.
@@ -263,6 +274,43 @@ impl Told<'_> {
     }
 }
 
+/// Q-3.
+impl Told<'_> {
+    /// How often the texts stand in the frame.
+    fn texts(&mut self, frame: &[u8]) {
+        let [pin, user] = [&b"hunter2!"[..], b"nobody"]
+            .map(|text| frame.windows(text.len()).filter(|part| *part == text).count());
+        writeln!(self.text, "  of hunter2! {pin}, of nobody {user}").expect("a text takes more");
+    }
+
+    /// What the check and both packings give; and the counts of what is packed.
+    fn by_both_rules(&mut self, step: &str, frame: &[u8]) {
+        let mut packed = [vec![0; frame.len()], vec![0; frame.len()]];
+        let check = self.calls.check(frame);
+        let pack = self.calls.pack(frame, &mut packed[0]);
+        let before = self.calls.pack_before(frame, &mut packed[1]);
+        let told = format!("check {check}, pack {pack}, pack by the old rule {before}");
+        writeln!(self.text, "Q-3 {step}: {told}").expect("a text takes more");
+        self.line("  packed by the old rule", before, &packed[1]);
+    }
+
+    fn wiped(&mut self) {
+        let mut frame = self.format("Q-3 format", SMALL);
+        self.put("Q-3 put pin=hunter2!", &mut frame, b"pin", b"hunter2!");
+        self.put("Q-3 put user=nobody", &mut frame, b"user", b"nobody");
+        self.texts(&frame);
+        self.replace("Q-3 replace pin=-", &mut frame, b"pin", b"-");
+        self.texts(&frame);
+        self.erase("Q-3 erase user", &mut frame, b"user");
+        self.texts(&frame);
+        self.by_both_rules("nothing left", &frame);
+        frame[SMALL.0 - 1] = 1;
+        self.by_both_rules("a byte left", &frame);
+        frame[AT_R] ^= 1;
+        self.by_both_rules("a byte left, R wrong", &frame);
+    }
+}
+
 fn told(calls: &dyn Calls) -> String {
     let mut told = Told { calls, text: String::new() };
     told.worked();
@@ -271,13 +319,14 @@ fn told(calls: &dyn Calls) -> String {
     told.puts_and_replacements();
     told.listings();
     told.batches();
+    told.wiped();
     told.text
 }
 
 #[test]
 fn the_stored_lines_have_the_printed_figures() {
     let lines: Vec<&str> = STORED.lines().collect();
-    for printed in PRINTED.into_iter().chain(TOLD_BY_Q5) {
+    for printed in PRINTED.into_iter().chain(TOLD_BY_Q5).chain(TOLD_BY_Q3) {
         assert!(lines.iter().any(|line| line.starts_with(printed)), "no line {printed}");
     }
     let top = lines.iter().position(|line| line.starts_with("children 49: "));

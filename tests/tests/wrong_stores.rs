@@ -25,7 +25,7 @@ fn all_caught(stores: Vec<Altered>, at_least: usize) {
 
 #[test]
 fn wrong_checks_are_caught() {
-    all_caught(wrong::checks(), 42);
+    all_caught(wrong::checks(), 52);
 }
 
 #[test]
@@ -50,12 +50,27 @@ fn wrong_replacements_are_caught() {
 
 #[test]
 fn wrong_erases_are_caught() {
-    all_caught(wrong::erases(), 12);
+    all_caught(wrong::erases(), 11);
 }
 
 #[test]
 fn wrong_packs_are_caught() {
     all_caught(wrong::packs(), 7);
+}
+
+#[test]
+fn wrong_packs_before_are_caught() {
+    all_caught(wrong::packs_before(), 10);
+}
+
+#[test]
+fn what_is_not_wiped_as_it_should_be_is_caught() {
+    all_caught(wrong::wipes(), 19);
+}
+
+#[test]
+fn calls_by_the_old_rule_are_caught() {
+    all_caught(wrong::by_the_old_rule(), 8);
 }
 
 #[test]

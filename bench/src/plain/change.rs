@@ -1,7 +1,8 @@
 //! Put, replacement and erase, in place in a good frame.
 //!
 //! Each case names the bodies it needs and compares them with the room left
-//! before it writes anything. What a call frees goes on its list last.
+//! before it writes anything. What a call frees is wiped, and goes on its list
+//! last.
 
 use super::layout::number::*;
 use super::layout::*;
@@ -72,7 +73,7 @@ pub fn erase(frame: &mut [u8], key: &[u8]) -> u32 {
     if take_out(frame, &way, walked_byte(key, way.parent.depth)).is_none() {
         return NO_ROOM;
     }
-    add32(frame, AT_X, extent_bytes(leaf.key_length, leaf.value_length));
+    retire(frame, &leaf);
     release(frame, way.end.slot, LEAF);
     set32(frame, AT_R, records - 1);
     DONE
@@ -90,7 +91,7 @@ fn replace_value(frame: &mut [u8], end: &Step, leaf: &LeafFields, key: &[u8], va
         return NO_ROOM;
     }
     write_leaf(frame, end.body, key, value);
-    add32(frame, AT_X, extent_bytes(leaf.key_length, leaf.value_length));
+    retire(frame, leaf);
     REPLACED
 }
 
@@ -293,8 +294,16 @@ fn take(frame: &mut [u8], kind: usize) -> (usize, usize) {
 fn release(frame: &mut [u8], slot: usize, kind: usize) {
     let head = get16(frame, list_head_at(kind));
     let (body, _) = get_entry(frame, slot);
+    frame[body..body + BODY_BYTES[kind]].fill(0);
     set_entry(frame, slot, body, head);
     set16(frame, list_head_at(kind), slot);
+}
+
+/// The extent of a Leaf that has another one, or none any more.
+fn retire(frame: &mut [u8], leaf: &LeafFields) {
+    let size = extent_bytes(leaf.key_length, leaf.value_length);
+    frame[leaf.extent..leaf.extent + size].fill(0);
+    add32(frame, AT_X, size);
 }
 
 fn set_link(frame: &mut [u8], link: usize, slot: usize) {

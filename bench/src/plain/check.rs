@@ -1,9 +1,11 @@
-//! The check, in one walk over the lists and the tree.
+//! The check, in one walk over the tree and the lists.
 //!
 //! One bit map over the frame's units holds what is taken; everything below D
 //! and from B on is taken from the start. Each body and each live extent takes
 //! its own units, word by word, and may take none that is taken. A slot that is
 //! met twice would take its body twice, so as many bodies as U are all of them.
+//! After the tree and before the lists the map has what is live: all else from
+//! D on is zero.
 
 use super::layout::number::{DONE, LENGTHS, NOT_GOOD};
 use super::layout::*;
@@ -20,15 +22,26 @@ const HIGH_BITS: u64 = u64::from_ne_bytes([0x80; 8]);
 
 #[inline(never)]
 pub fn check(frame: &[u8]) -> u32 {
+    check_by(frame, true)
+}
+
+/// The check of a frame from before what is freed was wiped.
+#[inline(never)]
+pub fn check_before(frame: &[u8]) -> u32 {
+    check_by(frame, false)
+}
+
+#[inline(always)]
+fn check_by(frame: &[u8], wiped: bool) -> u32 {
     if !frame_length_allowed(frame.len()) || get32(frame, AT_F) != frame.len() {
         return LENGTHS;
     }
     let good = if frame.len() <= SMALL_FRAME {
-        good_frame::<{ map_words(SMALL_FRAME) }>(frame)
+        good_frame::<{ map_words(SMALL_FRAME) }>(frame, wiped)
     } else if frame.len() <= MIDDLE_FRAME {
-        good_frame::<{ map_words(MIDDLE_FRAME) }>(frame)
+        good_frame::<{ map_words(MIDDLE_FRAME) }>(frame, wiped)
     } else {
-        good_frame::<{ map_words(LONGEST_FRAME) }>(frame)
+        good_frame::<{ map_words(LONGEST_FRAME) }>(frame, wiped)
     };
     if good {
         DONE
@@ -43,7 +56,7 @@ const fn map_words(bytes: usize) -> usize {
 }
 
 #[inline(never)]
-fn good_frame<const MAP_WORDS: usize>(frame: &[u8]) -> bool {
+fn good_frame<const MAP_WORDS: usize>(frame: &[u8], wiped: bool) -> bool {
     let Some(header) = Header::read(frame) else {
         return false;
     };
@@ -53,8 +66,9 @@ fn good_frame<const MAP_WORDS: usize>(frame: &[u8]) -> bool {
     let (entries, _) = frame[HEADER_BYTES..entry_at(header.u + 1)].as_chunks();
     let path = [0; PATH_ROOM];
     let mut checker = Checker { frame, entries, taken, path, leaves: 0, other_bodies: 0 };
-    checker.lists()
-        && checker.root()
+    checker.root()
+        && (!wiped || checker.all_else_zero(header.b))
+        && checker.lists()
         && checker.leaves + checker.other_bodies == header.u
         && checker.leaves == get32(frame, AT_R)
         && checker.units_not_taken() * UNIT == get32(frame, AT_X)
@@ -177,6 +191,30 @@ impl<'a> Checker<'a> {
         *high |= high_mask;
         between.fill(u64::MAX);
         met == 0
+    }
+
+    /// Whether all units that are not taken are zero, and all bytes from B on.
+    fn all_else_zero(&self, b: usize) -> bool {
+        let (units, _) = self.frame.as_chunks::<UNIT>();
+        for (word, taken) in self.taken.iter().enumerate() {
+            let units = &units[word * u64::BITS as usize..];
+            let mut free = !taken;
+            let mut left = 0;
+            if free == u64::MAX {
+                for unit in &units[..u64::BITS as usize] {
+                    left |= u64::from_le_bytes(*unit);
+                }
+            } else {
+                while free != 0 {
+                    left |= u64::from_le_bytes(units[free.trailing_zeros() as usize]);
+                    free &= free - 1;
+                }
+            }
+            if left != 0 {
+                return false;
+            }
+        }
+        all_zero(&self.frame[b..])
     }
 
     /// What no body and no live extent has between D and B.

@@ -1,7 +1,7 @@
 //! Packing: one walk over the tree, every byte of the output written once.
 
 use super::change::write_child;
-use super::check::check;
+use super::check::{check, check_before};
 use super::format;
 use super::layout::number::*;
 use super::layout::*;
@@ -9,9 +9,20 @@ use super::walk::{children, leaf_fields};
 
 pub fn pack(frame: &[u8], out: &mut [u8]) -> u32 {
     match check(frame) {
-        DONE => {}
-        refused => return refused,
+        DONE => pack_good(frame, out),
+        refused => refused,
     }
+}
+
+/// The packing of a frame from before what is freed was wiped.
+pub fn pack_before(frame: &[u8], out: &mut [u8]) -> u32 {
+    match check_before(frame) {
+        DONE => pack_good(frame, out),
+        refused => refused,
+    }
+}
+
+fn pack_good(frame: &[u8], out: &mut [u8]) -> u32 {
     if out.len() != frame.len() {
         return OUTPUT_LENGTH;
     }

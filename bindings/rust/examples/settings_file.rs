@@ -12,10 +12,13 @@
 //! the plug is pulled meanwhile, that generation's checksum is wrong and the one in use stays in use. One program at a time uses a
 //! file; `examples/c/settings.c` keeps the same one.
 //!
+//! A file from before the store wiped what it frees is moved over: its frames are packed as they are read, and the next changes save
+//! them so. Two compacts write both generations anew.
+//!
 //! It ends with 0; 1: no such key; 2: refused, nothing was saved; 3: no generation stands; 4: the file cannot be read or written.
 #![forbid(unsafe_code)]
 
-use frame_store::{check, Erase, Frame, Put, Refusal};
+use frame_store::{check, Erase, Frame, Put, Refusal, View};
 use std::fs::{File, OpenOptions};
 use std::io::{self, Read, Seek, SeekFrom, Write};
 use std::process::ExitCode;
@@ -36,6 +39,14 @@ fn checksum(bytes: &[u8]) -> u32 {
     })
 }
 
+/// A good frame as it is; one from before freed bytes were wiped, packed.
+fn taken(bytes: [u8; F]) -> Result<Frame<[u8; F]>, Refusal> {
+    match check(&bytes) {
+        Ok(()) => Ok(Frame::over(bytes)),
+        Err(_) => View::over(&bytes).pack_before([0; F]),
+    }
+}
+
 #[derive(Clone, Copy)]
 struct Generation {
     counter: u64,
@@ -48,10 +59,10 @@ impl Generation {
         let (summed, stored) = bytes.split_at_checked(SUMMED)?;
         let stored = u32::from_le_bytes(stored.try_into().ok()?);
         let (counter, frame) = summed.split_first_chunk::<COUNTER>()?;
-        if stored != checksum(summed) || check(frame).is_err() {
+        if stored != checksum(summed) {
             return None;
         }
-        let frame = Frame::over(frame.try_into().ok()?);
+        let frame = taken(frame.try_into().ok()?).ok()?;
         Some(Generation { counter: u64::from_le_bytes(*counter), frame })
     }
 

@@ -53,6 +53,12 @@ mod c {
             out: *mut u8,
             out_len: Length,
         ) -> u32;
+        pub fn frame_pack_before(
+            frame: *const u8,
+            frame_len: Length,
+            out: *mut u8,
+            out_len: Length,
+        ) -> u32;
         pub fn frame_list(
             frame: *const u8,
             frame_len: Length,
@@ -126,6 +132,11 @@ pub fn erase(frame: &mut [u8], key: &[u8]) -> u32 {
 pub fn pack(frame: &[u8], out: &mut [u8]) -> u32 {
     let (frame_len, out_len) = (length(frame.len()), length(out.len()));
     unsafe { c::frame_pack(frame.as_ptr(), frame_len, out.as_mut_ptr(), out_len) }
+}
+
+pub fn pack_before(frame: &[u8], out: &mut [u8]) -> u32 {
+    let (frame_len, out_len) = (length(frame.len()), length(out.len()));
+    unsafe { c::frame_pack_before(frame.as_ptr(), frame_len, out.as_mut_ptr(), out_len) }
 }
 
 /// As a delimiter: none.

@@ -24,6 +24,9 @@
 //!
 //! The check looks at how a frame is built, not at what the records say: a frame whose bytes were changed on the way can be a good
 //! frame with other records. Keep a checksum beside stored bytes; the example `settings_file` does.
+//!
+//! What is erased or replaced is overwritten with zero, and a good frame has zero wherever nothing is stored. A frame from before that
+//! was so is refused with [`Refusal::Frame`] by all but [`View::pack_before`], which packs it once.
 #![no_std]
 #![warn(missing_docs)]
 #![deny(unsafe_code)]
@@ -51,7 +54,7 @@ pub enum Refusal {
     KeyZero,
     /// 5: the value has more than 65,535 bytes.
     ValueLength,
-    /// 7: pack: the output is not as long as the frame. Batch: the second frame is not.
+    /// 7: pack, by either rule: the output is not as long as the frame. Batch: the second frame is not.
     Output,
     /// 6: not enough slots or bytes are left for what the call needs.
     Room,
@@ -284,6 +287,25 @@ impl<'a> View<'a> {
         }
     }
 
+    /// The same for a frame from before freed bytes were wiped: every other call refuses one that still holds what was erased. A frame
+    /// that is good now is packed as [`View::pack`] packs it.
+    ///
+    /// ```
+    /// # use frame_store::{check, Frame, Refusal, View};
+    /// # let mut stored = Frame::format([0; 1024], 8)?.into_bytes();
+    /// # stored[1023] = 7;
+    /// assert_eq!(check(&stored), Err(Refusal::Frame));
+    /// let settings = View::over(&stored).pack_before([0; 1024])?;
+    /// assert_eq!(check(settings.bytes()), Ok(()));
+    /// # Ok::<(), Refusal>(())
+    /// ```
+    pub fn pack_before<B: AsMut<[u8]>>(self, mut out: B) -> Result<Frame<B>, Refusal> {
+        match calls::pack_before(self.bytes, out.as_mut()) {
+            DONE => Ok(Frame { bytes: out }),
+            refused => Err(Refusal::of_number(refused)),
+        }
+    }
+
     /// How full the frame is.
     pub fn info(self) -> Result<Info, Refusal> {
         match calls::info(self.bytes) {
@@ -390,8 +412,8 @@ impl<B: AsRef<[u8]> + AsMut<[u8]>> Frame<B> {
         }
     }
 
-    /// Gives the record with this key another value. If it is of another length, the old one's bytes are not free before the frame
-    /// is packed. To set a value whether the key is there or not, put, and replace if it is [`Put::Present`].
+    /// Gives the record with this key another value. If it is of another length, the old one's bytes are zero after it, and not free
+    /// before the frame is packed. To set a value whether the key is there or not, put, and replace if it is [`Put::Present`].
     pub fn replace(&mut self, key: &[u8], value: &[u8]) -> Result<Replace, Refusal> {
         match calls::replace(self.bytes.as_mut(), key, value) {
             REPLACED => Ok(Replace::Done),
@@ -400,8 +422,8 @@ impl<B: AsRef<[u8]> + AsMut<[u8]>> Frame<B> {
         }
     }
 
-    /// Takes a record out. This can be refused for room: a smaller node or a longer prefix may be needed. The record's bytes are
-    /// not overwritten; a packed frame does not have them.
+    /// Takes a record out, and overwrites with zero what it had. This can be refused for room: a smaller node or a longer prefix may be
+    /// needed.
     pub fn erase(&mut self, key: &[u8]) -> Result<Erase, Refusal> {
         match calls::erase(self.bytes.as_mut(), key) {
             DONE => Ok(Erase::Done),
@@ -463,6 +485,11 @@ impl<B: AsRef<[u8]> + AsMut<[u8]>> Frame<B> {
     /// Writes the packed image of the records to `out`; see [`View::pack`]. This frame stays as it is.
     pub fn pack<O: AsMut<[u8]>>(&self, out: O) -> Result<Frame<O>, Refusal> {
         self.view().pack(out)
+    }
+
+    /// The same for a frame from before freed bytes were wiped; see [`View::pack_before`].
+    pub fn pack_before<O: AsMut<[u8]>>(&self, out: O) -> Result<Frame<O>, Refusal> {
+        self.view().pack_before(out)
     }
 
     /// All names that begin with the prefix, in byte order, a page at a time through the buffer; see [`View::names`].

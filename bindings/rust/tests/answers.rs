@@ -111,6 +111,7 @@ fn bytes_that_were_not_looked_at_are_refused_by_each_call() {
         assert_eq!(frame.view().list(b"", None, None, &mut [0; 114]), Err(refusal));
         assert_eq!(frame.names(b"", &mut [0; 114]).next_entry(), Err(refusal));
         assert_eq!(frame.pack([0; F]).err(), Some(refusal));
+        assert_eq!(frame.pack_before([0; F]).err(), Some(refusal));
         assert_eq!(frame.info(), Err(refusal));
         assert_eq!(frame.into_bytes(), bytes);
     }
@@ -255,7 +256,43 @@ fn refusals_change_nothing() {
     assert_eq!(frame.erase(b""), Err(Refusal::KeyLength));
     assert_eq!(frame.erase(b"\0"), Err(Refusal::KeyZero));
     assert_eq!(frame.pack(&mut [0; F + 8]).err(), Some(Refusal::Output));
+    assert_eq!(frame.pack_before(&mut [0; F + 8]).err(), Some(Refusal::Output));
     assert_eq!(frame.bytes(), before);
+}
+
+#[test]
+fn what_is_freed_is_wiped() -> Result<(), Refusal> {
+    let mut frame = Frame::format([0; F], N)?;
+    frame.put(b"pin", b"hunter2!")?;
+    frame.put(b"user", b"nobody")?;
+    let stands = |frame: &Frame<[u8; F]>, text: &[u8]| {
+        frame.bytes().windows(text.len()).any(|part| part == text)
+    };
+    assert!(stands(&frame, b"hunter2!") && stands(&frame, b"nobody"));
+    frame.replace(b"pin", b"-")?;
+    frame.erase(b"user")?;
+    assert!(!stands(&frame, b"hunter2!") && !stands(&frame, b"nobody") && !stands(&frame, b"user"));
+    assert_eq!(frame.look_up(b"pin")?, Some(&b"-"[..]));
+    Ok(())
+}
+
+#[test]
+fn a_frame_from_before_is_packed_once() -> Result<(), Refusal> {
+    let mut good = Frame::format([0; F], N)?;
+    good.put(b"a", b"1")?;
+    let mut before = good.into_bytes();
+    before[F - 1] = 7;
+    let mut frame = Frame::over(before);
+    assert_eq!(check(&before), Err(Refusal::Frame));
+    assert_eq!(frame.put(b"b", b"2"), Err(Refusal::Frame));
+    assert_eq!(frame.look_up(b"a"), Err(Refusal::Frame));
+    assert_eq!(frame.pack([0; F]).err(), Some(Refusal::Frame));
+    let mut packed = frame.pack_before([7; F])?;
+    assert_eq!(frame.into_bytes(), before, "it is only read");
+    assert_eq!(packed.bytes(), good.pack([0; F])?.bytes());
+    assert_eq!(packed.bytes(), good.pack_before([1; F])?.bytes(), "a good frame packs so too");
+    assert_eq!(packed.put(b"b", b"2")?, Put::New);
+    Ok(())
 }
 
 #[test]

@@ -9,13 +9,13 @@ use lib.ListN.{length}
 use lib.Dec.{eqb}
 use borrow.Author.Tests.{eq-eqb}
 use Rattle.model.specs.Strings.{pick, hasZero}
-use Rattle.model.specs.Edition.{edition1}
+use Rattle.model.specs.Edition.{Edition, edition1}
 use Rattle.model.specs.Frame.{Good}
 use Rattle.model.specs.Order.{InOrder}
 use Rattle.model.specs.Promise.{LengthOk, Told}
 use Rattle.model.proofs.StringLaws.{bool-cases, eqb-cases, ltb-cases, clash}
 use Rattle.model.proofs.Edition1.{zero-free, positive-at}
-use Rattle.demands.specs.Words.{Ground, OneOf, InTurn, numbersOf, FirstOf, wrongLength, notGood, keyLength, keyZero}
+use Rattle.demands.specs.Words.{Ground, OneOf, InTurn, numbersOf, FirstOf, wrongLength, notGoodBy, notGood, keyLength, keyZero}
 
 -- ---- the first that applies, decided one after another
 
@@ -62,9 +62,9 @@ first (g ∷ gs) answers n t (inr h) = (
 
 -- ---- 1 and 2: what the number says of the frame
 
-pub frame-first : (f : List ℕ) (gs : List Ground) (answers : List ℕ) (n : ℕ) → InOrder (1 ∷ 2 ∷ numbersOf gs) → distinct (1 ∷ 2 ∷ numbers gs answers) ≡ true → Told edition1 f n
-    → (Good edition1 f → Given gs answers n) → FirstOf (wrongLength f ∷ notGood f ∷ gs) answers n
-frame-first f gs answers n o t told h = (o, ((one, told .length1), λ fits. ((two, is2 fits), λ good. first gs answers n t2 (h (told .good (λ e. fits (one e)) (λ e. good (two e)))))))
+pub frame-first-by : (E : Edition) (f : List ℕ) (gs : List Ground) (answers : List ℕ) (n : ℕ) → InOrder (1 ∷ 2 ∷ numbersOf gs) → distinct (1 ∷ 2 ∷ numbers gs answers) ≡ true → Told E f n
+    → (Good E f → Given gs answers n) → FirstOf (wrongLength f ∷ notGoodBy E f ∷ gs) answers n
+frame-first-by E f gs answers n o t told h = (o, ((one, told .length1), λ fits. ((two, is2 fits), λ good. first gs answers n t2 (h (told .good (λ e. fits (one e)) (λ e. good (two e)))))))
   where
     t1 : distinct (2 ∷ numbers gs answers) ≡ true
     t1 = distinct-tail 1 (2 ∷ numbers gs answers) t
@@ -72,17 +72,21 @@ frame-first f gs answers n o t told h = (o, ((one, told .length1), λ fits. ((tw
     t2 : distinct (numbers gs answers) ≡ true
     t2 = distinct-tail 2 (numbers gs answers) t1
 
-    not1 : Good edition1 f → n ≢ 1
+    not1 : Good E f → n ≢ 1
     not1 g = fresh-not 1 n (2 ∷ numbers gs answers) (distinct-head 1 (2 ∷ numbers gs answers) t) (inr (given-among gs answers n (h g)))
 
-    two : n ≡ 2 → Good edition1 f → ⊥
+    two : n ≡ 2 → Good E f → ⊥
     two e g = fresh-not 2 n (numbers gs answers) (distinct-head 2 (numbers gs answers) t1) (given-among gs answers n (h g)) e
 
     one : n ≡ 1 → LengthOk f → ⊥
     one e l = let q : n ≡ 2 = told .bad2 l (λ g. not1 g e) in omega arith
 
-    is2 : ((LengthOk f → ⊥) → ⊥) → (Good edition1 f → ⊥) → n ≡ 2
+    is2 : ((LengthOk f → ⊥) → ⊥) → (Good E f → ⊥) → n ≡ 2
     is2 fits bad = eqb-cases n 2 (λ u q. q) (λ u q. absurd (fits (λ l. q (told .bad2 l bad))))
+
+pub frame-first : (f : List ℕ) (gs : List Ground) (answers : List ℕ) (n : ℕ) → InOrder (1 ∷ 2 ∷ numbersOf gs) → distinct (1 ∷ 2 ∷ numbers gs answers) ≡ true → Told edition1 f n
+    → (Good edition1 f → Given gs answers n) → FirstOf (wrongLength f ∷ notGood f ∷ gs) answers n
+frame-first = frame-first-by edition1
 
 -- ---- 3 and 4: what edition 1 says of the key
 

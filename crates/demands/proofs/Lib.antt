@@ -3,6 +3,7 @@ pub mod RoomLaws
 pub mod Refusals
 pub mod DoneLaws
 pub mod Sets
+pub mod BeforeLaws
 pub mod Orders
 pub mod AnyOrderLaws
 pub mod Theorems

@@ -19,7 +19,7 @@ use Rattle.model.specs.State.{State, Done, unless, formatted, findIn, putChange
 use Rattle.model.specs.Image.{treeOf}
 use Rattle.model.specs.Visits.{visitsIn}
 use Rattle.model.specs.Frame.{Root, Stands, RootAt, rootArt}
-use Rattle.model.specs.Touch.{Part, Outside, putTouch, findAt, extentAt}
+use Rattle.model.specs.Touch.{Part, Outside, putTouch, findAt, dying, extentAt}
 use Rattle.model.specs.Promise.{FormatOk, FormatPromise, Found, foundOf, onLookUp, LookUpPromise, ValuePromise, changes, WritePromise, PutPromise, ReplacePromise, PutOrReplacePromise, ErasePromise, PackPromise}
 use Rattle.model.specs.Call.{Call, put, replace, erase, keyOf, edited, given, Called}
 use Rattle.model.proofs.StringLaws.{eqb-cases, leb-cases, clash}
@@ -85,7 +85,7 @@ format-ok f len cap h = (
     least a b g = leb-cases a b (λ t q. q) (λ t q. absurd (h (λ x. (let y = g x in omega arith))))
 
 module _ {E : Edition} (L : Lawful E) (faults : (k : List ℕ) → E .keyFault k ≤ 7) where
-  ascends : (f : List ℕ) (rs : List Record) → Holds E f rs → Ascending rs
+  pub ascends : (f : List ℕ) (rs : List Record) → Holds E f rs → Ascending rs
   ascends f rs h = subst Ascending (h .set) (tree-ascending L (h .state .tree) (stands-good E f (h .state) (h .stands) .well))
 
   pub one-set : (f : List ℕ) (rs qs : List Record) → Holds E f rs → Holds E f qs → rs ≡ qs
@@ -95,7 +95,7 @@ module _ {E : Edition} (L : Lawful E) (faults : (k : List ℕ) → E .keyFault k
   tree-legal none w = tt
   tree-legal (some a) w = legal-records L a [] w
 
-  legals : (f : List ℕ) (rs : List Record) → Holds E f rs → LegalRecords E rs
+  pub legals : (f : List ℕ) (rs : List Record) → Holds E f rs → LegalRecords E rs
   legals f rs h = subst (LegalRecords E) (h .set) (tree-legal (h .state .tree) (stands-good E f (h .state) (h .stands) .well))
 
   formats : (f : List ℕ) (len cap n : ℕ) (f' : List ℕ) → FormatPromise E f len cap n f' → NotRefused n → Holds E f' [] × (length f' ≡ len) × (slotsOf f' ≡ cap)
@@ -152,7 +152,7 @@ module _ {E : Edition} (L : Lawful E) (faults : (k : List ℕ) → E .keyFault k
         answer = λ s w. p .answer s w ∙ ap (λ (d : Done). d .answer) (is s w);
         after = λ s w. subst
             (λ (d : Done). (w' : Stands E f' (d .state)) × (changes n ≡ true → let c = putChange E s k v in
-            Outside f f' (w .root) (w' .root) (w .lists) (w' .lists) (c .takes ++ c .frees) (putTouch E (w .root) k v) (extentAt (length k) (findAt E (w' .root) k)) (ltb 0 (c .extent))))
+            Outside f f' (w .root) (w' .root) (w .lists) (w' .lists) (c .takes ++ c .frees) (putTouch E (w .root) k v) (extentAt (length k) (findAt E (w' .root) k)) (dying (c .dead) (extentAt (length k) (findAt E (w .root) k))) (ltb 0 (c .extent))))
             (is s w) (p .after s w);
         kept = p .kept;
       }

@@ -61,8 +61,11 @@ abbrev pub wrongLength : List ℕ → Ground
 wrongLength f = record { number = 1; applies = LengthOk f → ⊥ }
 
 -- "not a good frame"
+abbrev pub notGoodBy : Edition → List ℕ → Ground
+notGoodBy E f = record { number = 2; applies = Good E f → ⊥ }
+
 abbrev pub notGood : List ℕ → Ground
-notGood f = record { number = 2; applies = Good edition1 f → ⊥ }
+notGood f = notGoodBy edition1 f
 
 -- "key length 0 or above 112"
 abbrev pub keyLength : List ℕ → Ground

@@ -31,7 +31,7 @@ Release f g s k = (h : View) (o : ℕ) (rest : List Item) → Heap f h → Same 
 
 abbrev pub DropLeaf : List ℕ → List ℕ → ℕ → ℕ → Type 0
 DropLeaf f g n o = (h : View) (xs : List Step) (s : ℕ) (path : List ℕ) (e : ℕ) (k v : List ℕ) (ts : List (List ℕ × Lay)) (loose : List Item)
-    → Work edition1 f h xs s ((path, leaf n o e k v) ∷ ts) loose → one.Dropped f g h xs s ts loose n o k v
+    → Work edition1 f h xs s ((path, leaf n o e k v) ∷ ts) loose → one.Dropped f g h xs s ts loose n o e k v
 
 -- what is owned besides the first loose item
 abbrev pub besides : List Item → List Step → List (List ℕ × Lay) → List Item
@@ -39,7 +39,7 @@ besides loose xs ts = loose ++ (stepsItems xs ++ forestItems ts)
 
 module _ {f : List ℕ} {h : View} {xs : List Step} {s : ℕ} {ts : List (List ℕ × Lay)} {loose : List Item} {n k o : ℕ} (W : Work edition1 f h xs s ts (body n k o ∷ loose)) where
   pub frees-first : Kind k → Frees f n k
-  frees-first K = record { view = h; heap = W .heap; kind = K; place = o; rest = besides loose xs ts; owns = first-owns W }
+  frees-first K = record { view = h; heap = W .heap; kind = K; place = o; rest = besides loose xs ts; owns = first-owns W; placeIs = entries-first f n k o loose (W .entries) .0 .placeIs }
 
   pub freed-first : {g : List ℕ} → Release f g n k → Freed f g h n k o (besides loose xs ts)
   freed-first R = R h o (besides loose xs ts) (W .heap) (first-owns W) (entries-first f n k o loose (W .entries) .0 .placeIs)
@@ -60,7 +60,7 @@ module _ (h : View) (s : ℕ) (t : Lay) (node o : ℕ) (path : List ℕ) (g q e 
     pub drops-leaf : 1 ≤ h .nums .R → one.Drops f1 g q
     drops-leaf l = record { view = view1; steps = []; named = s; path = path; extent = e; key = k; value = v; trees = ([], t) ∷ []; loose = []; work = W1; records = l }
 
-    pub dropped : {f2 : List ℕ} → DropLeaf f1 f2 g q → Dropped f f2 h s t node o g q k v
+    pub dropped : {f2 : List ℕ} → DropLeaf f1 f2 g q → Dropped f f2 h s t node o g q e k v
     dropped D =
         let X = D view1 [] s path e k v (([], t) ∷ []) [] W1 in
         record {

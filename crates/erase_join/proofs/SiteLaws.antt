@@ -1,7 +1,7 @@
 -- The site of a join: what the model makes of it, the frame opened there, and the end that all joins share. Assumes nothing.
 use Prim.Native.Nat.{ℕ, _+_, _-_, _≤_}
 use mathlib.Core.Path.{_≡_, refl, sym, ap, subst, _∙_}
-use mathlib.Core.List.{List, [], _∷_, _++_}
+use mathlib.Core.List.{List, [], _∷_, _++_, append-assoc}
 use mathlib.Core.Bool.{Bool, true, false}
 use mathlib.Core.Option.{Option, some}
 use native.Mathlib.Omega.{arith}
@@ -13,11 +13,11 @@ use Rattle.model.specs.Edition.{edition1}
 use Rattle.model.specs.Tree.{Art, Kids, Change, Left, extentOf, findTree, eraseTree, lessOne}
 use Rattle.model.specs.Tree.Left.{gone, one, kept}
 use Rattle.model.specs.State.{State, done, tally, room, after, eraseChange, callErase}
-use Rattle.model.specs.Item.{Item, body, extent, leafy, sum}
-use Rattle.model.specs.Frame.{Lay, Root, slotOf, art, artKids, items, itemsAll, tree, rootArt, rootItems, Trees, View, freed, Stands}
+use Rattle.model.specs.Item.{Item, body, extent, leafy, sum, cover}
+use Rattle.model.specs.Frame.{Lay, Root, slotOf, art, artKids, items, itemsAll, tree, rootArt, rootItems, Trees, View, freed, Stands, LayKids}
 use Rattle.model.specs.Frame.Lay.{leaf, node}
 use Rattle.model.specs.Frame.LayKids.{nil, kid}
-use Rattle.model.specs.Touch.{touchLost, touchLone, eraseTouch}
+use Rattle.model.specs.Touch.{touchLost, touchLone, eraseTouch, hasByte, findAt, extentAt}
 use Rattle.model.specs.Promise.{eraseKinds}
 use Rattle.model.specs.Touch as model
 use Rattle.model.specs.Mark.{Mark, mark, marks, marksAll, rootMarks}
@@ -30,19 +30,19 @@ use Rattle.model.proofs.StateLaws.{tree-some}
 use Rattle.model.proofs.StandsGood.{leafy-other, stands-good}
 use Rattle.model.proofs.UniqueLaws.{root-unique, stands-unique}
 use Rattle.model.proofs.MarkLaws.{leaf-marks, node-marks, kid-marks, nil-marks, is-gone}
-use Rattle.between.specs.Hole.{app, Step, plug, pathOf, stepsItems}
+use Rattle.between.specs.Hole.{app, Step, plug, pathOf, stepsItems, among, stepPath}
 use Rattle.between.specs.Work.{Work}
-use Rattle.between.specs.Lead.{aboveOf}
+use Rattle.between.specs.Lead.{aboveOf, Foremost, Leads}
 use Rattle.between.specs.Since.{Since, Accounts}
 use Rattle.between.specs.Edit.{Booked}
 use Rattle.between.proofs.TreeLaws.{sum-none, leaf-sum, kid-sum, nil-sum, kid-parts}
 use Rattle.between.proofs.KidsLaws.{remove-sum, remove-trees, art-app, has-is}
-use Rattle.between.proofs.HoleLaws.{art-plug}
+use Rattle.between.proofs.HoleLaws.{art-plug, plug-among}
 use Rattle.between.proofs.WorkLaws.{standsView, work-of, work-open, work-as, work-sum, open-node, forest-more, forest-kids, forest-sum, forest-none, no-forest, kids-sum, stands-of, root-owns, root-items, leafy-one, leafy-extent}
-use Rattle.between.proofs.LeadLaws.{leads-byte, plug-find, find-app}
+use Rattle.between.proofs.LeadLaws.{leads-byte, plug-find, find-app, plug-extent}
 use Rattle.between.proofs.EraseLaws.{node-erase, erase-is, plug-erase-touch, node-touch}
 use Rattle.between.proofs.BookedLaws.{booked-as, book-of}
-use Rattle.between.proofs.OutsideLaws.{outside-of, among-here, among-there}
+use Rattle.between.proofs.OutsideLaws.{outside-of, among-here, among-there, found-covers}
 use Rattle.between.proofs.StayLaws.{app-marks}
 use Rattle.erase_remove.specs.Erase.{EraseStep}
 use Rattle.erase_remove.proofs.DoneLaws.{Result, as-step}
@@ -59,6 +59,11 @@ leaves a takes frees dead = record { now = kept a; takes = takes; frees = frees;
 -- what is left of the Node4
 abbrev pub lost : Lone → Lay → ℕ → Change Left
 lost l u dead = record { now = one (l .byte) (art u); takes = []; frees = Node4 ∷ Leaf ∷ []; extent = 0; dead = dead; fresh = false }
+
+-- from the node on, the key goes to its Leaf
+leads-down : {k : List ℕ} (s o kind : ℕ) (ls : LayKids) (b j : ℕ) (rs : LayKids) (xs : List Step) (r : List ℕ) → hasByte b ls ≡ false → Leads edition1 k xs (b ∷ r) → Leads edition1 k (among s o kind ls b j rs ∷ xs) r
+unfolding pathOf stepPath Foremost
+leads-down s o kind ls b j rs xs r f L = record { word = L .word ∙ sym (append-assoc (pathOf xs) (b ∷ []) r); first = (f, L .first) }
 
 module _ {k : List ℕ} {r : Root} {xs : List Step} {l : Lone} {u : Lay} (P : Site k r xs l u) where
   here : getD (edition1 .walked k) (length (pathOf xs)) 0 ≡ P .byte
@@ -80,6 +85,12 @@ module _ {k : List ℕ} {r : Root} {xs : List Step} {l : Lone} {u : Lay} (P : Si
       ∙ ap (λ (z : Kids). findTree edition1 (Art.node Node4 z) d k) (art-app (P .before) (kid (P .byte) (P .place) (leaf (l .leaf) (l .at) (P .extent) k (P .value)) (P .after)))
       ∙ find-app edition1 k d (P .byte) (P .place) here (Art.leaf k (P .value)) (artKids (P .before)) (artKids (P .after)) (has-is (P .byte) (P .before) ∙ P .first)
       ∙ ap (λ (x : Bool). pick x (some (P .value)) Option.none) (same-refl k)
+
+  -- where the key's extent stands at entry
+  pub site-was : extentAt (length k) (findAt edition1 r k) ≡ extent (P .extent) (extentOf k (P .value)) ∷ []
+  site-was =
+      plug-extent (leads-down (l .node) (P .nodeAt) Node4 (P .before) (P .byte) (P .place) (P .after) xs (P .rest) (P .first) (P .leads)) r (l .leaf) (l .at) (P .extent) (P .value)
+      (P .whole ∙ ap tree (sym (plug-among (l .node) (P .nodeAt) Node4 (P .before) (P .byte) (P .place) (P .after) xs (leaf (l .leaf) (l .at) (P .extent) k (P .value)))))
 
   pub site-touch : eraseTouch edition1 r k ≡ touchLone (aboveOf xs) (l .node) (l .leaf) u
   site-touch =
@@ -198,7 +209,7 @@ module _ {f f1 k : List ℕ} {s : State} {w : Stands edition1 f s} {xs : List St
   mid-drops = record { view = M .view; slot = slotOf (M .lay); lay = M .lay; nodeAt = P .nodeAt; path = pathOf xs ++ P .byte ∷ []; extent = P .extent; key = k; value = P .value; work = M .work; some = some-left }
 
   module _ {g : List ℕ} (D : DropsAll f1 g (l .leaf) (l .node) (l .at)) (bytes : Bytes g) (fits : room s (eraseChange edition1 (art (plug xs (pairOf P))) k) ≡ true) where
-    Z : Dropped f1 g (M .view) (slotOf (M .lay)) (M .lay) (l .node) (P .nodeAt) (l .leaf) (l .at) k (P .value)
+    Z : Dropped f1 g (M .view) (slotOf (M .lay)) (M .lay) (l .node) (P .nodeAt) (l .leaf) (l .at) (P .extent) k (P .value)
     Z = D .after (M .view) (slotOf (M .lay)) (M .lay) (P .nodeAt) (pathOf xs ++ P .byte ∷ []) (P .extent) k (P .value) (M .work) some-left
 
     abbrev change' : Change Left
@@ -207,7 +218,7 @@ module _ {f f1 k : List ℕ} {s : State} {w : Stands edition1 f s} {xs : List St
     booked' : Booked (standsView w) (Z .view) (M .kinds) (M .frees) 0 (extentOf k (P .value)) (w .nums .R - 1)
     booked' = booked-as (Z .booked (standsView w) (M .kinds) (M .freed) (w .nums .R) (M .booked)) (M .kinds) (M .frees) (λ j. refl) (M .tallies)
 
-    since' : Since f (standsView w) g (Z .view) (M .took) (M .wrote) (body (l .leaf) Leaf (l .at) ∷ body (l .node) Node4 (P .nodeAt) ∷ M .gave) []
+    since' : Since f (standsView w) g (Z .view) (M .took) (M .wrote) (extent (P .extent) (extentOf k (P .value)) ∷ body (l .leaf) Leaf (l .at) ∷ body (l .node) Node4 (P .nodeAt) ∷ M .gave) []
     since' = Z .since f (standsView w) (M .took) (M .wrote) (M .gave) (M .since)
 
     abbrev state' : State
@@ -217,6 +228,7 @@ module _ {f f1 k : List ℕ} {s : State} {w : Stands edition1 f s} {xs : List St
     left-leaves =
         let g1 = body (l .leaf) Leaf (l .at) in
         let n1 = body (l .node) Node4 (P .nodeAt) in
+        let x1 = extent (P .extent) (extentOf k (P .value)) in
         omega (
           arith,
           booked' .R,
@@ -224,6 +236,8 @@ module _ {f f1 k : List ℕ} {s : State} {w : Stands edition1 f s} {xs : List St
           root-owns (M .lay) (Z .work) leafy,
           ap (sum leafy) (root-items (M .lay)),
           w .counted,
+          sum-cons leafy x1 (g1 ∷ n1 ∷ M .gave),
+          leafy-extent (P .extent) (extentOf k (P .value)),
           sum-cons leafy g1 (n1 ∷ M .gave),
           sum-cons leafy n1 (M .gave),
           leafy-one (l .leaf) (l .at),
@@ -255,7 +269,8 @@ module _ {f f1 k : List ℕ} {s : State} {w : Stands edition1 f s} {xs : List St
       refl,
       stands',
       λ many. rw (kinds-are, site-touch P)
-          (outside-of (w .nums) (w .lists) (w .root) (tree (M .lay)) since' (w .heap) (Z .work .heap) (root-owns (M .lay) (Z .work)) (touchLone (aboveOf xs) (l .node) (l .leaf) u) (M .kinds ++ M .frees) (M .accounts) (M .stays) false (λ q. absurd (let z : _≡_ {A = ℕ} 0 1 = cc in omega arith))),
+          (outside-of (w .nums) (w .lists) (w .root) (tree (M .lay)) (extent (P .extent) (extentOf k (P .value)) ∷ []) tt since' (w .heap) (Z .work .heap) (root-owns (M .lay) (Z .work)) (touchLone (aboveOf xs) (l .node) (l .leaf) u) (M .kinds ++ M .frees) (M .accounts) (M .stays) (extentAt (length k) (findAt edition1 (w .root) k))
+          (λ a. (ap (sum (cover a)) (sym (site-was P)), found-covers edition1 k (w .root) a)) false (λ q. absurd (let z : _≡_ {A = ℕ} 0 1 = cc in omega arith))),
     )
 
 -- ---- a good frame stands for one state

@@ -4,7 +4,7 @@ use mathlib.Core.List.{List, [], _∷_}
 use Rattle.layout.specs.Kind.{Leaf, Node4}
 use Rattle.model.specs.Edition.{edition1}
 use Rattle.model.specs.Tree.{extentOf}
-use Rattle.model.specs.Item.{Item, body}
+use Rattle.model.specs.Item.{Item, body, extent}
 use Rattle.model.specs.Frame.{Lay, View}
 use Rattle.model.specs.Frame.Lay.{leaf}
 use Rattle.between.specs.Work.{Work}
@@ -28,11 +28,11 @@ pub record Drops (f : List ℕ) (leaf node at : ℕ) : Type 0 where
   pub some : 1 ≤ view .nums .R
 
 -- they are given back: what the row of steps has changed, and its numbers
-pub record Dropped (f g : List ℕ) (h : View) (s : ℕ) (t : Lay) (node nodeAt leaf at : ℕ) (k v : List ℕ) : Type 0 where
+pub record Dropped (f g : List ℕ) (h : View) (s : ℕ) (t : Lay) (node nodeAt leaf at e : ℕ) (k v : List ℕ) : Type 0 where
   pub view : View
   pub work : Work edition1 g view [] s (([], t) ∷ []) []
-  pub since : (f0 : List ℕ) (h0 : View) (ts rs gs : List Item) → Since f0 h0 f h ts rs gs [] → Since f0 h0 g view ts rs (body leaf Leaf at ∷ body node Node4 nodeAt ∷ gs) []
+  pub since : (f0 : List ℕ) (h0 : View) (ts rs gs : List Item) → Since f0 h0 f h ts rs gs [] → Since f0 h0 g view ts rs (extent e (extentOf k v) ∷ body leaf Leaf at ∷ body node Node4 nodeAt ∷ gs) []
   pub booked : (h0 : View) (ks fs : List ℕ) (r : ℕ) → Booked h0 h ks fs 0 0 r → Booked h0 view ks (Leaf ∷ Node4 ∷ fs) 0 (extentOf k v) (r - 1)
 
 pub record DropsAll (f g : List ℕ) (leaf node at : ℕ) : Type 0 where
-  pub after : (h : View) (s : ℕ) (t : Lay) (o : ℕ) (path : List ℕ) (e : ℕ) (k v : List ℕ) → Over f h s t node o path leaf at e k v → 1 ≤ h .nums .R → Dropped f g h s t node o leaf at k v
+  pub after : (h : View) (s : ℕ) (t : Lay) (o : ℕ) (path : List ℕ) (e : ℕ) (k v : List ℕ) → Over f h s t node o path leaf at e k v → 1 ≤ h .nums .R → Dropped f g h s t node o leaf at e k v

@@ -15,9 +15,9 @@ use Rattle.model.proofs.StandsGood.{stands-good}
 use Rattle.model.specs.Tree.{Art, Change, Left, eraseTree, findTree}
 use Rattle.model.specs.Tree.Left.{kept}
 use Rattle.model.specs.State.{State, Done, done, room, after, eraseChange, callErase}
-use Rattle.model.specs.Item.{Item, leafy, sum}
+use Rattle.model.specs.Item.{Item, extent, cover, leafy, sum}
 use Rattle.model.specs.Frame.{Lay, slotOf, art, items, Root, tree, rootArt, View, Stands}
-use Rattle.model.specs.Touch.{Touch, Outside, touchErase, eraseTouch}
+use Rattle.model.specs.Touch.{Touch, Outside, touchErase, eraseTouch, findAt, extentAt}
 use Rattle.model.specs.Promise.{eraseKinds}
 use Rattle.model.specs.Mark.{marks}
 use Rattle.model.proofs.MarkLaws.{Stay}
@@ -32,7 +32,7 @@ use Rattle.between.proofs.LeadLaws.{hangs-in, hangs-over, plug-find}
 use Rattle.between.proofs.EraseLaws.{plug-erase, plug-erase-touch, erase-is, withNow}
 use Rattle.between.proofs.WorkLaws.{standsView, stands-tree, stands-sum, stands-of, root-owns}
 use Rattle.between.proofs.BookedLaws.{book-of}
-use Rattle.between.proofs.OutsideLaws.{outside-of}
+use Rattle.between.proofs.OutsideLaws.{found-covers, outside-of}
 use Rattle.between.proofs.StayLaws.{stay-plug}
 use Rattle.erase_remove.specs.Erase.{EraseStep}
 
@@ -40,7 +40,7 @@ use Rattle.erase_remove.specs.Erase.{EraseStep}
 abbrev pub Result : (f g k : List ℕ) {s : State} → Stands edition1 f s → Done → Type 0
 Result f g k {s} w d =
     (d .answer ≡ 0) × (w' : Stands edition1 g (d .state))
-    × (2 ≤ s .R → Outside f g (w .root) (w' .root) (w .lists) (w' .lists) (eraseKinds edition1 (w .root) k) (eraseTouch edition1 (w .root) k) [] false)
+    × (2 ≤ s .R → Outside f g (w .root) (w' .root) (w .lists) (w' .lists) (eraseKinds edition1 (w .root) k) (eraseTouch edition1 (w .root) k) [] (extentAt (length k) (findAt edition1 (w .root) k)) false)
 
 pub as-step : {f g : List ℕ} (k : List ℕ) → ((s : State) (w : Stands edition1 f s) → Result f g k w (callErase edition1 s k)) → EraseStep f k g
 as-step k R = record { answer = λ s w. R s w .0; after = λ s w. (R s w .1, R s w .2) }
@@ -64,10 +64,10 @@ module _ {f k : List ℕ} {s : State} (w : Stands edition1 f s) (xs : List Step)
   fits-is q = subst (λ (x : Change Left). room s x ≡ true) (ap (λ a. eraseChange edition1 a k) (art-plug xs t) ∙ change-is) q
 
   module _ (finds : findTree edition1 (art t) (length (pathOf xs)) k ≡ some v) (fits : room s c ≡ true) where
-    -- in g it stands there; the numbers are the model's, and these bodies were taken, rewritten and freed
-    module _ {g : List ℕ} {h : View} {slot : ℕ} {takes rewrites frees : List Item} (notLeaf : NotLeaf t) (W : Work edition1 g h [] slot (([], plug xs lay) ∷ []) []) (es : slot ≡ slotOf (plug xs lay)) (bytes : Bytes g)
+    -- in g it stands there; the numbers are the model's, these bodies were taken, rewritten and freed, and the key's extent at e died
+    module _ {g : List ℕ} {h : View} {slot e n : ℕ} {takes rewrites frees : List Item} (notLeaf : NotLeaf t) (W : Work edition1 g h [] slot (([], plug xs lay) ∷ []) []) (es : slot ≡ slotOf (plug xs lay)) (bytes : Bytes g)
         (books : Booked (standsView w) h (c .takes) (c .frees) (c .extent) (c .dead) (w .nums .R - 1)) (fewer : sum leafy (items lay) + 1 ≡ sum leafy (items t))
-        (Z : Since f (standsView w) g h takes rewrites frees []) (A : Accounts (w .root) (touchErase edition1 t (aboveOf xs) (length (pathOf xs)) k) (c .takes ++ c .frees) takes rewrites frees)
+        (was : extentAt (length k) (findAt edition1 (w .root) k) ≡ extent e n ∷ []) (Z : Since f (standsView w) g h takes rewrites (extent e n ∷ frees) []) (A : Accounts (w .root) (touchErase edition1 t (aboveOf xs) (length (pathOf xs)) k) (c .takes ++ c .frees) takes rewrites frees)
         (St : Stay (touchErase edition1 t (aboveOf xs) (length (pathOf xs)) k .goes) (marks (pathOf xs) t) (marks (pathOf xs) lay)) where
       records-is : s .R - 1 ≡ w .nums .R - 1
       records-is = ap (λ (z : State). z .R - 1) (w .state)
@@ -88,15 +88,18 @@ module _ {f k : List ℕ} {s : State} (w : Stands edition1 f s) (xs : List Step)
           erase-is edition1 s k v whole (artIn xs (art lay)) c' (ap (λ (z : State). z .tree) (w .state) ∙ ap rootArt er ∙ ap some (art-plug xs t)) (plug-find L (art t) ∙ finds) change-is refl more
           ∙ rw fits refl
 
-      outside : Outside f g (w .root) (stands .root) (w .lists) (stands .lists) (eraseKinds edition1 (w .root) k) (eraseTouch edition1 (w .root) k) [] false
+      abbrev dies : List Item
+      dies = extentAt (length k) (findAt edition1 (w .root) k)
+
+      outside : Outside f g (w .root) (stands .root) (w .lists) (stands .lists) (eraseKinds edition1 (w .root) k) (eraseTouch edition1 (w .root) k) [] dies false
       outside =
           let T = touchErase edition1 t (aboveOf xs) (length (pathOf xs)) k in
           let ks = c .takes ++ c .frees in
           let ek : eraseKinds edition1 (w .root) k ≡ ks = ap (λ (z : Root). eraseKinds edition1 z k) er ∙ ap (λ a. let x = eraseChange edition1 a k in x .takes ++ x .frees) (art-plug xs t) ∙ ap (λ (x : Change Left). x .takes ++ x .frees) change-is in
           let et : eraseTouch edition1 (w .root) k ≡ T = ap (λ (z : Root). eraseTouch edition1 z k) er ∙ plug-erase-touch L t notLeaf in
-          let O = outside-of (w .nums) (w .lists) (w .root) (tree (plug xs lay)) Z (w .heap) (W .heap) (root-owns (plug xs lay) W) T ks A (stay-plug xs t lay St refl er) false (λ z a p. absurd (let y : _≡_ {A = ℕ} 0 1 = cc in omega arith)) in
-          let O1 = subst (λ (z : Touch). Outside f g (w .root) (tree (plug xs lay)) (w .lists) (h .lists) ks z [] false) (sym et) O in
-          subst (λ (z : List ℕ). Outside f g (w .root) (tree (plug xs lay)) (w .lists) (h .lists) z (eraseTouch edition1 (w .root) k) [] false) (sym ek) O1
+          let O = outside-of (w .nums) (w .lists) (w .root) (tree (plug xs lay)) (extent e n ∷ []) tt Z (w .heap) (W .heap) (root-owns (plug xs lay) W) T ks A (stay-plug xs t lay St refl er) dies (λ a. (ap (sum (cover a)) (sym was), found-covers edition1 k (w .root) a)) false (λ z a p. absurd (let y : _≡_ {A = ℕ} 0 1 = cc in omega arith)) in
+          let O1 = subst (λ (z : Touch). Outside f g (w .root) (tree (plug xs lay)) (w .lists) (h .lists) ks z [] dies false) (sym et) O in
+          subst (λ (z : List ℕ). Outside f g (w .root) (tree (plug xs lay)) (w .lists) (h .lists) z (eraseTouch edition1 (w .root) k) [] dies false) (sym ek) O1
 
       pub erase-done : Result f g k w (callErase edition1 s k)
       erase-done = subst (Result f g k w) (sym is-erase) (refl, stands, λ q. outside)

@@ -40,7 +40,7 @@ use Rattle.descent.specs.declared.spot.Spot.{Spot}
 use Rattle.erase_remove.specs.Leaf.{Drops, Dropped}
 use Rattle.erase_remove.specs.Erase.{Stays}
 use Rattle.erase_remove.proofs.DoneLaws.{Result, fits-is, erase-done}
-use Rattle.erase_remove.proofs.SpotLaws.{mark-least, held, xs, path, gone, kids, left, holder, root-is, fits, W0, N0, kids-length, count-is, records-some, left-art, bare, bare-count, node-found, node-erased, node-touched, items-are, left-marks, leaf-fewer}
+use Rattle.erase_remove.proofs.SpotLaws.{was-is, mark-least, held, xs, path, gone, kids, left, holder, root-is, fits, W0, N0, kids-length, count-is, records-some, left-art, bare, bare-count, node-found, node-erased, node-touched, items-are, left-marks, leaf-fewer}
 
 -- nothing was taken or freed yet
 pub booked-none : (h : View) → length (h .lists) ≡ 8 → Booked h h [] [] 0 0 (h .nums .R)
@@ -108,8 +108,8 @@ module _ {f k : List ℕ} {p : Spot} (P : Stays f k p) (s : State) (w : Stands e
         }
 
     module _ {f2 : List ℕ} (drop : (h : View) (ys : List Step) (m : ℕ) (q : List ℕ) (e : ℕ) (c v : List ℕ) (ts : List (List ℕ × Lay)) (loose : List Item)
-        → Work edition1 f1 h ys m ((q, leaf (p .here .slot) (p .here .place) e c v) ∷ ts) loose → Dropped f1 f2 h ys m ts loose (p .here .slot) (p .here .place) c v) (bytes : Bytes f2) where
-      X : Dropped f1 f2 h0 (xs (P .erase) s w) n after [] (p .here .slot) (p .here .place) k (held (P .erase) .value)
+        → Work edition1 f1 h ys m ((q, leaf (p .here .slot) (p .here .place) e c v) ∷ ts) loose → Dropped f1 f2 h ys m ts loose (p .here .slot) (p .here .place) e c v) (bytes : Bytes f2) where
+      X : Dropped f1 f2 h0 (xs (P .erase) s w) n after [] (p .here .slot) (p .here .place) (held (P .erase) .extent) k (held (P .erase) .value)
       X = drop h0 (xs (P .erase) s w) n (path (P .erase) s w ++ p .byte ∷ []) (held (P .erase) .extent) k (held (P .erase) .value) after [] W1
 
       abbrev change : Change Left
@@ -152,7 +152,7 @@ module _ {f k : List ℕ} {p : Spot} (P : Stays f k p) (s : State) (w : Stands e
           erase-done w ys t er L change new v erased el (λ p h. tt) (node-found (P .erase) s w) (fits-is w ys t er L change new v erased el (λ p h. tt) (fits (P .erase) s w)) tt
           (work-close ys new [] (X .work) refl (is-node ys n o kind rest)) refl bytes (X .booked h0 [] [] 0 0 dead (w .nums .R) (omega arith) (booked-none h0 (w .heap .lists .eight)))
           (omega (arith, node-sum leafy n o kind rest, node-sum leafy n o kind (kids (P .erase) s w), leaf-fewer (P .erase) s w))
-          (X .since f h0 [] (body n kind o ∷ []) [] [] Z1) (subst (λ (z : Touch). Accounts (w .root) z (Leaf ∷ []) [] (body n kind o ∷ []) (body (p .here .slot) Leaf (p .here .place) ∷ [])) (sym touched) accounts)
+          (was-is (P .erase) s w) (X .since f h0 [] (body n kind o ∷ []) [] [] Z1) (subst (λ (z : Touch). Accounts (w .root) z (Leaf ∷ []) [] (body n kind o ∷ []) (body (p .here .slot) Leaf (p .here .place) ∷ [])) (sym touched) accounts)
           (stay-more (λ x z. omega (
             arith,
             node-marks (is x) (path (P .erase) s w) n o kind (kids (P .erase) s w),

@@ -57,7 +57,7 @@ use Rattle.descent.specs.declared.spot.Spot.{Spot}
 use Rattle.erase_remove.specs.Leaf.{Drops, Dropped}
 use Rattle.erase_remove.specs.Erase.{Falls}
 use Rattle.erase_remove.proofs.DoneLaws.{Result, fits-is, erase-done}
-use Rattle.erase_remove.proofs.SpotLaws.{mark-down, held, xs, path, gone, kids, left, holder, root-is, fits, W0, N0, count-is, records-some, left-art, bare, bare-count, node-found, node-erased, node-touched, items-are, left-marks, leaf-fewer, has-byte}
+use Rattle.erase_remove.proofs.SpotLaws.{was-is, mark-down, held, xs, path, gone, kids, left, holder, root-is, fits, W0, N0, count-is, records-some, left-art, bare, bare-count, node-found, node-erased, node-touched, items-are, left-marks, leaf-fewer, has-byte}
 
 -- ---- slots of children are slots
 
@@ -278,7 +278,7 @@ module _ {f k : List ℕ} {p : Spot} (P : Falls f k p) (s : State) (w : Stands e
             rest5 = [] ++ (stepsItems [] ++ forestItems (([], T1) ∷ us))
 
             pub shrink-frees : Frees f5 n kind
-            shrink-frees = record { view = h5; heap = W5 .heap; kind = kind-kind; place = o; rest = rest5; owns = first-owns W5 }
+            shrink-frees = record { view = h5; heap = W5 .heap; kind = kind-kind; place = o; rest = rest5; owns = first-owns W5; placeIs = entries-first f5 n kind o [] (W5 .entries) .0 .placeIs }
 
             -- release
             module _ {f6 : List ℕ} (release : (h : View) (o : ℕ) (rest : List Item) → Heap f5 h → Same (h .owned) (body n kind o ∷ rest) → placeOf f5 n ≡ o → Freed f5 f6 h n kind o rest) where
@@ -312,7 +312,7 @@ module _ {f k : List ℕ} {p : Spot} (P : Falls f k p) (s : State) (w : Stands e
 
               -- drop_leaf
               module _ {f7 : List ℕ} (drop : (h : View) (zs : List Step) (i : ℕ) (r : List ℕ) (e : ℕ) (c v : List ℕ) (ts : List (List ℕ × Lay)) (loose : List Item)
-                  → Work edition1 f6 h zs i ((r, leaf (p .here .slot) (p .here .place) e c v) ∷ ts) loose → Dropped f6 f7 h zs i ts loose (p .here .slot) (p .here .place) c v) (bytes : Bytes f7) where
+                  → Work edition1 f6 h zs i ((r, leaf (p .here .slot) (p .here .place) e c v) ∷ ts) loose → Dropped f6 f7 h zs i ts loose (p .here .slot) (p .here .place) e c v) (bytes : Bytes f7) where
                 abbrev l : ℕ
                 l = p .here .slot
 
@@ -322,7 +322,7 @@ module _ {f k : List ℕ} {p : Spot} (P : Falls f k p) (s : State) (w : Stands e
                 abbrev rs : List Item
                 rs = holderItems ys ++ (body n kind o ∷ [])
 
-                X : Dropped f6 f7 h6 [] (slotOf T1) (([], T1) ∷ []) [] l (p .here .place) k (held (P .erase) .value)
+                X : Dropped f6 f7 h6 [] (slotOf T1) (([], T1) ∷ []) [] l (p .here .place) (held (P .erase) .extent) k (held (P .erase) .value)
                 X = drop h6 [] (slotOf T1) (way ++ p .byte ∷ []) (held (P .erase) .extent) k (held (P .erase) .value) (([], T1) ∷ []) [] W6
 
                 abbrev touches : Touch
@@ -378,7 +378,7 @@ module _ {f k : List ℕ} {p : Spot} (P : Falls f k p) (s : State) (w : Stands e
                     let Z5 = since-link m (p .node .link) ys (held (P .erase) .link) W4' G Z4 in
                     let Z6 = since-free kind-kind (W5 .heap) (first-owns W5) Z5 F6 in
                     erase-done w ys t er L change new v erased el (λ p h. tt) (node-found (P .erase) s w) (fits-is w ys t er L change new v erased el (λ p h. tt) (fits (P .erase) s w)) tt
-                    (X .work) refl bytes books fewer (X .since f h0 (B1 ∷ []) rs (body n kind o ∷ []) [] Z6)
+                    (X .work) refl bytes books fewer (was-is (P .erase) s w) (X .since f h0 (B1 ∷ []) rs (body n kind o ∷ []) [] Z6)
                     (subst (λ (z : Touch). Accounts (w .root) z (kd ∷ kind ∷ Leaf ∷ []) (B1 ∷ []) rs gs) (sym touched) accounts)
                     (stay-more (λ x z. omega (
                       arith,

@@ -16,7 +16,7 @@ use Rattle.model.specs.Item.{Item, body, extent, leafy, sum}
 use Rattle.model.specs.Frame.{Lay, LayKids, art, artKids, itemsAll, pairs, tree, rootItems, NodeOf, View, Stands}
 use Rattle.model.specs.Frame.Lay.{leaf, node}
 use Rattle.model.specs.Frame.LayKids.{kid}
-use Rattle.model.specs.Touch.{hasByte, touchErase, touchLost}
+use Rattle.model.specs.Touch.{hasByte, touchErase, touchLost, findAt, extentAt}
 use Rattle.model.specs.Mark.{Mark, mark, marksAll}
 use Rattle.model.specs.Mark as marks
 use Rattle.model.proofs.StandsGood.{length-pairs}
@@ -34,7 +34,7 @@ use Rattle.between.proofs.TreeLaws.{leaf-sum, node-sum}
 use Rattle.between.proofs.KidsLaws.{art-app, app-left, app-look, remove-len, remove-sum, has-is}
 use Rattle.between.proofs.HoleLaws.{plug-among, plug-sum}
 use Rattle.between.proofs.WorkLaws.{standsView, stands-sum, work-of, work-open, open-node, leafy-leaf}
-use Rattle.between.proofs.LeadLaws.{leads-byte, find-app}
+use Rattle.between.proofs.LeadLaws.{leads-byte, find-app, plug-extent}
 use Rattle.between.proofs.EraseLaws.{node-erase, node-touch}
 use Rattle.between.proofs.StayLaws.{app-marks}
 use Rattle.erase_remove.specs.Erase.{EraseAt, counted}
@@ -223,3 +223,10 @@ module _ {f k : List ℕ} {p : Spot} (P : EraseAt f k p) (s : State) (w : Stands
   has-byte {loose = loose} W =
       let N = open-node path [] loose (p .node .slot) (p .node .place) (p .node .kind) kids W .1 in
       record { kids = pairs kids; node = N .inner; child = p .here .slot; has = app-look (p .byte) (held P .place) gone 0 (held P .before) (held P .after) (inner-asc (pairs kids) (N .inner)) }
+
+-- where the key's extent stands at entry
+pub was-is : {f k : List ℕ} {p : Spot} (P : EraseAt f k p) (s : State) (w : Stands edition1 f s) → extentAt (length k) (findAt edition1 (w .root) k) ≡ extent (held P .extent) (extentOf k (held P .value)) ∷ []
+unfolding held
+was-is {f} {k} {p} P s w =
+    plug-extent (P .way .leads) (w .root) (p .here .slot) (p .here .place) (P .found .extent) (P .found .value)
+    (root-unique edition1 f s (P .st) w (P .stands) ∙ P .is ∙ ap tree (P .way .whole ∙ ap (plug (P .way .steps)) (P .found .is)))

@@ -3,6 +3,7 @@ use Prim.Native.Nat.{ℕ, _+_, _≤_}
 use mathlib.Core.Path.{_≡_}
 use mathlib.Core.List.{List, []}
 use mathlib.Core.Bool.{true, false}
+use lib.ListN.{length}
 use Rattle.layout.specs.Number.{le}
 use Rattle.layout.specs.Place.{nodeCount}
 use Rattle.layout.specs.Kind as table
@@ -11,7 +12,7 @@ use Rattle.model.specs.State.{State, room, eraseChange, callErase}
 use Rattle.model.specs.Image.{image}
 use Rattle.model.specs.Frame.{Lay, art, tree, Stands}
 use Rattle.model.specs.Frame.Lay.{leaf}
-use Rattle.model.specs.Touch.{Outside, eraseTouch}
+use Rattle.model.specs.Touch.{Outside, eraseTouch, findAt, extentAt}
 use Rattle.model.specs.Promise.{eraseKinds}
 use Rattle.descent.specs.declared.spot.Spot.{Spot}
 use Rattle.descent.specs.Spot.{Way, ThisKey}
@@ -52,7 +53,7 @@ pub record SomeKey (P : List ℕ → Type 0) : Type 0 where
 pub record EraseStep (f k f' : List ℕ) : Type 0 where
   pub answer : (s : State) → Stands edition1 f s → callErase edition1 s k .answer ≡ 0
   pub after : (s : State) (w : Stands edition1 f s) → (w' : Stands edition1 f' (callErase edition1 s k .state)) × (2 ≤ s .R →
-      Outside f f' (w .root) (w' .root) (w .lists) (w' .lists) (eraseKinds edition1 (w .root) k) (eraseTouch edition1 (w .root) k) [] false)
+      Outside f f' (w .root) (w' .root) (w .lists) (w' .lists) (eraseKinds edition1 (w .root) k) (eraseTouch edition1 (w .root) k) [] (extentAt (length k) (findAt edition1 (w .root) k)) false)
 
 -- ---- the only record
 

@@ -17,7 +17,7 @@ ghost use Rattle.erase_remove.specs.Leaf.{Drops, Dropped};
 pub fn drop_leaf(f: &mut [u8], slot: usize, place: usize)
     requires { ⌜ Drops (now f) slot place ⌝ }
     ensures { λ _. ⌜ ((h : View) (xs : List Step) (s : ℕ) (path : List ℕ) (e : ℕ) (k v : List ℕ) (ts : List (List ℕ × Lay)) (loose : List Item)
-        → Work edition1 (now (f .entry)) h xs s ((path, leaf slot place e k v) ∷ ts) loose → Dropped (now (f .entry)) (now (f .exit)) h xs s ts loose slot place k v) ⌝ }
+        → Work edition1 (now (f .entry)) h xs s ((path, leaf slot place e k v) ∷ ts) loose → Dropped (now (f .entry)) (now (f .exit)) h xs s ts loose slot place e k v) ⌝ }
 {
     let k = Leaf::key_length(f, place);
     let v = Leaf::value_length(f, place);

@@ -11,7 +11,7 @@ use store::info;
 use store::look;
 use store::put;
 ghost use Rattle.model.specs.Edition.{edition1};
-ghost use Rattle.model.specs.Promise.{FormatPromise, CheckPromise, PutPromise, ReplacePromise, ErasePromise, PackPromise};
+ghost use Rattle.model.specs.Promise.{FormatPromise, CheckPromise, PutPromise, ReplacePromise, ErasePromise, PackPromise, PackBeforePromise};
 ghost use mathlib.Core.Path.{_≡_};
 ghost use mathlib.Core.List.{[], _∷_};
 ghost use Rattle.frame_store.specs.Tells.{Tells};
@@ -102,6 +102,14 @@ pub extern "C" fn frame_pack(frame: &[u8], out: &mut [u8]) -> u32
     ensures { λ n. ⌜ PackPromise edition1 (now (frame .entry)) (now (out .entry)) n (now (out .exit)) ⌝ }
 {
     answers::pack_number(pack::pack(frame, out))
+}
+
+// A frame from before is taken too, in which what was freed is not wiped.
+#[no_mangle]
+pub extern "C" fn frame_pack_before(frame: &[u8], out: &mut [u8]) -> u32
+    ensures { λ n. ⌜ PackBeforePromise (now (frame .entry)) (now (out .entry)) n (now (out .exit)) ⌝ }
+{
+    answers::pack_number(pack::pack_before(frame, out))
 }
 
 // F, N, U, B, R, X and the lengths of the lists 1 to 8 go into the fourteen numbers if there are fourteen and the call is not refused,

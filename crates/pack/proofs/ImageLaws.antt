@@ -10,7 +10,7 @@ use native.Mathlib.Decide.{decLe}
 use lib.ListN.{length}
 use Rattle.layout.specs.Place.{dataStart}
 use Rattle.layout.specs.Kind.{Leaf, Prefix, bodySize}
-use Rattle.model.specs.Edition.{edition1}
+use Rattle.model.specs.Edition.{edition1, before1}
 use Rattle.model.specs.Tree.{Art}
 use Rattle.model.specs.Records.{recordsOf}
 use Rattle.model.specs.State.{State}
@@ -21,9 +21,10 @@ use Rattle.model.specs.Frame.{Lay, LayKids, Root, bare, tree, rootArt, rootSlot
 use Rattle.model.specs.Frame.Lay.{leaf, prefix, node}
 use Rattle.model.specs.Frame.LayKids.{nil, kid}
 use Rattle.model.proofs.Well.{Well}
-use Rattle.model.proofs.GoodState.{GoodAt}
+use Rattle.model.proofs.GoodState.{TreeOk, GoodAt, GoodState}
 use Rattle.model.proofs.ItemLaws.{in-yes, sum-app}
 use Rattle.model.proofs.Edition1.{lawful1}
+use Rattle.model.proofs.CleanLaws.{lawful-before, root-now}
 use Rattle.model.proofs.StandsGood.{tree-well, stands-good, stands-heads}
 use Rattle.model.proofs.StateLaws.{pack-fits, image-is}
 use Rattle.model.proofs.PackStands.{empty-none}
@@ -48,18 +49,18 @@ use Rattle.pack.proofs.WalkLaws.{length-packed}
 
 module _ {f : List ℕ} {capacity records root : ℕ} (K : Known f capacity records root) {n : ℕ} (long : n ≡ length f) where
   full-length : n ≡ K .state .F
-  full-length = long ∙ stands-heads edition1 f (K .state) (K .stands) .size
+  full-length = long ∙ stands-heads before1 f (K .state) (K .stands) .size
 
   pub known-limits : Limits n capacity
   known-limits =
-      let H = stands-heads edition1 f (K .state) (K .stands) in
+      let H = stands-heads before1 f (K .state) (K .stands) in
       let k = K .N in let b = H .bumpIn in let e = full-length in
       record { long = rw e (H .limits); slots = rw k (H .slotCap); room = omega arith }
 
   pub image-empty : {out : List ℕ} → records ≡ 0 → out ≡ image edition1 n capacity [] → Imaged f out
   image-empty z e =
       let s = K .state in
-      let t : s .tree ≡ none = empty-none lawful1 f s (K .stands) .0 (sym (K .R) ∙ z) in
+      let t : s .tree ≡ none = empty-none lawful-before f s (K .stands) .0 (sym (K .R) ∙ z) in
       record {
         state = s;
         stands = K .stands;
@@ -88,7 +89,7 @@ module _ {f : List ℕ} {capacity records root : ℕ} (K : Known f capacity reco
   rooted : TreeRoot (K .stands .root)
   rooted =
       tree-root (K .stands .root) (λ z.
-      let e : K .state .R ≡ 0 = empty-none lawful1 f (K .state) (K .stands) .1 (tree-is ∙ z) in
+      let e : K .state .R ≡ 0 = empty-none lawful-before f (K .state) (K .stands) .1 (tree-is ∙ z) in
       let r = K .R in omega arith)
 
   abbrev lay : Lay
@@ -99,7 +100,7 @@ module _ {f : List ℕ} {capacity records root : ℕ} (K : Known f capacity reco
 
   root-tree : Tree edition1 f [] lay
   unfolding RootAt
-  root-tree = rw (rooted .is) at (K .stands .rootAt)
+  root-tree = rw (rooted .is) at (root-now f (K .stands .root) (K .stands .rootAt))
 
   root-slot : slotOf lay ≡ root
   root-slot = sym (K .slot ∙ ap rootSlot (rooted .is))
@@ -107,19 +108,37 @@ module _ {f : List ℕ} {capacity records root : ℕ} (K : Known f capacity reco
   some-tree : K .state .tree ≡ some (art lay)
   some-tree = tree-is ∙ ap rootArt (rooted .is)
 
+  lay-well : Well edition1 (art lay) []
+  lay-well = tree-well edition1 f (K .stands .bytes) [] lay root-tree
+
   root-well : Well edition1 packedRoot []
-  root-well = packed-well lawful1 (art lay) [] (tree-well edition1 f (K .stands .bytes) [] lay root-tree)
+  root-well = packed-well lawful1 (art lay) [] lay-well
+
+  -- a state of edition 1, whose rules differ in nothing that a state tells
+  good1 : GoodState edition1 (K .state)
+  good1 =
+      let G = stands-good before1 f (K .state) (K .stands) in
+      record {
+        well = subst (TreeOk edition1) (sym some-tree) lay-well;
+        recs = G .recs;
+        used = G .used;
+        laid = G .laid;
+        nine = G .nine;
+        three = G .three;
+        fitsU = G .fitsU;
+        fitsB = G .fitsB;
+      }
 
   root-fits : (slots packedRoot ≤ capacity) × (dataStart capacity + size packedRoot ≤ length f)
   root-fits =
       let s = K .state in
-      let G : GoodAt edition1 s (some (art lay)) = subst (λ (t : Option Art). GoodAt edition1 s t) some-tree (stands-good edition1 f s (K .stands)) in
+      let G : GoodAt edition1 s (some (art lay)) = subst (λ (t : Option Art). GoodAt edition1 s t) some-tree good1 in
       let q = pack-fits lawful1 s (art lay) G in
       let n = K .N in let e = full-length K refl in
       (omega (arith, q .0), omega (arith, q .1))
 
   root-inside : Inside f lay
-  root-inside = stands-inside edition1 f (K .state) (K .stands) lay (rooted .is)
+  root-inside = stands-inside before1 f (K .state) (K .stands) lay (rooted .is)
 
   module _ {n : ℕ} (long : n ≡ length f) {out zeroed : List ℕ} (same : length out ≡ n) (C : Cleared out zeroed 0 n) where
     pub image-start : TreeReady f root longestWalk zeroed (startOf capacity)
@@ -184,5 +203,5 @@ module _ {f : List ℕ} {capacity records root : ℕ} (K : Known f capacity reco
             is = image-of-parts n capacity records a out' root-well parts
                 ∙ (ap (λ (m : ℕ). imageOf edition1 m capacity records (some a)) (full-length K long) ∙ (ap (λ (m : ℕ). imageOf edition1 (s .F) m records (some a)) (K .N)
                 ∙ (ap (λ (m : ℕ). imageOf edition1 (s .F) (s .N) m (some a)) (K .R) ∙ (ap (λ (t : Option Art). imageOf edition1 (s .F) (s .N) (s .R) (packedTree t)) (sym some-tree)
-                ∙ sym (image-is lawful1 s (stands-good edition1 f s (K .stands)))))));
+                ∙ sym (image-is lawful1 s good1)))));
           }

@@ -9,7 +9,7 @@ use Rattle.model.specs.Edition.{edition1, Legal, LegalValue}
 use Rattle.model.specs.State.{State, Done, putChange, Write, callWrite}
 use Rattle.model.specs.State as state
 use Rattle.model.specs.Frame.{Stands}
-use Rattle.model.specs.Touch.{Outside, putTouch, findAt, extentAt}
+use Rattle.model.specs.Touch.{Outside, putTouch, findAt, extentAt, dying}
 use Rattle.model.specs.Promise.{changes}
 use Rattle.descent.specs.declared.spot.Spot.{Spot}
 use Rattle.descent.specs.Spot.{SpotAt}
@@ -47,7 +47,7 @@ pub record Written (f k v : List ℕ) (r : Bool) (f' : List ℕ) : Type 0 where
 abbrev pub Left : (f k v : List ℕ) (n : ℕ) (f' : List ℕ) (s : State) → Stands edition1 f s → Done → Type 0
 Left f k v n f' s w d =
     (w' : Stands edition1 f' (d .state)) × (changes n ≡ true → let c = putChange edition1 s k v in
-    Outside f f' (w .root) (w' .root) (w .lists) (w' .lists) (c .takes ++ c .frees) (putTouch edition1 (w .root) k v) (extentAt (length k) (findAt edition1 (w' .root) k)) (ltb 0 (c .extent)))
+    Outside f f' (w .root) (w' .root) (w .lists) (w' .lists) (c .takes ++ c .frees) (putTouch edition1 (w .root) k v) (extentAt (length k) (findAt edition1 (w' .root) k)) (dying (c .dead) (extentAt (length k) (findAt edition1 (w .root) k))) (ltb 0 (c .extent)))
 
 -- The clauses of a write's promise for a legal key and value: the number, the state after, what is settled of the bytes, and that nothing
 -- changes where the number says so.

@@ -188,6 +188,10 @@ impl List {
         self.line(format_args!("call frame_pack {} {}", List::lent(frame), List::lent(out)));
     }
 
+    pub fn pack_before_of(&mut self, frame: Bytes, out: Bytes) {
+        self.line(format_args!("call frame_pack_before {} {}", List::lent(frame), List::lent(out)));
+    }
+
     pub fn info_of(&mut self, frame: Bytes, numbers: usize) {
         self.dirty(numbers);
         self.line(format_args!("call frame_info {} {NUMBERS_AT}*{numbers}", List::lent(frame)));
@@ -261,6 +265,10 @@ impl List {
         self.pack_of(self.frame, self.out(self.frame.length));
     }
 
+    pub fn pack_before(&mut self) {
+        self.pack_before_of(self.frame, self.out(self.frame.length));
+    }
+
     pub fn list(&mut self, names: Names, buffer: usize) {
         self.list_of(self.frame, names, buffer, LIST_NUMBERS);
     }
@@ -280,6 +288,7 @@ impl List {
         self.look_up(key);
         self.list(Names { prefix: key, start: Some(key), delimiter: NO_DELIMITER }, value.length);
         self.pack();
+        self.pack_before();
         self.put(key, value);
         self.replace(key, value);
         self.erase(key);

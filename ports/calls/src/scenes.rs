@@ -152,6 +152,7 @@ fn refusals(list: &mut List) {
         list.erase_of(long(length), b"a\0");
         let out = list.out(8);
         list.pack_of(long(length), out);
+        list.pack_before_of(long(length), out);
     }
     list.format(8);
     list.put(b"a", Value { length: 3, seed: 7 });
@@ -179,6 +180,7 @@ fn refusals(list: &mut List) {
     for length in [0, 8, 1_023, 1_025, 1_032] {
         let out = list.out(length);
         list.pack_of(frame, out);
+        list.pack_before_of(frame, out);
     }
     // Not good, with all that comes later in the order.
     list.flip(4, 1);
@@ -342,9 +344,32 @@ fn batches(list: &mut List) {
     list.batch_of(frame, SHORTEST_FRAME, &batch, 1);
 }
 
+const SMALL: [&[u8]; 6] = [b"long", b"lose", b"loss", b"lost", b"l", b"m"];
+
+/// Frames from before freed bytes were wiped: more and more of what nothing uses is not zero. What is packed of one takes changes.
+fn before(list: &mut List) {
+    list.scene("before", [3, 6, 1, 2], SHORTEST_FRAME);
+    list.format(20);
+    for key in SMALL {
+        list.put(key, Value { length: 1, seed: 67 });
+    }
+    list.erase(b"loss");
+    list.replace(b"long", Value { length: 9, seed: 71 });
+    for place in [1_023, 1_016, 1_000, 800, 600] {
+        list.flip(place, 0x80);
+        list.check();
+        list.pack();
+        list.put(b"loss", Value { length: 1, seed: 73 });
+        list.pack_before();
+    }
+    list.take_packed();
+    list.check();
+    list.put(b"loss", Value { length: 1, seed: 73 });
+    list.pack_before();
+}
+
 /// A good frame with one byte changed, and each call on it.
 fn damaged(list: &mut List) {
-    const SMALL: [&[u8]; 6] = [b"long", b"lose", b"loss", b"lost", b"l", b"m"];
     list.scene("damaged, 1,024 bytes", [5, 1, 0, 0], SHORTEST_FRAME);
     list.format(20);
     for key in SMALL {
@@ -411,6 +436,7 @@ pub fn all(list: &mut List) {
     long_values(list);
     longest(list);
     batches(list);
+    before(list);
     damaged(list);
     any_bytes(list);
     list.scene("the end", [0; 4], 8);
@@ -442,6 +468,7 @@ pub fn deepest(list: &mut List) {
         list.list(Names { prefix: b"", start: None, delimiter: NO_DELIMITER }, 4_096);
         list.list(Names { prefix: b"z", start: Some(&[DOWN; 100]), delimiter: 1 }, 4_096);
         list.pack();
+        list.pack_before();
         let mut aside = vec![DOWN; LONGEST_KEY - 1];
         aside.push(children);
         list.put(&aside, NONE);
@@ -476,6 +503,7 @@ pub fn times(list: &mut List) {
         list.erase(b"line.rate");
         list.restore();
         list.pack();
+        list.pack_before();
     }
     for _ in 0..200 {
         list.format(600);

@@ -51,7 +51,8 @@ pub const COMMANDS: &[Command] = &[
         does: "say whether an image is a good frame, or why not",
         more: "The verdict is the proved check's. For a frame that is not good it is followed by the rules that are broken, each\n\
                with the slot and the bytes where it is broken first, and the status is 1.\n\
-               A good frame is one that is built as it should be: damage that leaves it so is not noticed.",
+               A good frame is one that is built as it should be: damage that leaves it so is not noticed.\n\
+               Of an image that was good before freed bytes were wiped it is said that it has to be packed once, and how.",
         operands: 1..=1,
         options: &[],
         run: check::run,
@@ -135,11 +136,12 @@ pub const COMMANDS: &[Command] = &[
     },
     Command {
         name: "pack",
-        usage: "frame pack IMAGE OUT",
+        usage: "frame pack IMAGE OUT [--before]",
         does: "write the packed image",
-        more: "The one image of the same records with the same F and N: nothing dead, nothing freed. OUT may be IMAGE.",
+        more: "The one image of the same records with the same F and N: nothing dead, nothing freed. OUT may be IMAGE.\n\
+               --before        IMAGE may be from before freed bytes were wiped, which every other command refuses",
         operands: 2..=2,
-        options: &[],
+        options: &[flag("--before")],
         run: pack::run,
     },
     Command {

@@ -8,7 +8,7 @@ use crate::ended::Ended;
 use frame_rules::check::read as read_by_rules;
 use frame_rules::layout::LONGEST_FRAME;
 use frame_rules::words;
-use frame_store::{Frame, Refusal};
+use frame_store::{Frame, Refusal, View};
 use std::fs::{self, File, OpenOptions};
 use std::io::{self, ErrorKind, Read, Write};
 use std::os::unix::fs::{fchown, MetadataExt};
@@ -53,11 +53,25 @@ pub fn open(path: &Path) -> Result<Frame<Vec<u8>>, Ended> {
     let bytes = read(path)?;
     match frame_store::check(&bytes) {
         Ok(()) => Ok(Frame::over(bytes)),
-        Err(refusal) => {
-            let first = why_not(&bytes, refusal).into_iter().next().unwrap_or_default();
-            Err(Ended::at(path, format!("{}: {first}", verdict(refusal))))
-        }
+        Err(refusal) => Err(refused(path, &bytes, refusal)),
     }
+}
+
+/// What is said of an image that is refused, and that is no good frame.
+pub fn refused(path: &Path, bytes: &[u8], refusal: Refusal) -> Ended {
+    let first = why_not(bytes, refusal).into_iter().next().unwrap_or_default();
+    let hint = from_before(path, bytes).map(|hint| format!("; {hint}")).unwrap_or_default();
+    Ended::at(path, format!("{}: {first}{hint}", verdict(refusal)))
+}
+
+/// How an image that the proved check has refused is moved over, if it is from before freed bytes were wiped: the proved packing by
+/// the old rule takes it.
+pub fn from_before(path: &Path, bytes: &[u8]) -> Option<String> {
+    let taken = View::over(bytes).pack_before(vec![0; bytes.len()]).is_ok();
+    let path = path.display();
+    taken.then(|| {
+        format!("it was good before freed bytes were wiped: `frame pack --before {path} {path}` packs it once")
+    })
 }
 
 /// The proved check's no.

@@ -2,8 +2,16 @@
 
 mod support;
 
+use second_store::check::{check_before, read, Rule};
 use second_store::damage::{all, undamaged, Aim};
+use second_store::layout::number;
+use second_store::random::Random;
+use second_store::unused::soiled;
 use support::Folder;
+
+/// What is said of an image that was good by the old rule.
+const HINT: &str =
+    "it was good before freed bytes were wiped: `frame pack --before i i` packs it once";
 
 #[test]
 fn every_damage_is_told() {
@@ -21,12 +29,56 @@ fn every_damage_is_told() {
         let told = why.lines().any(|line| line.starts_with(&format!("  {rule}")));
         assert!(told, "{}: {rule}\n{why}", damage.name);
         assert!(why.lines().all(|line| line.contains("byte")), "{why}");
+        let hinted = why.lines().filter(|line| *line == HINT).count();
+        let before = check_before(&damage.bytes) == number::DONE;
+        assert_eq!(hinted, usize::from(before), "{}: {why}", damage.name);
         if let Aim::Alone(_) = damage.aim {
-            assert_eq!(why.lines().count(), 1, "{}: {why}", damage.name);
+            assert_eq!(why.lines().count(), 1 + hinted, "{}: {why}", damage.name);
         }
     }
     for frame in undamaged() {
         folder.write("i", frame);
         folder.frame(&["check", "i"]).done("i: a good frame\n");
     }
+}
+
+#[test]
+fn an_image_from_before_is_moved_over() {
+    let folder = Folder::new("before");
+    folder.image("good", 2048, 32, "a=1\nab=22\nb=3\n");
+    folder.frame(&["replace", "good", "ab", "2"]).done("");
+    let good = folder.read("good");
+    let reading = read(&good).expect("the lengths agree");
+    let old = soiled(&mut Random::new(1), &good, &reading, &Rule::WIPED);
+    folder.write("i", &old);
+    for words in [
+        &["info", "i"][..],
+        &["list", "i"],
+        &["get", "i", "a"],
+        &["put", "i", "c", "1"],
+        &["replace", "i", "a", "1"],
+        &["erase", "i", "a"],
+        &["batch", "i", "/dev/null"],
+        &["pack", "i", "i"],
+        &["diff", "i", "good"],
+        &["draw", "i"],
+        &["export", "i"],
+        &["import", "i", "/dev/null"],
+    ] {
+        folder.frame(words).stopped(HINT);
+        assert_eq!(folder.read("i"), old, "{words:?}");
+    }
+    folder.frame(&["pack", "--before", "i", "moved"]).done("");
+    assert_eq!(folder.read("i"), old);
+    folder.frame(&["pack", "--before", "i", "i"]).done("");
+    folder.frame(&["check", "i"]).done("i: a good frame\n");
+    folder.frame(&["export", "i"]).done("a=1\nab=2\nb=3\n");
+    folder.frame(&["pack", "good", "packed"]).done("");
+    folder.frame(&["pack", "--before", "good", "good"]).done("");
+    for image in ["i", "moved", "good"] {
+        assert_eq!(folder.read(image), folder.read("packed"), "{image}");
+    }
+    folder.write("i", "no frame");
+    folder.frame(&["pack", "--before", "i", "i"]).stopped("i: not a good frame (answer 1)");
+    assert_eq!(folder.read("i"), b"no frame");
 }

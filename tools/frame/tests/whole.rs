@@ -39,12 +39,13 @@ const KILL: &str = "9";
 const TERMINATE: &str = "15";
 
 /// Each command that replaces a file.
-const CHANGES: [&[&str]; 7] = [
+const CHANGES: [&[&str]; 8] = [
     &["put", "i", "c", "3"],
     &["replace", "i", "a", "22"],
     &["erase", "i", "a"],
     &["batch", "i", "batch"],
     &["pack", "i", "i"],
+    &["pack", "--before", "i", "i"],
     &["import", "i", "lines"],
     &["get", "i", "a", "--to", "i"],
 ];

@@ -1,16 +1,17 @@
 //! The exact check, as a list of named rules.
 //!
 //! Believed here: the section "A good frame" and the first two refusals of
-//! document 01. `read` looks at a whole frame and collects every rule it
-//! breaks, each with the first place where it does; a frame is good exactly if
-//! it breaks none. It never looks at freed bodies, dead extents, padding or
-//! bytes from B on.
+//! document 01, and Q-3 of document 02: in a good frame freed bodies, dead
+//! extents and bytes from B on are zero. `read` looks at a whole frame and
+//! collects every rule it breaks, each with the first place where it does; a
+//! frame is good exactly if it breaks none, and was good before Q-3 exactly if
+//! it breaks none but those of Q-3. It never looks at padding.
 
 use crate::layout::*;
 use std::collections::BTreeMap;
 use std::ops::Range;
 
-/// One sentence of "A good frame" each.
+/// One sentence of "A good frame" each; the last three are of Q-3.
 #[derive(Clone, Copy, PartialEq, Eq, PartialOrd, Ord, Debug)]
 pub enum Rule {
     /// The edition is 1.
@@ -87,10 +88,16 @@ pub enum Rule {
     EmptyRootPlace,
     /// R is 0 exactly with an EmptyRoot; otherwise it counts the Leaves.
     Records,
+    /// Freed bodies are zero.
+    FreedBody,
+    /// Dead extents are zero.
+    DeadExtent,
+    /// Bytes from B on are zero.
+    NeverGiven,
 }
 
 impl Rule {
-    pub const ALL: [Rule; 37] = [
+    pub const ALL: [Rule; 40] = [
         Rule::Edition,
         Rule::SlotCapacity,
         Rule::DataStart,
@@ -128,7 +135,13 @@ impl Rule {
         Rule::Path,
         Rule::EmptyRootPlace,
         Rule::Records,
+        Rule::FreedBody,
+        Rule::DeadExtent,
+        Rule::NeverGiven,
     ];
+
+    /// What is freed, and what was never given out, is zero: the rules of Q-3.
+    pub const WIPED: [Rule; 3] = [Rule::FreedBody, Rule::DeadExtent, Rule::NeverGiven];
 }
 
 /// Where a rule is broken.
@@ -177,11 +190,32 @@ pub struct Reading {
     pub extents: BTreeMap<usize, Range<usize>>,
 }
 
+impl Reading {
+    /// By all rules.
+    pub fn good(&self) -> bool {
+        self.broken.is_empty()
+    }
+
+    /// By the rules before Q-3.
+    pub fn good_before(&self) -> bool {
+        self.broken.keys().all(|rule| Rule::WIPED.contains(rule))
+    }
+}
+
 /// 0, 1 or 2.
 pub fn check(frame: &[u8]) -> u32 {
+    verdict(frame, Reading::good)
+}
+
+/// The same by the rules before Q-3.
+pub fn check_before(frame: &[u8]) -> u32 {
+    verdict(frame, Reading::good_before)
+}
+
+fn verdict(frame: &[u8], good: fn(&Reading) -> bool) -> u32 {
     match read(frame) {
         None => number::LENGTHS,
-        Some(reading) if reading.broken.is_empty() => number::DONE,
+        Some(reading) if good(&reading) => number::DONE,
         Some(_) => number::NOT_GOOD,
     }
 }
@@ -213,7 +247,8 @@ struct Reader<'a> {
     data: Range<usize>,
     /// U.
     slots_given: usize,
-    /// Which slot's body or extent has a unit of the frame.
+    /// Which slot's body or extent has a unit of the frame; of several the last
+    /// one that was met, so a live one before a freed one.
     taken: Vec<u16>,
     /// Which slots stand on a list, by slot number.
     listed: Vec<bool>,
@@ -260,6 +295,21 @@ impl Reader<'_> {
         let dead = get32(self.frame, AT_X);
         let sum_kept = self.data.len() == self.sizes + dead;
         self.demand(Rule::Sum, sum_kept, Place::header(AT_X, 4));
+        self.wiped();
+    }
+
+    /// What nothing live has is zero, from D to the frame's end.
+    fn wiped(&mut self) {
+        for at in self.data.clone().step_by(UNIT) {
+            let unit = at..at + UNIT;
+            let slot = usize::from(self.taken[at / UNIT]);
+            if slot == usize::from(NOBODY) {
+                self.demand_zero(Rule::DeadExtent, None, unit);
+            } else if self.listed[slot] && !self.reading.live.contains_key(&slot) {
+                self.demand_zero(Rule::FreedBody, Some(slot), unit);
+            }
+        }
+        self.demand_zero(Rule::NeverGiven, None, self.data.end..self.frame.len());
     }
 
     /// False if the rest of the frame cannot be read by it.

@@ -1,4 +1,4 @@
-//! What a good frame is, read from document 01 alone.
+//! What a good frame is, read from documents 01 and 02 alone.
 //!
 //! `layout` has the numbers and field places, `check` the rules and the
 //! reading of a frame by them, `words` what is said of a broken rule. The

@@ -8,7 +8,7 @@ use crate::layout::*;
 use std::fmt::Write;
 
 impl Rule {
-    /// The rule, in document 01's words.
+    /// The rule, in the documents' words.
     pub fn sentence(self) -> &'static str {
         match self {
             Rule::Edition => "the edition is 1",
@@ -50,6 +50,9 @@ impl Rule {
             Rule::Path => "a Leaf's walked string begins with the path that leads to it",
             Rule::EmptyRootPlace => "EmptyRoot stands only at the root",
             Rule::Records => "R is 0 with an EmptyRoot, and otherwise counts the Leaves",
+            Rule::FreedBody => "freed bodies are zero",
+            Rule::DeadExtent => "dead extents are zero",
+            Rule::NeverGiven => "bytes from B on are zero",
         }
     }
 
@@ -89,7 +92,10 @@ impl Rule {
             | Rule::IndexDistinct
             | Rule::ZeroField
             | Rule::UnusedBytes
-            | Rule::UnusedChildren => format!("it holds {}", frame[at]),
+            | Rule::UnusedChildren
+            | Rule::FreedBody
+            | Rule::DeadExtent
+            | Rule::NeverGiven => format!("it holds {}", frame[at]),
             Rule::Overlap => match place.other {
                 Some(other) => format!("slot {other} has them too"),
                 None => String::new(),

@@ -15,6 +15,9 @@ pub fn run(given: &Given) -> Result<(), Ended> {
             for why in image::why_not(&bytes, refusal) {
                 told.push_str(&format!("  {why}\n"));
             }
+            if let Some(hint) = image::from_before(path, &bytes) {
+                told.push_str(&format!("{hint}\n"));
+            }
             output::write(told.as_bytes())?;
             Err(Ended::Told)
         }
