@@ -4,8 +4,8 @@ use native.Mathlib.Omega.{arith}
 use borrow.Author.Needs.{needs}
 use lib.ListN.{length}
 use Rattle.names.proofs.CutLaws.{Passed, pass-start, pass-end, pass-hit, pass-on}
-use Rattle.names.proofs.entry.ending.Statement.{statement}
-use Rattle.names.proofs.entry.ending.Tie as tie
+use Rattle.names.proofs.entry.sought_ending.Statement.{statement}
+use Rattle.names.proofs.entry.sought_ending.Tie as tie
 
 abbrev Inv-loop : tie.InvT-loop
 Inv-loop key from delimiter i₀ i = Passed key from delimiter i
@@ -37,8 +37,8 @@ loop-again c = pass-on (c .before .before .before .loop .inv) (omega arith) (c .
 returns-2 : tie.Need-returns-2 Inv-loop μ-loop
 returns-2 c = pass-end (c .before .loop .inv) (omega arith)
 
-pub ending-spec : {M : Type 1} → statement M
-ending-spec =
+pub sought-ending-spec : {M : Type 1} → statement M
+sought-ending-spec =
     tie.close
     (tie.spec
     Inv-loop
