@@ -2,3 +2,4 @@ pub mod LayoutLaws
 pub mod ChangeLaws
 pub mod RunLaws
 pub mod ApplyLaws
+pub mod DemandLaws

@@ -6,10 +6,10 @@ use mathlib.Core.Path.{_≡_, refl, sym, ap, _∙_}
 use mathlib.Core.List.{List, [], _∷_, _++_, append-assoc, append-nil}
 use mathlib.Core.Bool.{Bool, true, false, not}
 use mathlib.Core.Option.{Option}
-use lib.ListN.{length, take, drop, getD, length-append, drop-of-length-le, List·getD-append}
-use lib.Seq.{drop-cons, take-suc, take-take}
+use lib.ListN.{length, take, drop, getD, length-append, take-append-drop, drop-of-length-le, List·getD-append}
+use lib.Seq.{drop-cons, take-suc, take-take, take-length}
 use lib.Dec.{ltb, eqb}
-use borrow.Author.Tests.{lt-ltb, eq-eqb, ne-eqb, not-true, not-false}
+use borrow.Author.Tests.{lt-ltb, le-ltb, eq-eqb, ne-eqb, not-true, not-false}
 use Rattle.layout.specs.Number.{le}
 use Rattle.layout.specs.Place.{leafExtent, leafKey}
 use Rattle.layout.proofs.NumberLaws.{le1}
@@ -79,6 +79,12 @@ miss x d w n = bool-cases (ltb d 256) (λ t. (rw (t, ne-eqb x d n), rw (t, ne-eq
 
 end : (d : ℕ) → (upto (delimiterOf d) [] ≡ []) × (tailUp (delimiterOf d) [] ≡ 1)
 end d = bool-cases (ltb d 256) (λ t. (rw t, rw t)) (λ t. (rw t, rw t))
+
+-- none is sought: all of the key
+pub no-delimiter : (k : List ℕ) (from delimiter : ℕ) → from ≤ length k → 256 ≤ delimiter → CutAt k from (delimiterOf delimiter) (record { long = length k; tail = 1 })
+no-delimiter k from delimiter h o =
+    let t = le-ltb delimiter 256 o in
+    record { low = h; high = omega arith; text = rw (t, take-length k) (sym (take-append-drop from k)); tail = rw t }
 
 module _ {k : List ℕ} {from delimiter i : ℕ} (P : Passed k from delimiter i) where
   pub pass-end : length k ≤ i → CutAt k from (delimiterOf delimiter) (record { long = i; tail = 1 })

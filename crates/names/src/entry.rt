@@ -18,6 +18,9 @@ const PAST_KEY: usize = 1;
 
 const PAST_GROUP: usize = 256;
 
+// as many bytes as there are
+const BYTES: usize = 256;
+
 // the bytes of the length before an entry
 pub const LENGTH_SIZE: usize = 2;
 
@@ -56,8 +59,8 @@ pub fn starts_with(key: &[u8], prefix: &[u8]) -> bool
     pieces::same(key, 0, prefix, 0, prefix.len())
 }
 
-// Where the entry of a key ends whose first bytes are a prefix. A delimiter above 255 is no byte.
-pub fn ending(key: &[u8], from: usize, delimiter: usize) -> Cut
+// Where the entry of a key ends whose first bytes are a prefix: at a delimiter that is sought behind them.
+fn sought_ending(key: &[u8], from: usize, delimiter: usize) -> Cut
     requires { ⌜ from ≤ length (now key) ⌝ }
     ensures { λ r. ⌜ CutAt (now (key .entry)) from (delimiterOf delimiter) r ⌝ }
 {
@@ -73,6 +76,20 @@ pub fn ending(key: &[u8], from: usize, delimiter: usize) -> Cut
     }
     Cut {
         long: i,
+        tail: PAST_KEY,
+    }
+}
+
+// The same. A delimiter above 255 is no byte, and none is sought.
+pub fn ending(key: &[u8], from: usize, delimiter: usize) -> Cut
+    requires { ⌜ from ≤ length (now key) ⌝ }
+    ensures { λ r. ⌜ CutAt (now (key .entry)) from (delimiterOf delimiter) r ⌝ }
+{
+    if delimiter < BYTES {
+        return sought_ending(key, from, delimiter);
+    }
+    Cut {
+        long: key.len(),
         tail: PAST_KEY,
     }
 }

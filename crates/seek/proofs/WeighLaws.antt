@@ -1,6 +1,7 @@
 -- Bytes of a frame weighed against a bound, one after the other. Assumes nothing.
-use Prim.Native.Nat.{ℕ, suc, _+_, _-_, _<_, _≤_}
+use Prim.Native.Nat.{ℕ, zero, suc, _+_, _-_, _<_, _≤_}
 use native.Mathlib.Omega.{arith}
+use native.Mathlib.Numerals.{add-one}
 use mathlib.Core.Path.{_≡_, sym, _∙_}
 use mathlib.Core.List.{List, _∷_}
 use mathlib.Core.Bool.{false}
@@ -8,6 +9,7 @@ use lib.ListN.{length, take, drop, getD, drop-of-length-le}
 use lib.Seq.{drop-cons}
 use lib.Dec.{leb}
 use borrow.Author.Tests.{le-leb, lt-ltb, le-ltb, eq-eqb, ne-eqb}
+use Rattle.pieces.specs.Range.{Alike}
 use Rattle.model.proofs.StringLaws.{leb-cases}
 use Rattle.listing.specs.Seek.{weigh}
 
@@ -50,3 +52,12 @@ module _ {f : List ℕ} {at n : ℕ} {text : List ℕ} {d tail i : ℕ} (I : Wei
       byte-same q =
           let k : d + (i + 1) ≡ suc (d + i) = omega arith in
           record { is = I .is ∙ rw (drop-cons text (d + i) 0 e, row-cons f at n i h w, le-ltb (getD text (d + i) 0) (getD f (at + i) 0) (omega arith), eq-eqb (getD text (d + i) 0) (getD f (at + i) 0) q, k) }
+
+-- bytes that the text has too do not decide
+module _ (f : List ℕ) (at n : ℕ) (text : List ℕ) (d tail : ℕ) (w : at + n ≤ length f) (e : d + n ≤ length text) (A : Alike f at text d n) where
+  upto : (i : ℕ) → i ≤ n → Weighed f at n text d tail i
+  upto zero h = weighed-start f at n text d tail
+  upto (suc i) h = rw (sym (add-one i)) (byte-same (upto i (omega arith)) (omega arith) w (omega arith) (sym (A i (omega arith))))
+
+  pub same-open : 1 ≡ weigh (drop d text) tail (take n (drop at f))
+  same-open = weighed-end (upto n (omega arith)) (omega arith)

@@ -63,8 +63,8 @@ pub fn first(f: &[u8], slot: usize, depth: usize) -> usize
     }
 }
 
-// Where the n bytes of f from `at` stand to what is left of the bound behind its first d bytes.
-pub fn weigh_bytes(f: &[u8], at: usize, n: usize, text: &[u8], d: usize, tail: usize) -> usize
+// Where the n bytes of f from `at` stand to what is left of the bound behind its first d bytes: one byte after the other.
+fn weigh_each(f: &[u8], at: usize, n: usize, text: &[u8], d: usize, tail: usize) -> usize
     requires { ⌜ (at + n ≤ length (now f)) × (d ≤ length (now text)) × (n < 65536) × (d < 65536) ⌝ }
     ensures { λ r. ⌜ r ≡ weigh (drop d (now (text .entry))) tail (take n (drop at (now (f .entry)))) ⌝ }
 {
@@ -87,6 +87,19 @@ pub fn weigh_bytes(f: &[u8], at: usize, n: usize, text: &[u8], d: usize, tail: u
         i += 1;
     }
     OPEN
+}
+
+// The same. Bytes that the text has do not decide, and are seen to be the same several at a time.
+pub fn weigh_bytes(f: &[u8], at: usize, n: usize, text: &[u8], d: usize, tail: usize) -> usize
+    requires { ⌜ (at + n ≤ length (now f)) × (d ≤ length (now text)) × (n < 65536) × (d < 65536) ⌝ }
+    ensures { λ r. ⌜ r ≡ weigh (drop d (now (text .entry))) tail (take n (drop at (now (f .entry)))) ⌝ }
+{
+    if d + n <= text.len() {
+        if pieces::same(f, at, text, d, n) {
+            return OPEN;
+        }
+    }
+    weigh_each(f, at, n, text, d, tail)
 }
 
 // The first child of a node from byte b on, as what a seek falls back on.

@@ -1,83 +1,26 @@
--- What is left weighs what the whole weighs. Assumes nothing.
-use Prim.Native.Nat.{_+_, _-_, _≤_}
-use native.Mathlib.Omega.{arith}
-use Rattle.seek.proofs.WeighLaws.{Weighed, weighed-start, weighed-end, tail-above, tail-below, byte-above, byte-below, byte-same}
+-- Bytes that are the text's do not decide; others are weighed one after the other. Assumes nothing.
+use borrow.Author.Needs.{needs}
+use Rattle.seek.proofs.WeighLaws.{same-open}
 use Rattle.seek.proofs.weigh_bytes.Statement.{statement}
 use Rattle.seek.proofs.weigh_bytes.Tie as tie
 
-abbrev Inv-loop : tie.InvT-loop
-Inv-loop f at n text d tail i₀ i = (i ≤ n) × Weighed f at n text d tail i
+add-if1 : tie.Need-add-if1
+add-if1 c = search needs
 
-abbrev μ-loop : tie.MeasureT-loop
-μ-loop f at n text d tail i₀ i = n - i
+same-requires : tie.Need-same-requires
+same-requires c κs = search needs
 
-loop-holds : tie.Need-loop-holds Inv-loop μ-loop
-loop-holds c = (omega arith, weighed-start _ _ _ _ _ _)
+returns : tie.Need-returns
+returns c =
+    let z = c .before .before .before .before .before in
+    let a = z .args in
+    same-open (a .f .now) (a .at) (a .n) (a .text .now) (a .d) (a .tail) (z .pre .0) (c .before .before .if1 .taken) (c .before .same .ensures .holds (c .if2 .taken))
 
-add-x : tie.Need-add-x Inv-loop μ-loop
-add-x c = omega arith
+weigh-each-requires : tie.Need-weigh-each-requires
+weigh-each-requires c κs = search needs
 
-shared-slice-read-x : tie.Need-shared-slice-read-x Inv-loop μ-loop
-shared-slice-read-x c = omega arith
-
-cast-x : tie.Need-cast-x Inv-loop μ-loop
-cast-x c = omega (arith, c .shared-slice-known .given (c .before .before .before .args .at + c .before .before .loop .i))
-
-add-if1 : tie.Need-add-if1 Inv-loop μ-loop
-add-if1 c = omega arith
-
-returns : tie.Need-returns Inv-loop μ-loop
-returns c = let l = c .before .before .before .before .loop in tail-above (l .inv .1) (omega arith) (omega arith) (omega arith) (c .if2 .taken)
-
-returns-2 : tie.Need-returns-2 Inv-loop μ-loop
-returns-2 c = let l = c .before .before .before .before .loop in tail-below (l .inv .1) (omega arith) (omega arith) (omega arith) (λ h. omega (arith, c .if2 .left))
-
-add-b : tie.Need-add-b Inv-loop μ-loop
-add-b c = omega arith
-
-shared-slice-read-b : tie.Need-shared-slice-read-b Inv-loop μ-loop
-shared-slice-read-b c = omega arith
-
-cast-b : tie.Need-cast-b Inv-loop μ-loop
-cast-b c = omega (arith, c .shared-slice-known2 .given (c .before .before .before .before .before .args .d + c .before .before .before .before .loop .i))
-
-returns-3 : tie.Need-returns-3 Inv-loop μ-loop
-returns-3 c = let l = c .before .before .before .before .before .loop in byte-above (l .inv .1) (omega arith) (omega arith) (omega arith) (c .if3 .taken)
-
-returns-4 : tie.Need-returns-4 Inv-loop μ-loop
-returns-4 c = let l = c .before .before .before .before .before .before .loop in let u = c .before .if3 .left in byte-below (l .inv .1) (omega arith) (omega arith) (omega arith) (omega (arith, c .if4 .taken))
-
-add-i : tie.Need-add-i Inv-loop μ-loop
-add-i c = omega arith
-
-loop-less : tie.Need-loop-less Inv-loop μ-loop
-loop-less c = omega arith
-
-loop-again : tie.Need-loop-again Inv-loop μ-loop
-loop-again c = let l = c .before .before .before .before .before .before .loop in (omega arith, byte-same (l .inv .1) (omega arith) (omega arith) (omega arith) (c .if4 .left))
-
-returns-5 : tie.Need-returns-5 Inv-loop μ-loop
-returns-5 c = weighed-end (c .before .loop .inv .1) (omega arith)
+returns-2 : tie.Need-returns-2
+returns-2 c = search needs
 
 pub weigh-bytes-spec : {M : Type 1} → statement M
-weigh-bytes-spec =
-    tie.close
-    (tie.spec
-    Inv-loop
-    μ-loop
-    loop-holds
-    add-x
-    shared-slice-read-x
-    cast-x
-    add-if1
-    returns
-    returns-2
-    add-b
-    shared-slice-read-b
-    cast-b
-    returns-3
-    returns-4
-    add-i
-    loop-less
-    loop-again
-    returns-5)
+weigh-bytes-spec = tie.close (tie.spec add-if1 same-requires returns weigh-each-requires returns-2)
