@@ -1041,12 +1041,12 @@ fn unwiped(shop: &mut Workshop) {
     ];
     for (what, place) in places {
         let rule = Aim::Alone(Rule::NeverGiven);
-        let mut set = |s: &mut Specimen| {
+        let set = |s: &mut Specimen| {
             let at = place(s);
             s.bytes[at] = 1;
         };
-        shop.full(rule, &format!("the byte {what} set"), &mut set);
-        shop.empty(rule, &format!("the byte {what} set, all freed"), &mut set);
+        shop.full(rule, &format!("the byte {what} set"), set);
+        shop.empty(rule, &format!("the byte {what} set, all freed"), set);
     }
     shop.full(Aim::Among(Rule::DeadExtent), "nothing wiped that was freed", |s| {
         let reading = check::read(&s.bytes).expect("the lengths agree");

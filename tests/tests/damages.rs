@@ -1,8 +1,9 @@
 //! Every named damage gives its number, and breaks the rule it is aimed at.
 
 use frame_rules::words::{told, told_lengths};
-use second_store::check::{check, read, Rule};
+use second_store::check::{check, check_before, read, Rule};
 use second_store::damage::{all, undamaged, Aim};
+use second_store::layout::{number, Kind};
 use std::collections::BTreeSet;
 
 #[test]
@@ -55,6 +56,20 @@ fn there_are_a_hundred_damages_with_distinct_names() {
     let names: BTreeSet<&str> = damages.iter().map(|damage| damage.name.as_str()).collect();
     assert_eq!(names.len(), damages.len());
     assert!(names.len() >= 100, "{} damages", names.len());
+}
+
+/// Two bytes of a freed body of each kind and a whole one; dead extents; what was
+/// never given out, in a frame with records and in one without.
+#[test]
+fn what_is_left_is_damage_wherever_it_is_left() {
+    let alone = |rule: Rule| all().iter().filter(|damage| damage.aim == Aim::Alone(rule)).count();
+    assert_eq!(Rule::WIPED.map(alone), [2 * Kind::ALL.len() + 1, 5, 8]);
+    for damage in all() {
+        let only_left = matches!(damage.aim, Aim::Alone(rule) if Rule::WIPED.contains(&rule));
+        if only_left {
+            assert_eq!(check_before(&damage.bytes), number::DONE, "{}", damage.name);
+        }
+    }
 }
 
 #[test]

@@ -1,17 +1,16 @@
 -- Packing by the rule from before, held to the demands: the image is that of the records, and these are as legal by the one rule as by the other. Assumes nothing.
-use Prim.Native.Nat.{ℕ, suc, _+_, _≤_}
+use Prim.Native.Nat.{ℕ, suc, _+_}
 use native.Mathlib.Omega.{arith}
-use mathlib.Core.Path.{_≡_, refl, sym, ap, subst, _∙_}
+use mathlib.Core.Path.{_≡_, refl, sym, _∙_}
 use mathlib.Core.List.{List, [], _∷_, _++_}
 use mathlib.Core.Option.{Option, none, some}
 use mathlib.Core.Logic.{inl, inr}
 use lib.ListN.{length}
-use Rattle.model.specs.Edition.{edition1, before1, Legal}
+use Rattle.model.specs.Edition.{edition1, before1}
 use Rattle.model.specs.Tree.{Art, Kids}
 use Rattle.model.specs.Tree.Art.{leaf, prefix, node}
 use Rattle.model.specs.Tree.Kids.{nil, kid}
-use Rattle.model.specs.Records.{Record, recordsOf}
-use Rattle.model.specs.State.{State}
+use Rattle.model.specs.Records.{Record}
 use Rattle.model.specs.Image.{packedTree, treeOf, image}
 use Rattle.model.specs.Frame.{Stands}
 use Rattle.model.specs.Promise.{PackBeforePromise}

@@ -8,3 +8,4 @@ pub mod Orders
 pub mod AnyOrderLaws
 pub mod Theorems
 pub mod SlotLaws
+pub mod WipedLaws

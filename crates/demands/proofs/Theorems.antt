@@ -1,20 +1,22 @@
--- The three demands and any order, met by whatever keeps the promises of edition 1, and the wrong stores that this shuts out. Assumes nothing.
-use Prim.Native.Nat.{ℕ, _≤_}
+-- The three demands, any order and what is wiped, met by whatever keeps the promises of edition 1, and the wrong stores that this shuts out. Assumes
+-- nothing.
+use Prim.Native.Nat.{ℕ, _+_, _≤_}
 use native.Mathlib.Omega.{arith}
 use mathlib.Core.Path.{_≡_, refl, sym, ap, _∙_}
 use mathlib.Core.List.{List, [], _∷_}
 use mathlib.Core.Option.{some}
 use mathlib.Core.Logic.{inr}
-use lib.ListN.{length, getD, replicate}
+use lib.ListN.{length, getD, drop, replicate, length-drop}
+use lib.Seq.{length-take-le, getD-take, getD-drop}
 use lib.Dec.{ltb, eqb, lit<, lit≤}
 use Rattle.model.specs.Strings.{hasZero}
 use Rattle.model.specs.Edition.{edition1, Legal, LegalValue}
 use Rattle.model.specs.Tree.Art.{leaf}
 use Rattle.model.specs.Records.{Record}
-use Rattle.model.specs.State.{State, formatted}
+use Rattle.model.specs.State.{State, replacing, formatted}
 use Rattle.model.specs.Image.{image}
 use Rattle.model.specs.Frame.{Stands, FrameLength, SlotCapacity}
-use Rattle.model.specs.Promise.{LengthOk}
+use Rattle.model.specs.Promise.{LengthOk, Found}
 use Rattle.model.specs.Call.{Call, put, replace, onCall, Called}
 use Rattle.model.proofs.StringLaws.{bool-cases, clash}
 use Rattle.model.proofs.Edition1.{lawful1}
@@ -27,9 +29,11 @@ use Rattle.model.proofs.WorkedLaws.{called-stands}
 use Rattle.demands.specs.Words.{NotRefused, Holds}
 use Rattle.demands.specs.Demands.{Demand1, Demand2, Demand3}
 use Rattle.demands.specs.AnyOrder.{AnyOrder}
-use Rattle.demands.specs.WrongStores.{Counters, ShutOut}
+use Rattle.demands.specs.WrongStores.{LeavesThose, Counters, ShutOut}
+use Rattle.demands.specs.Wiped.{Wiped}
 use Rattle.demands.proofs.Refusals.{demand1}
 use Rattle.demands.proofs.Sets.{demand2}
+use Rattle.demands.proofs.WipedLaws.{wiped-all}
 use Rattle.demands.proofs.Orders.{demand3}
 use Rattle.demands.proofs.AnyOrderLaws.{any-order}
 
@@ -47,6 +51,9 @@ three = demand3 lawful1 faults1
 pub demands : Demand1 × Demand2 edition1 × Demand3 edition1
 demands = (demand1, two, three)
 
+pub wiped1 : Wiped edition1
+wiped1 = wiped-all lawful1 refl
+
 pub any-order1 : AnyOrder edition1
 any-order1 = any-order lawful1 faults1
 
@@ -63,6 +70,9 @@ v = 49 ∷ []
 
 abbrev w : List ℕ
 w = 50 ∷ []
+
+abbrev ww : List ℕ
+ww = 50 ∷ 50 ∷ []
 
 abbrev a1 : List Record
 a1 = record { key = a; value = v } ∷ []
@@ -92,6 +102,9 @@ legal-v = record { passes = lit≤ tt; bytes = (lit< tt, tt) }
 
 legal-w : LegalValue w
 legal-w = record { passes = lit≤ tt; bytes = (lit< tt, tt) }
+
+legal-ww : LegalValue ww
+legal-ww = record { passes = lit≤ tt; bytes = (lit< tt, (lit< tt, tt)) }
 
 pub length1024 : FrameLength 1024
 length1024 = (refl, lit≤ tt, lit≤ tt)
@@ -144,6 +157,23 @@ settled f c n f' s w p =
     let H = stands-heads edition1 f' (onCall edition1 s c .state) (called-stands edition1 f c n f' s w p .1) in
     record { slots = H .givenAt; bytes = H .bumpAt; records = H .recordsAt; dead = H .deadAt }
 
+leaves-none : (those : List ℕ → Found → ℕ → Type 0) → ((g : Found) → g .long ≡ 1 → those a g (g .place)) → LeavesThose those → ⊥
+leaves-none those first h =
+    let f = holding .0 in
+    let p = h f a ww v a1 holds1 legal-a legal-ww refl (λ z. omega arith) in
+    let g = p .0 in
+    let q = two .lookUp f a g a1 legal-a (p .3) holds1 in
+    let t = q .there0 v .0 refl in
+    let inside = q .within in
+    let long : g .long ≡ 1 = sym (length-take-le (g .long) (drop (g .place) f) (omega (arith, length-drop (g .place) f))) ∙ ap length (t .1) in
+    let n : p .1 ≡ 9 = p .4 .answer state1 (holding .1) in
+    let gone = wiped1 .replace replacing f a ww g (p .1) (p .2) (p .3) (t .0) (p .4) n (λ z. omega arith) (g .place) (omega arith) (omega arith) in
+    let left = p .5 (λ r. clash (let z = rw n at r in cc)) (g .place) (first g long) in
+    let old : getD (drop (g .place) f) 0 0 ≡ 49 = sym (getD-take (g .long) (drop (g .place) f) 0 0 (omega arith)) ∙ ap (λ (x : List ℕ). getD x 0 0) (t .1) in
+    let at : g .place + 0 ≡ g .place = omega arith in
+    let z : _≡_ {A = ℕ} 0 49 = sym gone ∙ left ∙ sym (getD-drop (g .place) f 0 0 ∙ ap (λ (i : ℕ). getD f i 0) at) ∙ old in
+    omega arith
+
 pub shut-out : ShutOut
 shut-out = record {
   allTwo = λ h.
@@ -192,5 +222,7 @@ shut-out = record {
   invents = λ h.
       let p = h (empty .0) (empty .1) in
       p .3 (settled (empty .0) (put a v) (p .0) (p .1) state0 (empty .1) (p .2));
+  leavesOld = leaves-none _ (λ g e. (omega arith, omega arith));
+  unitShort = leaves-none _ (λ g e. (omega arith, omega arith));
   settled = settled;
 }

@@ -4,3 +4,4 @@ pub mod Before
 pub mod AnyOrder
 pub mod WrongStores
 pub mod Slots
+pub mod Wiped

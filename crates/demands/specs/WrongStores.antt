@@ -1,20 +1,21 @@
 -- "Promises have to shut these out": document 01's list of wrong stores, and those that document 02 is about, each as what it would have to prove of
 -- its calls. No store can.
-use Prim.Native.Nat.{ℕ}
+use Prim.Native.Nat.{ℕ, _+_, _<_, _≤_}
 use mathlib.Core.Path.{_≡_}
 use mathlib.Core.List.{List, [], _∷_}
-use mathlib.Core.Option.{none}
+use mathlib.Core.Option.{none, some}
 use mathlib.Core.Logic.{_≢_}
 use lib.ListN.{length}
-use Rattle.layout.specs.Number.{le}
+use Rattle.layout.specs.Number.{le, byteAt}
 use Rattle.layout.specs.Place.{atB, atU, atR, atX}
 use Rattle.model.specs.Edition.{edition1, Legal, LegalValue}
+use Rattle.model.specs.Tree.{up8}
 use Rattle.model.specs.Records.{Record, lookup, upsert}
 use Rattle.model.specs.State.{State, formatted, putChange}
 use Rattle.model.specs.Frame.{Stands, Good}
-use Rattle.model.specs.Promise.{LengthOk, CheckPromise, notFound, LookUpPromise, PutPromise, ReplacePromise, PackPromise}
+use Rattle.model.specs.Promise.{LengthOk, CheckPromise, Found, notFound, LookUpPromise, PutPromise, ReplacePromise, PackPromise}
 use Rattle.model.specs.Call.{Call, onCall, Called}
-use Rattle.demands.specs.Words.{Holds, slotsOf, NoRoom}
+use Rattle.demands.specs.Words.{NotRefused, Holds, slotsOf, NoRoom}
 
 -- "a check that answers 2 to everything (demand 2's first sentence, W1)": to everything of the right length
 abbrev pub AllTwo : Type 0
@@ -57,6 +58,19 @@ KeepsOld = (f k v : List ℕ) (rs : List Record) → Holds edition1 f rs → Leg
 abbrev pub FixedImage : Type 0
 FixedImage = (m : ℕ → ℕ → List ℕ) × ((f o : List ℕ) → Good edition1 f → length o ≡ length f → PackPromise edition1 f o 0 (m (length f) (slotsOf f)))
 
+-- (02) "A returned modem gave up an old subscriber password from a dead extent": where look-up found a value and a replacement has another length,
+-- some bytes are as they were
+abbrev pub LeavesThose : (List ℕ → Found → ℕ → Type 0) → Type 0
+LeavesThose those = (f k v old : List ℕ) (rs : List Record) → Holds edition1 f rs → Legal edition1 k → LegalValue v → lookup k rs ≡ some old → (length v ≡ length old → ⊥)
+    → (g : Found) × (n : ℕ) × (f' : List ℕ) × LookUpPromise edition1 f k g × ReplacePromise edition1 f k v n f' × (NotRefused n → (a : ℕ) → those k g a → byteAt f' a ≡ byteAt f a)
+
+-- the old value; the last eight bytes of its extent
+abbrev pub LeavesOld : Type 0
+LeavesOld = LeavesThose (λ k g a. (g .place ≤ a) × (a < g .place + g .long))
+
+abbrev pub UnitShort : Type 0
+UnitShort = LeavesThose (λ k g a. let end = g .place + up8 (length k + g .long) in (end ≤ a + length k + 8) × (a + length k < end))
+
 -- the counters that a frame stores
 pub record Counters (f : List ℕ) (U B R X : ℕ) : Type 0 where
   pub slots : le 4 f atU ≡ U
@@ -80,6 +94,8 @@ pub record ShutOut : Type 0 where
   pub keepsOld : KeepsOld → ⊥
   pub fixedImage : FixedImage → ⊥
   pub invents : Invents → ⊥
+  pub leavesOld : LeavesOld → ⊥
+  pub unitShort : UnitShort → ⊥
   -- and of every put, replacement and erase: the counters are those that the needs give
   pub settled : (f : List ℕ) (c : Call) (n : ℕ) (f' : List ℕ) (s : State) → Stands edition1 f s → Called edition1 f c n f'
       → let t = onCall edition1 s c .state in Counters f' (t .U) (t .B) (t .R) (t .X)

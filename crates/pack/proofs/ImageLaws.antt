@@ -1,28 +1,22 @@
 -- The image of a good frame: of no records it is what format leaves; else the root's tree is packed from slot 1 and from D on, the header says
 -- how far, and all else is zero. Assumes nothing.
-use Prim.Native.Nat.{ℕ, _+_, _-_, _*_, _<_, _≤_}
+use Prim.Native.Nat.{ℕ, _+_, _-_, _≤_}
 use mathlib.Core.Path.{_≡_, refl, sym, ap, subst, _∙_}
-use mathlib.Core.List.{List, [], _++_}
+use mathlib.Core.List.{List, []}
 use mathlib.Core.Option.{Option, none, some}
 use mathlib.Core.Logic.{inr}
 use native.Mathlib.Omega.{arith}
-use native.Mathlib.Decide.{decLe}
 use lib.ListN.{length}
 use Rattle.layout.specs.Place.{dataStart}
-use Rattle.layout.specs.Kind.{Leaf, Prefix, bodySize}
 use Rattle.model.specs.Edition.{edition1, before1}
 use Rattle.model.specs.Tree.{Art}
 use Rattle.model.specs.Records.{recordsOf}
 use Rattle.model.specs.State.{State}
 use Rattle.model.specs.Image.{numbers, packedTree, slots, size, entries, bodies, image, imageOf}
-use Rattle.model.specs.Item.{Item, body, onSlot, cover, sum}
 use Rattle.model.specs.Body.{Zero}
-use Rattle.model.specs.Frame.{Lay, LayKids, Root, bare, tree, rootArt, rootSlot, rootItems, slotOf, art, items, itemsAll, freed, Tree, RootAt}
-use Rattle.model.specs.Frame.Lay.{leaf, prefix, node}
-use Rattle.model.specs.Frame.LayKids.{nil, kid}
+use Rattle.model.specs.Frame.{Lay, Root, bare, tree, rootArt, rootSlot, slotOf, art, Tree, RootAt}
 use Rattle.model.proofs.Well.{Well}
 use Rattle.model.proofs.GoodState.{TreeOk, GoodAt, GoodState}
-use Rattle.model.proofs.ItemLaws.{in-yes, sum-app}
 use Rattle.model.proofs.Edition1.{lawful1}
 use Rattle.model.proofs.CleanLaws.{lawful-before, root-now}
 use Rattle.model.proofs.StandsGood.{tree-well, stands-good, stands-heads}
