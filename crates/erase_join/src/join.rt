@@ -56,9 +56,5 @@ pub fn join(f: &mut [u8], key: &[u8], spot: Spot)
     let l = read(f, key, spot);
     let node = spot.node;
     let above = spot.above;
-    if above.slot == 0 {
-        lone::up(f, key, l, node.link);
-        return;
-    }
-    lone::over(f, key, l, above);
+    lone::join(f, key, l, above, node.link);
 }

@@ -1,7 +1,8 @@
 // The six joins, and which of them the child asks for.
 use crate::finish;
+use chain::run;
 use descent::spot::Body;
-use layout::entry::Entry;
+use fields::body::Prefix;
 use layout::kind::Kind;
 use room::heap;
 ghost use Rattle.model.specs.Frame.{IsNode};
@@ -32,42 +33,13 @@ fn leaf_up(f: &mut [u8], key: &[u8], l: Lone, link: usize)
     finish::drop_both(f, l.leaf, l.node, l.at);
 }
 
-// A Prefix does, with the byte in front.
-fn prefix_up(f: &mut [u8], key: &[u8], l: Lone, link: usize)
-    requires { ⌜ Bare (IsPrefix (l .place)) (now f) (now key) l link ⌝ }
+// A run of Prefixes does, with the byte in front; an inner node needs a Prefix.
+fn up(f: &mut [u8], key: &[u8], l: Lone, link: usize)
+    requires { ⌜ Bare NotLeaf (now f) (now key) l link ⌝ }
     ensures { λ _. ⌜ EraseStep (now (f .entry)) (now (key .entry)) (now (f .exit)) ⌝ }
 {
-    prefix_body::front(f, l.place, l.byte);
-    room::link::relink(f, link, l.child);
+    run::push(f, l.child, l.byte, link);
     finish::drop_both(f, l.leaf, l.node, l.at);
-}
-
-// An inner node needs a Prefix, which is taken before anything else is written.
-fn node_up(f: &mut [u8], key: &[u8], l: Lone, link: usize)
-    requires { ⌜ Bare IsNode (now f) (now key) l link ⌝ }
-    ensures { λ _. ⌜ EraseStep (now (f .entry)) (now (key .entry)) (now (f .exit)) ⌝ }
-{
-    let s = heap::take(f, Kind::PREFIX);
-    let e = Entry::read(f, s);
-    prefix_body::fresh(f, e.place, l.byte, l.child);
-    room::link::relink(f, link, s);
-    finish::drop_both(f, l.leaf, l.node, l.at);
-}
-
-// The child's kind chooses.
-pub fn up(f: &mut [u8], key: &[u8], l: Lone, link: usize)
-    requires { ⌜ Bare (Told l) (now f) (now key) l link ⌝ }
-    ensures { λ _. ⌜ EraseStep (now (f .entry)) (now (key .entry)) (now (f .exit)) ⌝ }
-{
-    if l.kind == Kind::LEAF {
-        leaf_up(f, key, l, link);
-        return;
-    }
-    if l.kind == Kind::PREFIX {
-        prefix_up(f, key, l, link);
-        return;
-    }
-    node_up(f, key, l, link);
 }
 
 // ---- the Prefix `above` stands just above the Node4
@@ -82,37 +54,38 @@ fn leaf_over(f: &mut [u8], key: &[u8], l: Lone, above: Body)
     finish::drop_both(f, l.leaf, l.node, l.at);
 }
 
-// A Prefix gives it the byte, its own bytes and its child, and is freed.
-fn prefix_over(f: &mut [u8], key: &[u8], l: Lone, above: Body)
-    requires { ⌜ Capped (IsPrefix (l .place)) (now f) (now key) l above ⌝ }
-    ensures { λ _. ⌜ EraseStep (now (f .entry)) (now (key .entry)) (now (f .exit)) ⌝ }
-{
-    prefix_body::onto(f, above.place, l.byte, l.place);
-    heap::release(f, l.child, Kind::PREFIX);
-    finish::drop_both(f, l.leaf, l.node, l.at);
-}
-
-// An inner node gives it the byte.
-fn node_over(f: &mut [u8], key: &[u8], l: Lone, above: Body)
-    requires { ⌜ Capped IsNode (now f) (now key) l above ⌝ }
+// It takes the byte and what it has room for of the run below.
+fn over(f: &mut [u8], key: &[u8], l: Lone, above: Body)
+    requires { ⌜ Capped NotLeaf (now f) (now key) l above ⌝ }
     ensures { λ _. ⌜ EraseStep (now (f .entry)) (now (key .entry)) (now (f .exit)) ⌝ }
 {
     prefix_body::back(f, above.place, l.byte, l.child);
+    run::fill(f, above.place, l.child);
     finish::drop_both(f, l.leaf, l.node, l.at);
 }
 
-// The child's kind chooses.
-pub fn over(f: &mut [u8], key: &[u8], l: Lone, above: Body)
-    requires { ⌜ Capped (Told l) (now f) (now key) l above ⌝ }
-    ensures { λ _. ⌜ EraseStep (now (f .entry)) (now (key .entry)) (now (f .exit)) ⌝ }
+// Whether the Prefix above has room for a byte.
+fn has_room(f: &[u8], above: Body) -> bool
+{
+    if above.slot == 0 {
+        return false;
+    }
+    Prefix::length(f, above.place) < Prefix::MOST
+}
+
+pub fn join(f: &mut [u8], key: &[u8], l: Lone, above: Body, link: usize)
 {
     if l.kind == Kind::LEAF {
+        if above.slot == 0 {
+            leaf_up(f, key, l, link);
+            return;
+        }
         leaf_over(f, key, l, above);
         return;
     }
-    if l.kind == Kind::PREFIX {
-        prefix_over(f, key, l, above);
+    if has_room(f, above) {
+        over(f, key, l, above);
         return;
     }
-    node_over(f, key, l, above);
+    up(f, key, l, link);
 }
