@@ -1,6 +1,6 @@
 // "A shared beginning longer than 112 bytes is a chain of Prefixes, each full but the last": a row of Prefix bodies is taken, freed, and
 // written as the chain of a string, the last piece first.
-pub mod run;
+pub mod shift;
 
 use fields::body::Prefix;
 use layout::entry::Entry;

@@ -1,6 +1,6 @@
 // The six joins, and which of them the child asks for.
 use crate::finish;
-use chain::run;
+use chain::shift;
 use descent::spot::Body;
 use fields::body::Prefix;
 use layout::kind::Kind;
@@ -38,7 +38,7 @@ fn up(f: &mut [u8], key: &[u8], l: Lone, link: usize)
     requires { ⌜ Bare NotLeaf (now f) (now key) l link ⌝ }
     ensures { λ _. ⌜ EraseStep (now (f .entry)) (now (key .entry)) (now (f .exit)) ⌝ }
 {
-    run::push(f, l.child, l.byte, link);
+    shift::push(f, l.child, l.byte, link);
     finish::drop_both(f, l.leaf, l.node, l.at);
 }
 
@@ -60,7 +60,7 @@ fn over(f: &mut [u8], key: &[u8], l: Lone, above: Body)
     ensures { λ _. ⌜ EraseStep (now (f .entry)) (now (key .entry)) (now (f .exit)) ⌝ }
 {
     prefix_body::back(f, above.place, l.byte, l.child);
-    run::fill(f, above.place, l.child);
+    shift::fill(f, above.place, l.child);
     finish::drop_both(f, l.leaf, l.node, l.at);
 }
 

@@ -4,7 +4,7 @@ use layout::entry::Entry;
 use layout::kind::Kind;
 use room::heap;
 use room::link;
-ghost use Rattle.chain.specs.Run.{Fills, RunFilled, Pushes, RunPushed};
+ghost use Rattle.chain.specs.Shift.{Fills, RunFilled, Pushes, RunPushed};
 
 // The Prefix at o is filled up from the run below, whose first slot it names. The last body of that is freed if it has no byte left.
 pub fn fill(f: &mut [u8], o: usize, slot: usize)
