@@ -28,8 +28,8 @@ use Rattle.between.proofs.WorkLaws.{entries-first, first-owns, forest-sum, work
 use Rattle.between.proofs.SinceLaws.{since-write, since-free}
 use Rattle.between.proofs.BookedLaws.{booked-free}
 use Rattle.prefix_body.specs.Prefix.{Two, Joins, Draws, Drawn}
-use Rattle.chain.specs.Row.{rowItems}
-use Rattle.chain.specs.Shift.{bodiesOf, bytesOf, tipOf, Filling, Filled, RunFilled, Fills}
+use Rattle.chain.specs.Row.{rowItems, bodiesOf, bytesOf}
+use Rattle.chain.specs.Shift.{Filling, Filled, RunFilled, Fills}
 use Rattle.chain.proofs.TakeLaws.{prefix-kind}
 use Rattle.chain.proofs.ReadLaws.{Pre, pre-of, tree-stood}
 use Rattle.chain.proofs.RunLaws.{Release, below-not-leaf, below-full, below-short, below-other, node-run, run-sum}

@@ -23,8 +23,7 @@ use Rattle.between.specs.Lead.{NotLeaf}
 use Rattle.between.proofs.TreeLaws.{sum-none, prefix-sum, prefix-parts}
 use Rattle.between.proofs.HoleLaws.{steps-under, as-under, root-step}
 use Rattle.between.proofs.WorkLaws.{entries-first, work-sum}
-use Rattle.chain.specs.Row.{rowItems, runMany}
-use Rattle.chain.specs.Shift.{bodiesOf, bytesOf, tipOf}
+use Rattle.chain.specs.Row.{rowItems, runMany, bodiesOf, bytesOf, tipOf}
 
 -- what `release` says
 abbrev pub Release : List ℕ → List ℕ → ℕ → ℕ → Type 0

@@ -9,7 +9,7 @@ use Rattle.model.specs.Tree.{chain, prefixes}
 use Rattle.model.specs.Item.{Item, body, cover, sum}
 use Rattle.model.specs.Body.{PrefixAt}
 use Rattle.model.specs.Frame.{Lay, slotOf, Below, View}
-use Rattle.model.specs.Frame.Lay.{leaf, prefix, node}
+use Rattle.model.specs.Frame.Lay.{prefix}
 use Rattle.room.specs.View.{Roomy, rooted}
 use Rattle.room.specs.Step.{Kept}
 use Rattle.room.specs.Book.{takenAll}
@@ -18,23 +18,7 @@ use Rattle.between.specs.Work.{Suits, rootOf, Work}
 use Rattle.between.specs.Lead.{NotLeaf}
 use Rattle.between.specs.Since.{Since, holderItems}
 use Rattle.between.specs.Edit.{Booked}
-use Rattle.chain.specs.Row.{rowItems}
-
--- its bodies, slots and places from the top on; its bytes; and what stands below it
-abbrev pub bodiesOf : Lay → List (ℕ × ℕ)
-bodiesOf (leaf s o e k v) = []
-bodiesOf (prefix s o p l) = (s, o) ∷ bodiesOf l
-bodiesOf (node s o kind ks) = []
-
-abbrev pub bytesOf : Lay → List ℕ
-bytesOf (leaf s o e k v) = []
-bytesOf (prefix s o p l) = p ++ bytesOf l
-bytesOf (node s o kind ks) = []
-
-abbrev pub tipOf : Lay → Lay
-tipOf (leaf s o e k v) = leaf s o e k v
-tipOf (prefix s o p l) = tipOf l
-tipOf (node s o kind ks) = node s o kind ks
+use Rattle.chain.specs.Row.{rowItems, bodiesOf, bytesOf, tipOf}
 
 -- ---- a Prefix above is filled up
 
