@@ -4,3 +4,4 @@ pub mod FreeLaws
 pub mod ReadLaws
 pub mod RunLaws
 pub mod FillLaws
+pub mod PushLaws

@@ -65,16 +65,14 @@ fn over(f: &mut [u8], key: &[u8], l: Lone, above: Body)
 }
 
 // Whether the Prefix above has room for a byte.
-fn has_room(f: &[u8], above: Body) -> bool
-{
+fn has_room(f: &[u8], above: Body) -> bool {
     if above.slot == 0 {
         return false;
     }
     Prefix::length(f, above.place) < Prefix::MOST
 }
 
-pub fn join(f: &mut [u8], key: &[u8], l: Lone, above: Body, link: usize)
-{
+pub fn join(f: &mut [u8], key: &[u8], l: Lone, above: Body, link: usize) {
     if l.kind == Kind::LEAF {
         if above.slot == 0 {
             leaf_up(f, key, l, link);

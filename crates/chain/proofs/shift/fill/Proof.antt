@@ -137,8 +137,7 @@ loop-again c =
     let v = c .before .before .before .before .before .before .before .before .before .before .before .before .before .before .before .before .loop .inv in
     let e = c .before .before .before .before .before .before .before .before .before .before .before .before .before .before .read .ensures in
     let n = c .before .before .before .before .before .before .before .before .before .before .length .ensures .0 in
-    let m = c .before .before .before .before .before .before .before .length2 .ensures .0 in
-    (
+    let m = c .before .before .before .before .before .before .before .length2 .ensures .0 in (
       search needs,
       fills-again (v .1) (omega (arith, e .0)) (e .1) n m (omega arith) (c .before .before .before .before .draw .ensures) (c .child .ensures .0) refl,
       λ g X. v .2 g (fill-draw (omega (arith, e .0)) (e .1) n m (omega arith) (c .before .before .before .before .draw .ensures) (c .child .ensures .0) g X),
