@@ -1,5 +1,5 @@
 -- A Prefix is filled up from the run below it, body by body. Assumes nothing.
-use Prim.Native.Nat.{ℕ, _+_, _-_, _<_, _≤_}
+use Prim.Native.Nat.{ℕ, suc, _+_, _-_, _<_, _≤_}
 use mathlib.Core.Path.{_≡_, refl, sym, ap, subst, _∙_}
 use mathlib.Core.List.{List, [], _∷_, _++_, append-assoc, append-nil}
 use native.Mathlib.Omega.{arith}
@@ -10,10 +10,11 @@ use Rattle.layout.specs.Place.{entryAt, prefixLength, prefixChild}
 use Rattle.layout.specs.Kind.{Prefix}
 use Rattle.layout.specs.Entry.{placeOf, highOf}
 use Rattle.model.specs.Edition.{Edition}
+use Rattle.model.specs.Tree.{chain, asPrefix}
 use Rattle.model.specs.Item.{Item, body, cover, touch, sum}
 use Rattle.model.specs.Body.{PrefixAt}
-use Rattle.model.specs.Frame.{Lay, slotOf, IsNode, Below, items, View, freed}
-use Rattle.model.specs.Frame.Lay.{leaf, prefix, node}
+use Rattle.model.specs.Frame.{Lay, slotOf, IsNode, Below, art, Tree, View, freed}
+use Rattle.model.specs.Frame.Lay.{prefix}
 use Rattle.model.proofs.ItemLaws.{sum-cons, sum-app}
 use Rattle.model.proofs.OneBody.{node-below}
 use Rattle.moves.specs.Moved.{Only}
@@ -24,15 +25,15 @@ use Rattle.between.specs.Hole.{Step, stepsItems}
 use Rattle.between.specs.Work.{forestItems, Work}
 use Rattle.between.proofs.BodyLaws.{prefix-keeps}
 use Rattle.between.proofs.TreeLaws.{sum-none, body-kept}
-use Rattle.between.proofs.WorkLaws.{entries-first, first-owns, forest-sum, work-sum, work-turn, work-path, work-free, work-write, any-write, open-prefix, make-prefix}
+use Rattle.between.proofs.WorkLaws.{entries-first, first-owns, forest-first, forest-sum, work-sum, work-turn, work-path, work-free, work-write, any-write, open-prefix, make-prefix}
 use Rattle.between.proofs.SinceLaws.{since-write, since-free}
 use Rattle.between.proofs.BookedLaws.{booked-free}
 use Rattle.prefix_body.specs.Prefix.{Two, Joins, Draws, Drawn}
-use Rattle.chain.specs.Row.{rowItems, bodiesOf, bytesOf}
+use Rattle.chain.specs.Row.{rowItems, bodiesOf, bytesOf, tipOf}
 use Rattle.chain.specs.Shift.{Filling, Filled, RunFilled, Fills}
 use Rattle.chain.proofs.TakeLaws.{prefix-kind}
-use Rattle.chain.proofs.ReadLaws.{Pre, pre-of, tree-stood}
-use Rattle.chain.proofs.RunLaws.{Release, below-not-leaf, below-full, below-short, below-other, node-run, run-sum}
+use Rattle.chain.proofs.ReadLaws.{pre-of, tree-stood}
+use Rattle.chain.proofs.RunLaws.{Release, below-not-leaf, below-full, below-short, below-other, node-run, run-sum, run-not-leaf, run-art, run-chained}
 
 -- what `onto` says
 abbrev pub Onto : List ℕ → List ℕ → ℕ → ℕ → Type 0
@@ -299,3 +300,18 @@ module _ {f : List ℕ} {o slot : ℕ} where
               slotIs = sym (A .at .child) ∙ sym ec;
               few = omega (arith, Z .few, ap (λ y. length (bodiesOf y)) (O .is));
             }
+
+-- ---- what users ask of it
+
+module _ {E : Edition} {f g : List ℕ} {h : View} {xs : List Step} {s : ℕ} {path p : List ℕ} {t : Lay} {ts : List (List ℕ × Lay)} {loose : List Item} {n o : ℕ} (X : Filled E f g h xs s path p t ts loose n o) where
+  stands : Tree E g path (X .lay)
+  stands = forest-first E g path (X .lay) ts (X .work .trees) .0
+
+  pub filled-art : 1 ≤ length p → art (X .lay) ≡ asPrefix (p ++ bytesOf t) (art (tipOf t))
+  filled-art l =
+      run-art E g path (X .lay) stands (run-not-leaf (X .lay) (omega (arith, ap length (X .bytes), length-append p (bytesOf t)))) .0
+      ∙ ap (λ q. asPrefix q (art (tipOf (X .lay)))) (X .bytes) ∙ ap (λ (u : Lay). asPrefix (p ++ bytesOf t) (art u)) (X .tip)
+
+  -- one body more than below, but for those that were freed
+  pub filled-many : chain (length (p ++ bytesOf t)) + length (X .gone) ≡ suc (length (bodiesOf t))
+  filled-many = omega (arith, ap length (X .bodies), length-append (bodiesOf (X .lay)) (X .gone), run-chained E g path (X .lay) stands, ap (λ q. chain (length q)) (X .bytes))

@@ -11,10 +11,10 @@ use Rattle.layout.specs.Place.{entryAt, prefixLength, prefixChild}
 use Rattle.layout.specs.Kind.{Prefix}
 use Rattle.layout.specs.Entry.{placeOf, highOf}
 use Rattle.model.specs.Edition.{Edition}
-use Rattle.model.specs.Tree.{chain, prefixes}
+use Rattle.model.specs.Tree.{Art, chain, prefixes, asPrefix}
 use Rattle.model.specs.Item.{Item, body, cover, sum}
 use Rattle.model.specs.Body.{PrefixAt}
-use Rattle.model.specs.Frame.{Lay, slotOf, IsNode, Below, View, Heap}
+use Rattle.model.specs.Frame.{Lay, slotOf, IsNode, Below, art, View, Heap}
 use Rattle.model.specs.Frame.Lay.{leaf, prefix, node}
 use Rattle.model.proofs.ItemLaws.{sum-cons, sum-app}
 use Rattle.model.proofs.OneBody.{node-below}
@@ -29,8 +29,8 @@ use Rattle.between.specs.Work.{blank, Suits, rootOf, forestItems, Work}
 use Rattle.between.specs.Lead.{NotLeaf}
 use Rattle.between.specs.Since.{Since, holderItems}
 use Rattle.between.proofs.TreeLaws.{sum-none}
-use Rattle.between.proofs.HoleLaws.{path-under, plug-under, steps-under, as-under, root-step}
-use Rattle.between.proofs.WorkLaws.{entries-first, work-sum, work-take, work-path, work-write, work-close, open-prefix, make-prefix}
+use Rattle.between.proofs.HoleLaws.{path-under, plug-under, steps-under, as-under, hole-out, root-step}
+use Rattle.between.proofs.WorkLaws.{entries-first, forest-first, work-sum, work-take, work-path, work-write, work-close, open-prefix, make-prefix}
 use Rattle.between.proofs.LinkLaws.{relinked, link-room}
 use Rattle.between.proofs.SinceLaws.{since-take, since-write, since-link}
 use Rattle.prefix_body.specs.Prefix.{Spare, Full}
@@ -38,7 +38,7 @@ use Rattle.chain.specs.Row.{rowItems, runMany, bodiesOf, bytesOf, tipOf}
 use Rattle.chain.specs.Shift.{lacks, Pushing, Pushed, RunPushed, Pushes}
 use Rattle.chain.proofs.TakeLaws.{prefix-kind}
 use Rattle.chain.proofs.ReadLaws.{Stood, tree-stood}
-use Rattle.chain.proofs.RunLaws.{below-not-leaf, below-short, below-other, node-run}
+use Rattle.chain.proofs.RunLaws.{below-not-leaf, below-short, node-run, run-not-leaf, run-art}
 use Rattle.chain.proofs.FillLaws.{Opens, opens-of}
 
 -- what `take`, `fresh`, `front` and `turn` say
@@ -398,3 +398,12 @@ module _ {f : List ℕ} {slot b at : ℕ} where
               slotIs = sym (T .1 .child) ∙ sym ec;
               few = omega (arith, Z .few, ap (λ y. length (bodiesOf y)) (O .is));
             }
+
+-- ---- what users ask of it
+
+module _ {E : Edition} {f g : List ℕ} {h : View} {xs : List Step} {t : Lay} {ts : List (List ℕ × Lay)} {loose : List Item} {b : ℕ} (X : Pushed E f g h xs t ts loose b) where
+  pub pushed-art : art (X .lay) ≡ Art.prefix (b ∷ bytesOf t) (art (tipOf t))
+  pushed-art =
+      let T = hole-out E g xs (X .lay) (forest-first E g [] (plug xs (X .lay)) ts (X .work .trees) .0) .2 in
+      run-art E g (pathOf xs) (X .lay) T (run-not-leaf (X .lay) (omega (arith, ap length (X .bytes)))) .0
+      ∙ ap (λ q. asPrefix q (art (tipOf (X .lay)))) (X .bytes) ∙ ap (λ (u : Lay). asPrefix (b ∷ bytesOf t) (art u)) (X .tip)

@@ -7,22 +7,17 @@ use lib.ListN.{length, getD, length-append}
 use Rattle.layout.specs.Kind.{Prefix}
 use Rattle.layout.specs.Entry.{placeOf}
 use Rattle.model.specs.Edition.{Edition}
-use Rattle.model.specs.Tree.{Art, chain, asPrefix}
-use Rattle.model.specs.Item.{Item, body, touch, sum, Same}
-use Rattle.model.specs.Body.{PrefixAt}
-use Rattle.model.specs.Frame.{Lay, slotOf, IsNode, Below, atop, art, items, Tree, View, Heap}
+use Rattle.model.specs.Tree.{chain, asPrefix}
+use Rattle.model.specs.Item.{Item, body, sum, Same}
+use Rattle.model.specs.Frame.{Lay, IsNode, Below, atop, art, items, Tree, View, Heap}
 use Rattle.model.specs.Frame.Lay.{leaf, prefix, node}
 use Rattle.model.proofs.StringLaws.{clash}
-use Rattle.model.proofs.ItemLaws.{sum-cons, sum-app}
+use Rattle.model.proofs.ItemLaws.{sum-cons}
 use Rattle.model.proofs.ChainLaws.{as-some, atop-as}
 use Rattle.model.proofs.OneBody.{node-inner}
-use Rattle.room.specs.Step.{Kept, Freed}
-use Rattle.between.specs.Hole.{Step, under, stepsItems}
-use Rattle.between.specs.Work.{blank, Suits, forestItems, Work}
+use Rattle.room.specs.Step.{Freed}
 use Rattle.between.specs.Lead.{NotLeaf}
 use Rattle.between.proofs.TreeLaws.{sum-none, prefix-sum, prefix-parts}
-use Rattle.between.proofs.HoleLaws.{steps-under, as-under, root-step}
-use Rattle.between.proofs.WorkLaws.{entries-first, work-sum}
 use Rattle.chain.specs.Row.{rowItems, runMany, bodiesOf, bytesOf, tipOf}
 
 -- what `release` says
@@ -82,6 +77,11 @@ run-one n o (node s o' kind ks) b = clash (cc)
 run-one n o (prefix s o' p (prefix s' o'' p' t)) b = absurd (omega (arith, ap length b))
 run-one n o (prefix s o' p (leaf s' o'' e k v)) b = one-body n o s o' p (leaf s' o'' e k v) b
 run-one n o (prefix s o' p (node s' o'' kind ks)) b = one-body n o s o' p (node s' o'' kind ks) b
+
+pub run-not-leaf : (t : Lay) → 1 ≤ length (bytesOf t) → NotLeaf t
+run-not-leaf (leaf s o e k v) l = absurd (omega arith)
+run-not-leaf (prefix s o p t) l = tt
+run-not-leaf (node s o kind ks) l = tt
 
 -- ---- the run of a tree that stands
 
