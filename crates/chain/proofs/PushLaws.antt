@@ -57,10 +57,10 @@ Turn f g o b r = Only f g o (o + 128) × ((p : List ℕ) (c : ℕ) → PrefixAt 
 -- ---- numbers and strings
 
 -- at a run of n bytes that ends a body, and at a longer one
-lacks-node : (t : Lay) → IsNode t → lacks t ≡ 1
+pub lacks-node : (t : Lay) → IsNode t → lacks t ≡ 1
 lacks-node t i = ap (λ p. chain (suc (length p)) - chain (length p)) (node-run t i .1)
 
-lacks-short : (n o : ℕ) (p : List ℕ) (t : Lay) → IsNode t → 1 ≤ length p → length p < 112 → lacks (prefix n o p t) ≡ 0
+pub lacks-short : (n o : ℕ) (p : List ℕ) (t : Lay) → IsNode t → 1 ≤ length p → length p < 112 → lacks (prefix n o p t) ≡ 0
 lacks-short n o p t i h g =
     let e : length (bytesOf t) ≡ 0 = ap length (node-run t i .1) in
     let l : length (p ++ bytesOf t) ≡ length p = omega (arith, length-append p (bytesOf t)) in

@@ -64,6 +64,11 @@ run-sum w (leaf s o e k v) = omega (arith, sum-none w)
 run-sum w (prefix s o p t) = omega (arith, prefix-sum w s o p t, run-sum w t, sum-cons w (body s Prefix o) (rowItems (bodiesOf t) []))
 run-sum w (node s o kind ks) = omega (arith, sum-none w)
 
+-- two rows as one
+pub row-app : (w : Item → ℕ) (xs ys : List (ℕ × ℕ)) → sum w (rowItems (xs ++ ys) []) ≡ sum w (rowItems xs []) + sum w (rowItems ys [])
+row-app w [] ys = omega (arith, sum-none w)
+row-app w (x ∷ xs) ys = omega (arith, row-app w xs ys, sum-cons w (body (x .0) Prefix (x .1)) (rowItems (xs ++ ys) []), sum-cons w (body (x .0) Prefix (x .1)) (rowItems xs []))
+
 -- a run of one body
 one-body : (n o s o' : ℕ) (p : List ℕ) (t : Lay) → _≡_ {A = List (ℕ × ℕ)} ((s, o') ∷ []) ((n, o) ∷ []) → prefix s o' p t ≡ prefix n o (p ++ []) t
 one-body n o s o' p t b =
