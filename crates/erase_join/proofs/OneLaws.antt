@@ -1,12 +1,11 @@
 -- In edition 1 a run is one Prefix. What the joins count on of that stands here: no other Prefix stands above the one above the Node4, that has room,
 -- and the run that is left is one Prefix again. Assumes nothing.
-use Prim.Native.Nat.{ℕ, suc, _+_, _<_, _≤_}
+use Prim.Native.Nat.{ℕ, _+_, _<_, _≤_}
 use mathlib.Core.Path.{_≡_, refl, sym, ap, _∙_}
 use mathlib.Core.List.{List, [], _∷_, _++_, append-nil}
 use native.Mathlib.Omega.{arith}
 use lib.ListN.{length, getD, drop, length-append}
 use Rattle.model.specs.Edition.{Edition, edition1}
-use Rattle.model.specs.Tree.{chain}
 use Rattle.model.specs.State.{State}
 use Rattle.model.specs.Item.{Item}
 use Rattle.model.specs.Frame.{Lay, IsNode, View, Stands}
@@ -114,8 +113,7 @@ module _ {E : Edition} {f g : List ℕ} {h : View} {xs : List Step} {s : ℕ} {p
   pub left-back : (u : Lay) → IsNode u → length p ≤ 112 → (X : Filled E f g h xs s path p u ts loose n o) → (X .gone ≡ []) × (X .lay ≡ prefix n o p u)
   left-back u i l X =
       let N = node-run u i in
-      let m : chain (length p) + length (X .gone) ≡ 1 = ap (λ q. chain (length q) + length (X .gone)) (sym (append-nil p) ∙ ap (λ q. p ++ q) (sym (N .1))) ∙ filled-many X ∙ ap (λ (z : List (ℕ × ℕ)). suc (length z)) (N .0) in
-      let e = no-more (X .gone) (omega arith) in (
+      let e = no-more (X .gone) (omega (arith, filled-many X, length-append p (bytesOf u), ap length (N .0), ap length (N .1))) in (
         e,
         is-one (X .lay) (sym (append-nil (bodiesOf (X .lay))) ∙ ap (λ (z : List (ℕ × ℕ)). bodiesOf (X .lay) ++ z) (sym e) ∙ sym (X .bodies) ∙ ap (λ (z : List (ℕ × ℕ)). (n, o) ∷ z) (N .0))
             (X .bytes ∙ ap (λ q. p ++ q) (N .1) ∙ append-nil p) (X .tip ∙ N .2),
@@ -126,9 +124,8 @@ module _ {E : Edition} {f g : List ℕ} {h : View} {xs : List Step} {s : ℕ} {p
   left-onto m q r t i l X =
       let N = node-run t i in
       let lr : length (p ++ (r ++ bytesOf t)) ≡ length p + length r = omega (arith, length-append p (r ++ bytesOf t), length-append r (bytesOf t), ap length (N .1)) in
-      let c : chain (length p + length r) + length (X .gone) ≡ 2 = ap (λ z. chain z + length (X .gone)) (sym lr) ∙ filled-many X ∙ ap (λ (z : List (ℕ × ℕ)). suc (suc (length z))) (N .0) in
       let two : _≡_ {A = List (ℕ × ℕ)} ((n, o) ∷ (m, q) ∷ []) (bodiesOf (X .lay) ++ X .gone) = ap (λ (z : List (ℕ × ℕ)). (n, o) ∷ (m, q) ∷ z) (sym (N .0)) ∙ X .bodies in
-      let D = parted (n, o) (m, q) (bodiesOf (X .lay)) (X .gone) (omega arith) two in (
+      let D = parted (n, o) (m, q) (bodiesOf (X .lay)) (X .gone) (omega (arith, filled-many X, lr, ap length (N .0))) two in (
         D .1,
         is-one (X .lay) (D .0) (X .bytes ∙ ap (λ z. p ++ (r ++ z)) (N .1) ∙ ap (λ z. p ++ z) (append-nil r)) (X .tip ∙ N .2),
       )
