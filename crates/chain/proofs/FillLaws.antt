@@ -20,12 +20,12 @@ use Rattle.model.proofs.OneBody.{node-below}
 use Rattle.moves.specs.Moved.{Only}
 use Rattle.room.specs.View.{released}
 use Rattle.room.specs.Step.{Kept, Frees}
-use Rattle.room.proofs.HeapLaws.{cover-body, kept-part, two-apart}
+use Rattle.room.proofs.HeapLaws.{any-write, kept-then, cover-body, kept-part, two-apart}
 use Rattle.between.specs.Hole.{Step, stepsItems}
 use Rattle.between.specs.Work.{forestItems, Work}
 use Rattle.between.proofs.BodyLaws.{prefix-keeps}
 use Rattle.between.proofs.TreeLaws.{sum-none, body-kept}
-use Rattle.between.proofs.WorkLaws.{entries-first, first-owns, forest-first, forest-sum, work-sum, work-turn, work-path, work-free, work-write, any-write, open-prefix, make-prefix}
+use Rattle.between.proofs.WorkLaws.{entries-first, first-owns, forest-first, forest-sum, work-sum, work-turn, work-path, work-free, work-write, open-prefix, make-prefix}
 use Rattle.between.proofs.SinceLaws.{since-write, since-free}
 use Rattle.between.proofs.BookedLaws.{booked-free}
 use Rattle.prefix_body.specs.Prefix.{Two, Joins, Draws, Drawn}
@@ -40,9 +40,6 @@ abbrev pub Onto : List ℕ → List ℕ → ℕ → ℕ → Type 0
 Onto f g o low = Only f g o (o + 128) × ((p : List ℕ) (c : ℕ) (q : List ℕ) (d : ℕ) → PrefixAt f o p c → PrefixAt f low q d → PrefixAt g o (p ++ q) d)
 
 -- ---- what is kept
-
-kept-then : {f g h : List ℕ} {is : List Item} → Kept f g is → Kept g h is → Kept f h is
-kept-then A B = record { size = B .size ∙ A .size; keep = λ a l. B .keep a l ∙ A .keep a l }
 
 wrote-kept : {E : Edition} {f g : List ℕ} {h : View} {xs : List Step} {s : ℕ} {ts : List (List ℕ × Lay)} {loose : List Item} {n o : ℕ} → Work E f h xs s ts (body n Prefix o ∷ loose) → Only f g o (o + 128)
     → (js : List Item) → ((w : Item → ℕ) → w (body n Prefix o) + sum w js ≤ sum w (h .owned)) → Kept f g js
@@ -136,14 +133,17 @@ module _ {E : Edition} {f : List ℕ} {h : View} {xs : List Step} {s : ℕ} {pat
       abbrev rest : List Item
       rest = loose ++ (stepsItems xs ++ forestItems ((path, prefix n o (p ++ q) t) ∷ ts))
 
+      placed : placeOf f1 m ≡ low
+      placed = entries-first f1 m Prefix low loose (joined .entries) .0 .placeIs
+
       joined-frees : Frees f1 m Prefix
-      joined-frees = record { view = h; heap = joined .heap; kind = prefix-kind; place = low; rest = rest; owns = first-owns joined }
+      joined-frees = record { view = h; heap = joined .heap; kind = prefix-kind; place = low; rest = rest; owns = first-owns joined; placeIs = placed }
 
       filled-onto : {g : List ℕ} → Release f1 g m Prefix → Filled E f g h xs s path p (prefix m low q t) ts loose n o
       filled-onto R =
           let I = node-run t is-node in
           let b = body m Prefix low in
-          let G = R h low rest (joined .heap) (first-owns joined) (entries-first f1 m Prefix low loose (joined .entries) .0 .placeIs) in
+          let G = R h low rest (joined .heap) (first-owns joined) placed in
           record {
             view = released h m Prefix low rest;
             lay = prefix n o (p ++ q) t;
