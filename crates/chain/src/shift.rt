@@ -13,6 +13,7 @@ pub fn fill(f: &mut [u8], o: usize, slot: usize)
 {
     let mut at = o;
     let mut s = slot;
+    // a run has no more bodies than this
     let mut left = crate::MOST;
     loop {
         let e = Entry::read(f, s);
@@ -44,6 +45,7 @@ pub fn push(f: &mut [u8], slot: usize, b: u8, at: usize)
     let mut s = slot;
     let mut byte = b;
     let mut name = at;
+    // a run has no more bodies than this
     let mut left = crate::MOST;
     loop {
         let e = Entry::read(f, s);
