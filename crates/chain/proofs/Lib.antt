@@ -2,3 +2,6 @@ pub mod RowLaws
 pub mod TakeLaws
 pub mod FreeLaws
 pub mod ReadLaws
+pub mod RunLaws
+pub mod FillLaws
+pub mod PushLaws

@@ -84,13 +84,13 @@ module _ {E : Edition} {f : List ℕ} {h : View} {xs : List Step} {s : ℕ} wher
 
 -- ---- the loop
 
-record Pre (t : Lay) : Type 0 where
-  o : ℕ
-  u : List ℕ
-  l : Lay
-  is : t ≡ prefix (slotOf t) o u l
+pub record Pre (t : Lay) : Type 0 where
+  pub o : ℕ
+  pub u : List ℕ
+  pub l : Lay
+  pub is : t ≡ prefix (slotOf t) o u l
 
-pre-of : (t : Lay) → 1 ≤ runMany t → Pre t
+pub pre-of : (t : Lay) → 1 ≤ runMany t → Pre t
 pre-of (leaf n o e k v) g = absurd (omega arith)
 pre-of (prefix n o u l) g = record { o = o; u = u; l = l; is = refl }
 pre-of (node n o kind ks) g = absurd (omega arith)

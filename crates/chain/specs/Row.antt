@@ -166,6 +166,22 @@ runMany (leaf s o e k v) = 0
 runMany (prefix s o p l) = runMany l + 1
 runMany (node s o kind ks) = 0
 
+-- the run of Prefixes on top of a tree: its bodies, slots and places from the top on; its bytes; and what stands below it
+abbrev pub bodiesOf : Lay → List (ℕ × ℕ)
+bodiesOf (leaf s o e k v) = []
+bodiesOf (prefix s o p l) = (s, o) ∷ bodiesOf l
+bodiesOf (node s o kind ks) = []
+
+abbrev pub bytesOf : Lay → List ℕ
+bytesOf (leaf s o e k v) = []
+bytesOf (prefix s o p l) = p ++ bytesOf l
+bytesOf (node s o kind ks) = []
+
+abbrev pub tipOf : Lay → Lay
+tipOf (leaf s o e k v) = leaf s o e k v
+tipOf (prefix s o p l) = tipOf l
+tipOf (node s o kind ks) = node s o kind ks
+
 -- a shared beginning above a tree, or nothing
 abbrev pub over : List ℕ → Art → Art
 over [] a = a

@@ -1,14 +1,12 @@
 -- The Node4 and the Leaf with its extent are given back. Assumes nothing.
 use Prim.Native.Nat.{ℕ, _≤_}
-use mathlib.Core.Path.{_≡_}
 use mathlib.Core.List.{List, [], _∷_, _++_}
 use native.Mathlib.Omega.{arith}
 use Rattle.layout.specs.Kind.{Kind, Node4}
-use Rattle.layout.specs.Entry.{placeOf}
 use Rattle.model.specs.Edition.{edition1}
 use Rattle.model.specs.Tree.{extentOf}
-use Rattle.model.specs.Item.{Item, body, Same}
-use Rattle.model.specs.Frame.{Lay, View, Heap}
+use Rattle.model.specs.Item.{Item, body}
+use Rattle.model.specs.Frame.{Lay, View}
 use Rattle.model.specs.Frame.Lay.{leaf}
 use Rattle.room.specs.View.{released}
 use Rattle.room.specs.Step.{Frees, Freed}
@@ -17,6 +15,7 @@ use Rattle.between.specs.Work.{forestItems, Work}
 use Rattle.between.proofs.WorkLaws.{entries-first, work-free, work-swap, first-owns}
 use Rattle.between.proofs.SinceLaws.{since-free}
 use Rattle.between.proofs.BookedLaws.{booked-free}
+use Rattle.chain.proofs.RunLaws.{Release}
 use Rattle.erase_remove.specs.Leaf as one
 use Rattle.erase_join.specs.Drop.{Over, Dropped}
 
@@ -25,10 +24,7 @@ kind-four = (omega arith, omega arith, λ z. omega arith)
 
 -- ---- the first loose body is freed
 
--- what `release` and `drop_leaf` say
-abbrev pub Release : List ℕ → List ℕ → ℕ → ℕ → Type 0
-Release f g s k = (h : View) (o : ℕ) (rest : List Item) → Heap f h → Same (h .owned) (body s k o ∷ rest) → placeOf f s ≡ o → Freed f g h s k o rest
-
+-- what `drop_leaf` says
 abbrev pub DropLeaf : List ℕ → List ℕ → ℕ → ℕ → Type 0
 DropLeaf f g n o = (h : View) (xs : List Step) (s : ℕ) (path : List ℕ) (e : ℕ) (k v : List ℕ) (ts : List (List ℕ × Lay)) (loose : List Item)
     → Work edition1 f h xs s ((path, leaf n o e k v) ∷ ts) loose → one.Dropped f g h xs s ts loose n o e k v

@@ -1,5 +1,7 @@
 pub mod DropLaws
 pub mod SiteLaws
+pub mod JoinLaws
+pub mod OneLaws
 pub mod UpLaws
 pub mod OverLaws
 pub mod PairLaws

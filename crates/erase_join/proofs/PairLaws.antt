@@ -10,12 +10,11 @@ use lib.ListN.{length}
 use borrow.Author.Tests.{eq-eqb, ne-eqb}
 use Rattle.layout.specs.Place.{entryAt}
 use Rattle.layout.specs.Kind.{Leaf, Prefix, Node4}
-use Rattle.layout.specs.Entry.{placeOf, highOf}
+use Rattle.layout.specs.Entry.{highOf}
 use Rattle.model.specs.Edition.{edition1}
 use Rattle.model.specs.State.{State, room, eraseChange}
-use Rattle.model.specs.Item.{Item, body}
-use Rattle.model.specs.Body.{InnerAt, byteIn, childIn, lookKid}
-use Rattle.model.specs.Frame.{Lay, LayKids, slotOf, art, pairs, tree, Tree, View}
+use Rattle.model.specs.Body.{PrefixAt, InnerAt, byteIn, childIn, lookKid}
+use Rattle.model.specs.Frame.{Lay, LayKids, slotOf, art, pairs, tree, Tree}
 use Rattle.model.specs.Frame.Lay.{leaf, prefix, node}
 use Rattle.model.specs.Frame.LayKids.{nil, kid}
 use Rattle.model.proofs.StringLaws.{clash}
@@ -23,18 +22,19 @@ use Rattle.node.specs.Kids.{removeKid, Reached}
 use Rattle.node.proofs.KidsLaws.{reached-start, reached-next}
 use Rattle.inner.specs.Inner.{Visit}
 use Rattle.inner.proofs.InnerLaws.{inner-one, inner-asc, inner-count}
-use Rattle.room.proofs.HeapLaws.{lies}
 use Rattle.between.specs.Hole.{Step, plug, pathOf}
-use Rattle.between.specs.Work.{Work}
 use Rattle.between.proofs.TreeLaws.{leaf-parts, prefix-parts, node-parts}
 use Rattle.between.proofs.KidsLaws.{app-look, app-remove}
-use Rattle.between.proofs.WorkLaws.{first-owns, forest-first, open-leaf, open-prefix, open-node}
-use Rattle.descent.specs.declared.spot.Body.{Body}
+use Rattle.between.proofs.WorkLaws.{forest-first}
 use Rattle.descent.specs.declared.spot.Spot.{Spot}
 use Rattle.erase_remove.proofs.SpotLaws.{held, path, kids, left, gone, N0, left-none, count-is}
 use Rattle.erase_join.specs.declared.lone.Lone.{Lone}
 use Rattle.erase_join.specs.Erase.{Pair}
-use Rattle.erase_join.specs.Lone.{Told, Site, Ready, Bare, Capped, Couple, AtSpot}
+use Rattle.between.specs.Lead.{NotLeaf}
+use Rattle.erase_join.specs.Lone.{IsLeaf, Told, Site, Ready, Bare, Capped, Roomy, Couple, AtSpot, Above, HasRoom}
+use Rattle.erase_join.proofs.OneLaws.{has-room}
+use Rattle.erase_join.proofs.UpLaws.{child-stood}
+use Rattle.erase_join.proofs.OverLaws.{opened-above}
 use Rattle.erase_join.proofs.SiteLaws.{beside, site-open}
 
 -- ---- the other of two children
@@ -94,34 +94,18 @@ module _ {f : List ℕ} {o b : ℕ} (C : Couple f o b) where
 
 -- ---- the entry of a child
 
-loose-entry : {f : List ℕ} {h : View} {xs : List Step} {s : ℕ} {ts : List (List ℕ × Lay)} {loose : List Item} (n k o : ℕ) → Work edition1 f h xs s ts (body n k o ∷ loose) → 1 ≤ k → k ≤ 8 → (1 ≤ n) × (entryAt n + 4 ≤ length f)
-loose-entry n k o W k1 k8 =
-    let L = lies n k o _ (W .heap) (first-owns W) k1 k8 in
-    let b = W .heap .header .bumpIn in
-    (L .low, omega (arith, L .table, W .heap .header .size))
-
-tree-entry : {f : List ℕ} {h : View} {xs : List Step} {s : ℕ} {ts : List (List ℕ × Lay)} {loose : List Item} (path : List ℕ) (u : Lay) → Work edition1 f h xs s ((path, u) ∷ ts) loose → (1 ≤ slotOf u) × (entryAt (slotOf u) + 4 ≤ length f)
-tree-entry {ts = ts} {loose} path (leaf n o e k v) W = loose-entry n Leaf o (open-leaf path ts loose n o e k v W .0) (omega arith) (omega arith)
-tree-entry {ts = ts} {loose} path (prefix n o p t) W = loose-entry n Prefix o (open-prefix path ts loose n o p t W .0) (omega arith) (omega arith)
-tree-entry {ts = ts} {loose} path (node n o kind ks) W =
-    let O = open-node path ts loose n o kind ks W in
-    let r = O .1 .inner .range in
-    loose-entry n kind o (O .0) (omega arith) (omega arith)
-
-told : (f path : List ℕ) (u : Lay) (l : Lone) → Tree edition1 f path u → slotOf u ≡ l .child → l .kind ≡ highOf f (l .child) → l .place ≡ placeOf f (l .child) → Told l u
-told f path (leaf n o e k v) l T es ek eo =
-    let E = leaf-parts edition1 f path n o e k v T .0 in
-    let q : l .kind ≡ Leaf = ek ∙ ap (highOf f) (sym es) ∙ E .kindIs in
-    record { asLeaf = λ z. tt; asPrefix = λ z. absurd (omega arith); asNode = λ x y. absurd (x q) }
-told f path (prefix n o p t) l T es ek eo =
-    let E = prefix-parts edition1 f path n o p t T .0 in
-    let q : l .kind ≡ Prefix = ek ∙ ap (highOf f) (sym es) ∙ E .kindIs in
-    record { asLeaf = λ z. absurd (omega arith); asPrefix = λ z. sym (eo ∙ ap (placeOf f) (sym es) ∙ E .placeIs); asNode = λ x y. absurd (y q) }
-told f path (node n o kind ks) l T es ek eo =
+told : (f path : List ℕ) (u : Lay) (l : Lone) → Tree edition1 f path u → slotOf u ≡ l .child → l .kind ≡ highOf f (l .child) → Told l u
+told f path (leaf n o e k v) l T es ek =
+    let q : l .kind ≡ Leaf = ek ∙ ap (highOf f) (sym es) ∙ leaf-parts edition1 f path n o e k v T .0 .kindIs in
+    record { asLeaf = λ z. tt; other = λ z. absurd (z q) }
+told f path (prefix n o p t) l T es ek =
+    let q : l .kind ≡ Prefix = ek ∙ ap (highOf f) (sym es) ∙ prefix-parts edition1 f path n o p t T .0 .kindIs in
+    record { asLeaf = λ z. absurd (omega arith); other = λ z. tt }
+told f path (node n o kind ks) l T es ek =
     let P = node-parts edition1 f path n o kind ks T in
     let q : l .kind ≡ kind = ek ∙ ap (highOf f) (sym es) ∙ P .0 .kindIs in
     let r = P .1 .inner .range in
-    record { asLeaf = λ z. absurd (omega arith); asPrefix = λ z. absurd (omega arith); asNode = λ x y. tt }
+    record { asLeaf = λ z. absurd (omega arith); other = λ z. tt }
 
 -- ---- the site at the spot
 
@@ -161,8 +145,8 @@ module _ {f k : List ℕ} {p : Spot} (P : Pair f k p) where
       }
 
   -- what is read
-  abbrev loneOf : ℕ → ℕ → ℕ → ℕ → Lone
-  loneOf b c kind place = record { node = p .node .slot; leaf = p .here .slot; at = p .here .place; byte = b; child = c; kind = kind; place = place }
+  abbrev loneOf : ℕ → ℕ → ℕ → Lone
+  loneOf b c kind = record { node = p .node .slot; leaf = p .here .slot; at = p .here .place; byte = b; child = c; kind = kind }
 
   module _ {b c : ℕ} (O : Other f (p .node .place) (p .byte) b c) where
     one-pair : _≡_ {A = List (ℕ × ℕ)} ((left-one .byte, slotOf (left-one .child)) ∷ []) ((b, c) ∷ [])
@@ -178,8 +162,8 @@ module _ {f k : List ℕ} {p : Spot} (P : Pair f k p) where
     whole-is : P .at .lay ≡ plug (held (P .at) .steps) (node (p .node .slot) (p .node .place) Node4 (kids (P .at) s (P .at .stands)))
     whole-is = held (P .at) .is ∙ ap (λ z. plug (held (P .at) .steps) (node (p .node .slot) (p .node .place) z (kids (P .at) s (P .at .stands)))) (P .kind)
 
-    pair-site : (kind place : ℕ) → Site k (P .at .stands .root) (held (P .at) .steps) (loneOf b c kind place) (left-one .child)
-    pair-site kind place =
+    pair-site : (kind : ℕ) → Site k (P .at .stands .root) (held (P .at) .steps) (loneOf b c kind) (left-one .child)
+    pair-site kind =
         let H = held (P .at) in
         record {
           nodeAt = p .node .place;
@@ -201,41 +185,64 @@ module _ {f k : List ℕ} {p : Spot} (P : Pair f k p) where
     -- the child's entry
     pub child-entry : (1 ≤ c) × (entryAt c + 4 ≤ length f)
     child-entry =
-        let S = pair-site 0 0 in
-        let E = tree-entry (pathOf (held (P .at) .steps) ++ b ∷ []) (left-one .child) (site-open (P .at .stands) S) in
+        let E = child-stood (P .at .stands) (pair-site 0) in
         let e = slot-is in
-        (omega (arith, E .0), omega (arith, E .1))
+        (omega (arith, E .low), omega (arith, E .entry))
 
-    pub pair-read : {kind place : ℕ} → kind ≡ highOf f c → place ≡ placeOf f c → AtSpot f k p (loneOf b c kind place)
+    pub pair-read : {kind : ℕ} → kind ≡ highOf f c → AtSpot f k p (loneOf b c kind)
     unfolding pair-site
-    pair-read {kind} {place} ek eo =
+    pair-read {kind} ek =
         let H = held (P .at) in
-        let S = pair-site kind place in
+        let S = pair-site kind in
         let q = pathOf (H .steps) ++ b ∷ [] in
         record {
           steps = H .steps;
           child = left-one .child;
-          is = told f q (left-one .child) (loneOf b c kind place) (forest-first edition1 f q (left-one .child) (beside S) (site-open (P .at .stands) S .trees) .0) slot-is ek eo;
+          is = told f q (left-one .child) (loneOf b c kind) (forest-first edition1 f q (left-one .child) (beside S) (site-open (P .at .stands) S .trees) .0) slot-is ek;
           ready = record { st = s; stands = P .at .stands; site = S; room = subst (λ (z : Lay). room s (eraseChange edition1 (art z) k) ≡ true) whole-is (P .at .room) };
           linkIs = H .link;
           top = H .top;
         }
 
--- ---- the joins of the child's kind
+-- ---- the join that the child and the Prefix above ask for
 
 module _ {f k : List ℕ} {p : Spot} {l : Lone} (A : AtSpot f k p l) where
-  pub bare-of : p .above .slot ≡ 0 → Bare (Told l) f k l (p .node .link)
-  bare-of e = record { steps = A .steps; child = A .child; is = A .is; ready = A .ready; free = A .top .without e; linkIs = A .linkIs }
+  bare-of : {Q : Lay → Type 0} → Q (A .child) → p .above .slot ≡ 0 → Bare Q f k l (p .node .link)
+  bare-of i e = record { steps = A .steps; child = A .child; is = i; ready = A .ready; free = A .top .without e; linkIs = A .linkIs }
 
-  pub capped-of : (p .above .slot ≡ 0 → ⊥) → Capped (Told l) f k l (p .above)
-  capped-of n =
+  capped-of : {Q : Lay → Type 0} → Q (A .child) → (p .above .slot ≡ 0 → ⊥) → Capped Q f k l (p .above)
+  capped-of i n =
       let C = A .top .capped (omega arith) in
-      record { bytes = C .bytes; up = C .up; child = A .child; is = A .is; ready = subst (λ (xs : List Step). Ready f k xs l (A .child)) (C .is) (A .ready); linkIs = C .link }
+      record { bytes = C .bytes; up = C .up; child = A .child; is = i; ready = subst (λ (xs : List Step). Ready f k xs l (A .child)) (C .is) (A .ready); linkIs = C .link }
 
--- what is known of the child is put in other words
-module _ {f k : List ℕ} {l : Lone} {P Q : Lay → Type 0} (more : (t : Lay) → P t → Q t) where
-  pub bare-as : {link : ℕ} → Bare P f k l link → Bare Q f k l link
-  bare-as B = record { steps = B .steps; child = B .child; is = more (B .child) (B .is); ready = B .ready; free = B .free; linkIs = B .linkIs }
+  above-at : {Q : Lay → Type 0} (C : Capped Q f k l (p .above)) → PrefixAt f (p .above .place) (C .bytes) (l .node)
+  above-at C = opened-above (C .ready .stands) (p .above) (C .bytes) (C .up) (C .ready .site) .1
 
-  pub capped-as : {b : Body} → Capped P f k l b → Capped Q f k l b
-  capped-as C = record { bytes = C .bytes; up = C .up; child = C .child; is = more (C .child) (C .is); ready = C .ready; linkIs = C .linkIs }
+  pub above-of : Above f (p .above)
+  above-of n = let P = above-at (capped-of {Q = λ u. Unit {0}} tt n) in (P .room, omega (arith, P .long, P .most))
+
+  module _ (kind : l .kind ≡ Leaf) where
+    pub leaf-bare : p .above .slot ≡ 0 → Bare IsLeaf f k l (p .node .link)
+    leaf-bare e = bare-of (A .is .asLeaf kind) e
+
+    pub leaf-capped : (p .above .slot ≡ 0 → ⊥) → Capped IsLeaf f k l (p .above)
+    leaf-capped n = capped-of (A .is .asLeaf kind) n
+
+  module _ {n : ℕ} (kind : l .kind ≡ Leaf → ⊥) (H : HasRoom f (p .above) n) where
+    -- one that stands above has room in edition 1
+    full-none : n ≡ 0 → p .above .slot ≡ 0
+    full-none z = elim (ℕ-discrete (p .above .slot) 0) [
+      | yes e ↦ e
+      | no d ↦
+          let C = capped-of {Q = NotLeaf} (A .is .other kind) d in
+          let r = has-room (C .ready .stands) (p .above .slot) (p .above .place) (C .bytes) (C .up) (C .ready .site) (C .is) in
+          absurd (omega (arith, H .some d, above-at C .long))
+    ]
+
+    pub other-bare : n ≡ 0 → Bare NotLeaf f k l (p .node .link)
+    other-bare z = bare-of (A .is .other kind) (full-none z)
+
+    pub other-roomy : (n ≡ 0 → ⊥) → Roomy f k l (p .above)
+    other-roomy z =
+        let d : p .above .slot ≡ 0 → ⊥ = λ e. z (H .none e) in
+        record { capped = capped-of (A .is .other kind) d; room = omega (arith, H .some d) }

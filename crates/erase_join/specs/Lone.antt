@@ -1,21 +1,23 @@
 -- A Node4 of two children, one of them the key's Leaf: the site of a join.
-use Prim.Native.Nat.{ℕ}
+use Prim.Native.Nat.{ℕ, _+_, _-_, _<_, _≤_}
 use mathlib.Core.Path.{_≡_}
 use mathlib.Core.List.{List, _∷_}
 use mathlib.Core.Bool.{true, false}
 use mathlib.Core.Option.{some}
 use lib.ListN.{length}
-use Rattle.layout.specs.Kind.{Leaf, Prefix, Node4}
+use Rattle.layout.specs.Number.{le}
+use Rattle.layout.specs.Place.{prefixLength, prefixMost}
+use Rattle.layout.specs.Kind.{Leaf, Node4}
 use Rattle.model.specs.Edition.{edition1}
 use Rattle.model.specs.State.{State, eraseChange}
 use Rattle.model.specs.State as state
 use Rattle.model.specs.Body.{InnerAt, lookKid}
-use Rattle.model.specs.Frame.{Lay, LayKids, Root, IsNode, tree, slotOf, art, Stands}
+use Rattle.model.specs.Frame.{Lay, LayKids, Root, tree, slotOf, art, Stands}
 use Rattle.model.specs.Frame.Lay.{leaf, prefix, node}
 use Rattle.model.specs.Frame.LayKids.{nil, kid}
 use Rattle.model.specs.Touch.{hasByte}
 use Rattle.between.specs.Hole.{app, Step, under, plug, Link}
-use Rattle.between.specs.Lead.{Leads, NotUnder}
+use Rattle.between.specs.Lead.{Leads, NotUnder, NotLeaf}
 use Rattle.descent.specs.declared.spot.Body.{Body}
 use Rattle.descent.specs.declared.spot.Spot.{Spot}
 use Rattle.descent.specs.Spot.{Topped}
@@ -28,17 +30,10 @@ IsLeaf (leaf s o e k v) = Unit {0}
 IsLeaf (prefix s o p t) = ⊥
 IsLeaf (node s o kind ks) = ⊥
 
--- a Prefix at this place
-abbrev pub IsPrefix : ℕ → Lay → Type 0
-IsPrefix at (leaf s o e k v) = ⊥
-IsPrefix at (prefix s o p t) = o ≡ at
-IsPrefix at (node s o kind ks) = ⊥
-
 -- what its entry, read into l, says
 pub record Told (l : Lone) (t : Lay) : Type 0 where
   pub asLeaf : l .kind ≡ Leaf → IsLeaf t
-  pub asPrefix : l .kind ≡ Prefix → IsPrefix (l .place) t
-  pub asNode : (l .kind ≡ Leaf → ⊥) → (l .kind ≡ Prefix → ⊥) → IsNode t
+  pub other : (l .kind ≡ Leaf → ⊥) → NotLeaf t
 
 -- ---- the site
 
@@ -88,6 +83,11 @@ pub record Capped (P : Lay → Type 0) (f k : List ℕ) (l : Lone) (b : Body) : 
   pub ready : Ready f k (under (b .slot) (b .place) bytes ∷ up) l child
   pub linkIs : Link up (b .link)
 
+-- which has room for a byte, and no Leaf is left
+pub record Roomy (f k : List ℕ) (l : Lone) (b : Body) : Type 0 where
+  pub capped : Capped NotLeaf f k l b
+  pub room : le 2 f (b .place + prefixLength) < prefixMost
+
 -- ---- what is read
 
 -- a Node4 of two, one of them at byte b
@@ -106,3 +106,11 @@ pub record AtSpot (f k : List ℕ) (p : Spot) (l : Lone) : Type 0 where
   pub ready : Ready f k steps l child
   pub linkIs : Link steps (p .node .link)
   pub top : Topped steps (p .above)
+
+-- the Prefix b, if there is one, and how many bytes more it has room for
+abbrev pub Above : List ℕ → Body → Type 0
+Above f b = (b .slot ≡ 0 → ⊥) → (b .place + 128 ≤ length f) × (le 2 f (b .place + prefixLength) ≤ prefixMost)
+
+pub record HasRoom (f : List ℕ) (b : Body) (n : ℕ) : Type 0 where
+  pub none : b .slot ≡ 0 → n ≡ 0
+  pub some : (b .slot ≡ 0 → ⊥) → n ≡ prefixMost - le 2 f (b .place + prefixLength)

@@ -1,7 +1,9 @@
 // "A Node4 that falls to one child is freed": the child is read, and joins what stands above.
 use crate::lone;
 use crate::lone::Lone;
+use descent::spot::Body;
 use descent::spot::Spot;
+use fields::body::Prefix;
 use inner::visit;
 use layout::entry::Entry;
 use layout::kind::Kind;
@@ -14,7 +16,7 @@ ghost use Rattle.model.specs.Body.{InnerAt};
 ghost use Rattle.node.specs.Kids.{removeKid};
 ghost use Rattle.erase_remove.specs.Erase.{EraseStep};
 ghost use Rattle.erase_join.specs.Erase.{Pair};
-ghost use Rattle.erase_join.specs.Lone.{Couple, AtSpot};
+ghost use Rattle.erase_join.specs.Lone.{Couple, AtSpot, Above, HasRoom};
 
 // Of the two children of a Node4 the one that is not at byte b.
 pub fn other_child(f: &[u8], o: usize, b: u8) -> Child
@@ -44,8 +46,18 @@ fn read(f: &[u8], key: &[u8], spot: Spot) -> Lone
         byte: other.byte as u8,
         child: other.slot,
         kind: entry.high,
-        place: entry.place,
     }
+}
+
+// How many bytes more the Prefix above has room for; none if there is none.
+fn spare(f: &[u8], above: Body) -> usize
+    requires { ⌜ Above (now f) above ⌝ }
+    ensures { λ r. ⌜ HasRoom (now (f .entry)) above r ⌝ }
+{
+    if above.slot == 0 {
+        return 0;
+    }
+    Prefix::MOST - Prefix::length(f, above.place)
 }
 
 // The key's Leaf goes, and its Node4 with it.
@@ -56,9 +68,17 @@ pub fn join(f: &mut [u8], key: &[u8], spot: Spot)
     let l = read(f, key, spot);
     let node = spot.node;
     let above = spot.above;
-    if above.slot == 0 {
-        lone::up(f, key, l, node.link);
+    if l.kind != Kind::LEAF {
+        if spare(f, above) == 0 {
+            lone::up(f, key, l, node.link);
+            return;
+        }
+        lone::over(f, key, l, above);
         return;
     }
-    lone::over(f, key, l, above);
+    if above.slot == 0 {
+        lone::leaf_up(f, key, l, node.link);
+        return;
+    }
+    lone::leaf_over(f, key, l, above);
 }

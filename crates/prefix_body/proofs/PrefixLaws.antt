@@ -5,8 +5,8 @@ use mathlib.Core.List.{List, [], _∷_, _++_, append-assoc}
 use mathlib.Core.Logic.{_⊎_, ⊎-elim, inl, inr}
 use native.Mathlib.Omega.{arith}
 use native.Mathlib.Decide.{decLt}
-use lib.ListN.{length, getD, set, length-append, List·getD-append}
-use lib.Seq.{getD-append-add, getD-set-same}
+use lib.ListN.{length, getD, set, take, length-append, List·getD-append}
+use lib.Seq.{getD-append-add, getD-set-same, getD-take, length-take-le, take-all}
 use Rattle.layout.specs.Number.{byteAt, le, put}
 use Rattle.layout.specs.Place.{prefixChild, prefixLength, prefixZero, prefixBytes}
 use Rattle.layout.proofs.NumberLaws.{le-put}
@@ -16,8 +16,8 @@ use Rattle.moves.specs.Moved.{Only, Moved, Cleared, Opened}
 use Rattle.moves.proofs.MoveLaws.{only-set, only-put, only-then, keeps-outside}
 use Rattle.moves.specs.Pasted.{Pasted}
 use Rattle.room.proofs.HeapLaws.{le-below, le-above}
-use Rattle.between.proofs.BodyLaws.{prefix-keeps}
-use Rattle.prefix_body.specs.Prefix.{PrefixWritten, Spare, Joins}
+use Rattle.between.proofs.BodyLaws.{prefix-keeps, prefix-link}
+use Rattle.prefix_body.specs.Prefix.{PrefixWritten, Spare, Gets, Joins, Longer, Shortened, Drawn, Draws, Full}
 
 -- a text and one more
 text-app : (f : List ℕ) (o : ℕ) (p q : List ℕ) → Text f o p → ((i a : ℕ) → i < length q → a ≡ o + length p + i → byteAt f a ≡ getD q i 0) → Text f o (p ++ q)
@@ -206,25 +206,92 @@ more-law {f} {f1} {g} {o} {src} {n} {m} p q c P Q en em short M eg =
       },
     )
 
-pub joins-spare : {f : List ℕ} {o low : ℕ} → Joins f o low → Spare f o 1
-joins-spare S = record { bytes = S .bytes; below = S .below; at = S .at; room = omega (arith, S .room) }
+-- the first k bytes of the Prefix at low
+module _ {f f1 g : List ℕ} {o low n k : ℕ} (S : Gets f o low k) (en : n ≡ le 2 f (o + prefixLength)) (M : Moved f f1 (low + prefixBytes) (o + prefixBytes + n) k) (eg : g ≡ put 2 f1 (o + prefixLength) (n + k)) where
+  first-law : (p : List ℕ) (c : ℕ) (q : List ℕ) (d : ℕ) → PrefixAt f o p c → PrefixAt f low q d → Only f g o (o + 128) × PrefixAt g o (p ++ take k q) c
+  first-law p c q d P Q =
+      let T = S .two in
+      let u = prefix-unique f o p (T .bytes) c (T .below) P (T .at) .0 in
+      let v = prefix-unique f low q (T .lower) d (T .child) Q (T .lowerAt) .0 in
+      let few : k ≤ length q = omega (arith, S .few, ap length v) in
+      let lk = length-take-le k q few in
+      more-law p (take k q) c P (λ i l. Q .text i (omega arith) ∙ sym (getD-take k q i 0 (omega arith))) (en ∙ P .long) (sym lk) (omega (arith, S .room, ap length u)) M eg
 
-module _ {f f1 f2 g : List ℕ} {o low n m child : ℕ} (b : ℕ) (S : Joins f o low) (en : n ≡ le 2 f (o + prefixLength)) (em : m ≡ le 2 f (low + prefixLength)) (ec : child ≡ le 4 f (low + prefixChild)) where
-  onto-law : Only f f1 o (o + 128) × ((p : List ℕ) (c : ℕ) → PrefixAt f o p c → PrefixAt f1 o (p ++ b ∷ []) child) → Moved f1 f2 (low + prefixBytes) (o + prefixBytes + n + 1) m → g ≡ put 2 f2 (o + prefixLength) (n + 1 + m)
-      → (p : List ℕ) (c : ℕ) (q : List ℕ) (d : ℕ) → PrefixAt f o p c → PrefixAt f low q d → Only f g o (o + 128) × PrefixAt g o (p ++ b ∷ q) d
-  onto-law K M eg p c q d P Q =
-      let e : o + prefixBytes + (n + 1) ≡ o + prefixBytes + n + 1 = omega arith in
-      let M' : Moved f1 f2 (low + prefixBytes) (o + prefixBytes + (n + 1)) m = rw e M in
-      let Q1 = prefix-keeps low q d (keeps-outside low (low + 128) (K .0) (⊎-elim (λ x. inr (omega arith)) (λ x. inl (omega arith)) (S .apart))) Q in
-      let u = prefix-unique f o p (S .bytes) c (S .below) P (S .at) .0 in
-      let v = prefix-unique f low q (S .lower) d (S .child) Q (S .lowerAt) .0 in
-      let ln = length-append p (b ∷ []) in
-      let ed : child ≡ d = ec ∙ Q .child in
-      let R = more-law (p ++ b ∷ []) q child (K .1 p c P) (Q1 .text) (omega (arith, P .long)) (omega (arith, Q .long)) (omega (arith, S .room, ap length u, ap length v)) M' eg in (
-        only-then o (o + 128) (K .0) (R .0) (omega arith) (omega arith) (omega arith) (omega arith),
-        rw (← append-assoc p (b ∷ []) q, ← ed) (R .1),
-      )
+  pub more-done : Only f g o (o + 128) × ((p : List ℕ) (c : ℕ) (q : List ℕ) (d : ℕ) → PrefixAt f o p c → PrefixAt f low q d → PrefixAt g o (p ++ take k q) c)
+  more-done = let T = S .two in (first-law (T .bytes) (T .below) (T .lower) (T .child) (T .at) (T .lowerAt) .0, λ p c q d P Q. first-law p c q d P Q .1)
 
-  pub onto-done : Only f f1 o (o + 128) × ((p : List ℕ) (c : ℕ) → PrefixAt f o p c → PrefixAt f1 o (p ++ b ∷ []) child) → Moved f1 f2 (low + prefixBytes) (o + prefixBytes + n + 1) m → g ≡ put 2 f2 (o + prefixLength) (n + 1 + m)
-      → Only f g o (o + 128) × ((p : List ℕ) (c : ℕ) (q : List ℕ) (d : ℕ) → PrefixAt f o p c → PrefixAt f low q d → PrefixAt g o (p ++ b ∷ q) d)
-  onto-done K M eg = (onto-law K M eg (S .bytes) (S .below) (S .lower) (S .child) (S .at) (S .lowerAt) .0, λ p c q d P Q. onto-law K M eg p c q d P Q .1)
+-- what `more` says
+abbrev pub More : List ℕ → List ℕ → ℕ → ℕ → ℕ → Type 0
+More f g o low k = Only f g o (o + 128) × ((p : List ℕ) (c : ℕ) (q : List ℕ) (d : ℕ) → PrefixAt f o p c → PrefixAt f low q d → PrefixAt g o (p ++ take k q) c)
+
+-- all of them
+pub joins-gets : {f : List ℕ} {o low m : ℕ} → Joins f o low → m ≡ le 2 f (low + prefixLength) → Gets f o low m
+joins-gets S em = let T = S .two in let e = em ∙ T .lowerAt .long in record { two = T; few = omega arith; room = omega (arith, S .room) }
+
+pub onto-done : {f f1 g : List ℕ} {o low m child : ℕ} → Joins f o low → m ≡ le 2 f (low + prefixLength) → (child ≡ le 4 f (low + prefixChild)) × (child < 4294967296) → More f f1 o low m → g ≡ put 4 f1 (o + prefixChild) child
+    → Only f g o (o + 128) × ((p : List ℕ) (c : ℕ) (q : List ℕ) (d : ℕ) → PrefixAt f o p c → PrefixAt f low q d → PrefixAt g o (p ++ q) d)
+onto-done {f} {f1} {g} {o} {low} {m} {child} S em ec K eg = (
+  only-then o (o + 128) (K .0) (let O : Only f1 g (o + prefixChild) (o + prefixChild + 4) = rw eg (only-put 4 f1 (o + prefixChild) child) in O) (omega arith) (omega arith) (omega arith) (omega arith),
+  λ p c q d P Q.
+      let e : child ≡ d = ec .0 ∙ Q .child in
+      let w : take m q ≡ q = take-all m q (omega (arith, Q .long)) in
+      let R : PrefixAt f1 o (p ++ q) c = rw w at (K .1 p c q d P Q) in
+      rw (eg, ← e) (prefix-link child (ec .1) R),
+)
+
+-- as many as there is room for, which the other loses
+pub draws-gets : {f : List ℕ} {o low n k : ℕ} → Draws f o low → n ≡ le 2 f (o + prefixLength) → k ≡ 112 - n → Gets f o low k
+draws-gets S en ek = let T = S .two in let e = en ∙ T .at .long in record { two = T; few = omega (arith, S .more); room = omega (arith, T .at .most) }
+
+module _ {f f1 : List ℕ} {o low n k : ℕ} (S : Draws f o low) (en : n ≡ le 2 f (o + prefixLength)) (ek : k ≡ 112 - n) (K : More f f1 o low k) where
+  lower-kept : (q : List ℕ) (d : ℕ) → PrefixAt f low q d → PrefixAt f1 low q d
+  lower-kept q d Q = prefix-keeps low q d (keeps-outside low (low + 128) (K .0) (⊎-elim (λ x. inr (omega arith)) (λ x. inl (omega arith)) (S .two .apart))) Q
+
+  pub draws-longer : Longer f1 low k
+  draws-longer = let T = S .two in let e = en ∙ T .at .long in record { bytes = T .lower; below = T .child; at = lower-kept (T .lower) (T .child) (T .lowerAt); more = omega (arith, S .more) }
+
+  pub draw-done : {g : List ℕ} → Shortened f1 g low k → Drawn f g o low
+  draw-done {g} D =
+      let T = S .two in
+      record {
+        mid = f1;
+        upper = K .0;
+        lower = D .only;
+        at = λ p c q d P Q.
+            let e : k ≡ 112 - length p = omega (arith, P .long) in
+            let u = prefix-unique f o p (T .bytes) c (T .below) P (T .at) .0 in
+            let v = prefix-unique f low q (T .lower) d (T .child) Q (T .lowerAt) .0 in
+            rw (← e) (
+              prefix-keeps o (p ++ take k q) c (keeps-outside o (o + 128) (D .only) (⊎-elim (λ x. inl (omega arith)) (λ x. inr (omega arith)) (T .apart))) (K .1 p c q d P Q),
+              D .at q d (lower-kept q d Q) (omega (arith, S .more, ap length u, ap length v)),
+            );
+      }
+
+-- ---- full, with a byte in front
+
+module _ {f g : List ℕ} {o b r : ℕ} (er : r ≡ byteAt f (o + prefixBytes + 111)) (M : Opened f g (o + prefixBytes) (o + prefixBytes + 111) 1) (eb : byteAt g (o + prefixBytes) ≡ b) where
+  turn-law : (p : List ℕ) (c : ℕ) → PrefixAt f o p c → length p ≡ 112 → PrefixAt g o (b ∷ take 111 p) c
+  turn-law p c P l =
+      let O = M .rest in
+      let lt = length-take-le 111 p (omega arith) in
+      record {
+        room = omega (arith, P .room, O .size);
+        some = omega arith;
+        most = omega arith;
+        child = le-below 4 (o + prefixChild) O (omega arith) ∙ P .child;
+        long = le-below 2 (o + prefixLength) O (omega arith) ∙ P .long ∙ omega arith;
+        zeros = λ i h. O .below (o + prefixZero + i) (omega arith) ∙ P .zeros i h;
+        text = λ i. elim i as (λ i. i < suc (length (take 111 p)) → byteAt g (o + prefixBytes + i) ≡ getD (b ∷ take 111 p) i 0) [
+          | zero ↦ λ h. (let e : o + prefixBytes + 0 ≡ o + prefixBytes = omega arith in rw e eb)
+          | suc j ↦ λ h. M .high (o + prefixBytes + suc j) (o + prefixBytes + j) (omega arith) (omega arith) (omega arith) ∙ P .text j (omega arith) ∙ sym (getD-take 111 p j 0 (omega arith))
+        ];
+        rest = λ i h. absurd (omega arith);
+      }
+
+  pub turn-done : Full f o → Only f g o (o + 128) × ((p : List ℕ) (c : ℕ) → PrefixAt f o p c → (r ≡ getD p 111 0) × PrefixAt g o (b ∷ take 111 p) c)
+  turn-done S = (
+    (let O = M .rest in record { size = O .size; below = λ a l. O .below a (omega arith); above = λ a l. O .above a (omega arith) }),
+    λ p c P.
+        let l : length p ≡ 112 = ap length (prefix-unique f o p (S .bytes) c (S .below) P (S .at) .0) ∙ S .long in
+        (er ∙ P .text 111 (omega arith), turn-law p c P l),
+  )

@@ -1,15 +1,16 @@
-// The body of a Prefix: written whole, with a byte more in front or at the end, with the bytes of another one, and with its first bytes cut off.
+// The body of a Prefix: written whole, with a byte more in front or at the end, with bytes of another one, and with its first or its last bytes
+// cut off.
 use fields::body::Prefix;
 use moves::fill;
 ghost use mathlib.Core.Path.{_≡_};
 ghost use mathlib.Core.List.{List, [], _∷_, _++_};
 ghost use Prim.Native.Nat.{ℕ, _+_, _≤_, _<_};
-ghost use lib.ListN.{length};
+ghost use lib.ListN.{length, getD, take};
 ghost use Rattle.layout.specs.Number.{byteAt};
 ghost use Rattle.layout.specs.Place.{prefixBytes};
 ghost use Rattle.model.specs.Body.{PrefixAt};
 ghost use Rattle.moves.specs.Moved.{Only, Moved};
-ghost use Rattle.prefix_body.specs.Prefix.{PrefixWritten, Spare, Joins, Longer, Shortened};
+ghost use Rattle.prefix_body.specs.Prefix.{PrefixWritten, Spare, Gets, Joins, Longer, Shortened, Drawn, Draws, Full};
 
 // ---- written whole
 
@@ -72,24 +73,33 @@ fn copy(f: &mut [u8], src: usize, dst: usize, n: usize)
     moves::slide_up(f, src, dst, n);
 }
 
-// The byte b and the bytes of the Prefix at `low` join at the end, and the child is that one's.
-pub fn onto(f: &mut [u8], o: usize, b: u8, low: usize)
-    requires { ⌜ Joins (now f) o low ⌝ }
+// The first k bytes of the Prefix at `low` join at the end.
+fn more(f: &mut [u8], o: usize, low: usize, k: usize)
+    requires { ⌜ Gets (now f) o low k ⌝ }
     ensures { λ _. ⌜ Only (now (f .entry)) (now (f .exit)) o (o + 128)
-        × ((p : List ℕ) (c : ℕ) (q : List ℕ) (d : ℕ) → PrefixAt (now (f .entry)) o p c → PrefixAt (now (f .entry)) low q d → PrefixAt (now (f .exit)) o (p ++ b ∷ q) d) ⌝ }
+        × ((p : List ℕ) (c : ℕ) (q : List ℕ) (d : ℕ) → PrefixAt (now (f .entry)) o p c → PrefixAt (now (f .entry)) low q d → PrefixAt (now (f .exit)) o (p ++ take k q) c) ⌝ }
 {
     let n = Prefix::length(f, o);
+    copy(f, low + Prefix::BYTES, o + Prefix::BYTES + n, k);
+    Prefix::set_length(f, o, n + k);
+}
+
+// All of them do, and the child is that one's.
+pub fn onto(f: &mut [u8], o: usize, low: usize)
+    requires { ⌜ Joins (now f) o low ⌝ }
+    ensures { λ _. ⌜ Only (now (f .entry)) (now (f .exit)) o (o + 128)
+        × ((p : List ℕ) (c : ℕ) (q : List ℕ) (d : ℕ) → PrefixAt (now (f .entry)) o p c → PrefixAt (now (f .entry)) low q d → PrefixAt (now (f .exit)) o (p ++ q) d) ⌝ }
+{
     let m = Prefix::length(f, low);
     let child = Prefix::child(f, low);
-    back(f, o, b, child);
-    copy(f, low + Prefix::BYTES, o + Prefix::BYTES + n + 1, m);
-    Prefix::set_length(f, o, n + 1 + m);
+    more(f, o, low, m);
+    Prefix::set_child(f, o, child);
 }
 
 // ---- cut
 
 // The first q bytes go.
-fn drop_front(f: &mut [u8], o: usize, q: usize)
+pub fn drop_front(f: &mut [u8], o: usize, q: usize)
     requires { ⌜ Longer (now f) o q ⌝ }
     ensures { λ _. ⌜ Shortened (now (f .entry)) (now (f .exit)) o q ⌝ }
 {
@@ -109,4 +119,26 @@ pub fn cut_at(f: &mut [u8], o: usize, q: usize) -> u8
     let c = Prefix::byte(f, o, q);
     drop_front(f, o, q + 1);
     c
+}
+
+// The Prefix at o is filled up: the first bytes of the Prefix at `low` go over to its end.
+pub fn draw(f: &mut [u8], o: usize, low: usize)
+    requires { ⌜ Draws (now f) o low ⌝ }
+    ensures { λ _. ⌜ Drawn (now (f .entry)) (now (f .exit)) o low ⌝ }
+{
+    let k = Prefix::MOST - Prefix::length(f, o);
+    more(f, o, low, k);
+    drop_front(f, low, k);
+}
+
+// The byte b joins a full Prefix in front, and its last byte, which is told, goes.
+pub fn turn(f: &mut [u8], o: usize, b: u8) -> u8
+    requires { ⌜ Full (now f) o ⌝ }
+    ensures { λ r. ⌜ Only (now (f .entry)) (now (f .exit)) o (o + 128)
+        × ((p : List ℕ) (c : ℕ) → PrefixAt (now (f .entry)) o p c → (r ≡ getD p 111 0) × PrefixAt (now (f .exit)) o (b ∷ take 111 p) c) ⌝ }
+{
+    let last = Prefix::byte(f, o, Prefix::MOST - 1);
+    let at = o + Prefix::BYTES;
+    moves::open_byte(f, at, at + (Prefix::MOST - 1), b);
+    last
 }

@@ -1,5 +1,5 @@
--- A Prefix just above the Node4, or none. Assumes nothing.
-use Rattle.erase_join.proofs.PairLaws.{bare-of, capped-of}
+-- What is left, and what stands above. Assumes nothing.
+use Rattle.erase_join.proofs.PairLaws.{above-of, leaf-bare, leaf-capped, other-bare, other-roomy}
 use borrow.Author.Needs.{needs}
 use Rattle.erase_join.proofs.join.join.Statement.{statement}
 use Rattle.erase_join.proofs.join.join.Tie as tie
@@ -7,10 +7,14 @@ use Rattle.erase_join.proofs.join.join.Tie as tie
 read-requires : tie.Need-read-requires
 read-requires c κs = search needs
 
+spare-requires : tie.Need-spare-requires
+spare-requires c κs = above-of (c .before .before .before .before .before .read .ensures)
+
 up-requires : tie.Need-up-requires
 up-requires c κs =
     let test = c .before in
-    bare-of (test .before .before .before .before .read .ensures) (test .if1 .taken)
+    let kind = test .before .before .before in
+    other-bare (kind .before .before .before .before .read .ensures) (kind .if1 .taken) (c .before .before .spare .ensures) (test .if2 .taken)
 
 same-length : tie.Need-same-length
 same-length c = search needs
@@ -21,7 +25,8 @@ returns c = search needs
 over-requires : tie.Need-over-requires
 over-requires c κs =
     let test = c .before in
-    capped-of (test .before .before .before .before .read .ensures) (test .if1 .left)
+    let kind = test .before .before .before in
+    other-roomy (kind .before .before .before .before .read .ensures) (kind .if1 .taken) (c .before .before .spare .ensures) (test .if2 .left)
 
 same-length-2 : tie.Need-same-length-2
 same-length-2 c = search needs
@@ -29,7 +34,45 @@ same-length-2 c = search needs
 returns-2 : tie.Need-returns-2
 returns-2 c = search needs
 
+leaf-up-requires : tie.Need-leaf-up-requires
+leaf-up-requires c κs =
+    let test = c .before in
+    let kind = test .before .before in
+    leaf-bare (kind .before .before .before .before .read .ensures) (kind .if1 .left) (test .if3 .taken)
+
+same-length-3 : tie.Need-same-length-3
+same-length-3 c = search needs
+
+returns-3 : tie.Need-returns-3
+returns-3 c = search needs
+
+leaf-over-requires : tie.Need-leaf-over-requires
+leaf-over-requires c κs =
+    let test = c .before in
+    let kind = test .before .before in
+    leaf-capped (kind .before .before .before .before .read .ensures) (kind .if1 .left) (test .if3 .left)
+
+same-length-4 : tie.Need-same-length-4
+same-length-4 c = search needs
+
+returns-4 : tie.Need-returns-4
+returns-4 c = search needs
+
 pub join-spec : {M : Type 1} → statement M
 join-spec =
     tie.close
-    (tie.spec read-requires up-requires same-length returns over-requires same-length-2 returns-2)
+    (tie.spec
+    read-requires
+    spare-requires
+    up-requires
+    same-length
+    returns
+    over-requires
+    same-length-2
+    returns-2
+    leaf-up-requires
+    same-length-3
+    returns-3
+    leaf-over-requires
+    same-length-4
+    returns-4)

@@ -17,7 +17,7 @@ returns : tie.Need-returns
 returns c =
     let entry = c .before in
     let other = entry .before in
-    pair-read (other .before .before .before .before .before .pre) (other .other-child .ensures) (entry .read .ensures .0) (entry .read .ensures .1)
+    pair-read (other .before .before .before .before .before .pre) (other .other-child .ensures) (entry .read .ensures .0)
 
 pub read-spec : {M : Type 1} → statement M
 read-spec = tie.close (tie.spec other-child-requires read-requires cast-t8 returns)

@@ -1,6 +1,7 @@
 -- A Leaf takes the place of the Node4. Assumes nothing.
 use Rattle.erase_join.proofs.SiteLaws.{site-open, drops-of, step-of}
-use Rattle.erase_join.proofs.UpLaws.{relink-ok, leaf-up}
+use Rattle.chain.proofs.PushLaws.{link-ok}
+use Rattle.erase_join.proofs.UpLaws.{leaf-up}
 use borrow.Author.Needs.{needs}
 use Rattle.erase_join.proofs.lone.leaf_up.Statement.{statement}
 use Rattle.erase_join.proofs.lone.leaf_up.Tie as tie
@@ -9,7 +10,7 @@ relink-requires : tie.Need-relink-requires
 relink-requires c κs =
     let z = c .before .before .before in
     let R = z .pre in
-    relink-ok (z .args .link) (site-open (R .ready .stands) (R .ready .site)) (R .linkIs)
+    link-ok (z .args .link) (site-open (R .ready .stands) (R .ready .site)) (R .linkIs)
 
 drop-both-requires : tie.Need-drop-both-requires
 drop-both-requires c κs =
