@@ -36,6 +36,10 @@ pub struct Entry {
     pub at: usize,
     pub long: usize,
     pub tail: usize,
+    pub node: usize,
+    pub kind: usize,
+    pub from: usize,
+    pub depth: usize,
 }
 
 pub fn none() -> Entry
@@ -45,7 +49,7 @@ pub fn none() -> Entry
         there: false,
         at: 0,
         long: 0,
-        tail: 0,
+        tail: 0, node: 0, kind: 0, from: 0, depth: 0,
     }
 }
 
@@ -95,10 +99,11 @@ pub fn ending(key: &[u8], from: usize, delimiter: usize) -> Cut
 }
 
 // The entry of the key of the Leaf at a place, if it begins with the prefix.
-fn of_leaf(f: &[u8], place: usize, prefix: &[u8], delimiter: usize) -> Entry
+fn of_leaf(f: &[u8], so: seek::Sought, prefix: &[u8], delimiter: usize) -> Entry
     requires { ⌜ LeafSome (now f) place ⌝ }
     ensures { λ r. ⌜ ((e : ℕ) (k v : List ℕ) → LeafAt (now (f .entry)) place e k v → OfKey (now (f .entry)) (now (prefix .entry)) (delimiterOf delimiter) k r) ⌝ }
 {
+    let place = so.place;
     let at = Leaf::extent(f, place);
     let end = at + Leaf::key_length(f, place);
     let key = &f[at..end];
@@ -110,7 +115,7 @@ fn of_leaf(f: &[u8], place: usize, prefix: &[u8], delimiter: usize) -> Entry
         there: true,
         at,
         long: c.long,
-        tail: c.tail,
+        tail: c.tail, node: so.node, kind: so.kind, from: so.from, depth: so.depth,
     }
 }
 
@@ -130,7 +135,23 @@ pub fn from_bound(
     if !sought.found {
         return none();
     }
-    of_leaf(f, sought.place, prefix, delimiter)
+    of_leaf(f, sought, prefix, delimiter)
+}
+
+pub fn after(
+    f: &[u8],
+    root: usize,
+    prefix: &[u8],
+    delimiter: usize,
+    text: &[u8],
+    e: Entry,
+) -> Entry
+{
+    let sought = seek::next(f, root, text, e.tail, e.node, e.kind, e.from, e.depth);
+    if !sought.found {
+        return none();
+    }
+    of_leaf(f, sought, prefix, delimiter)
 }
 
 // An entry at a place of the buffer: its length in two bytes, then its bytes.

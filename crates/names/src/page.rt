@@ -62,6 +62,6 @@ pub fn fill(
         entry::write(buffer, used, text);
         used += entry::LENGTH_SIZE + long;
         count += 1;
-        e = entry::from_bound(f, root, prefix, delimiter, text, e.tail);
+        e = entry::after(f, root, prefix, delimiter, text, e);
     }
 }

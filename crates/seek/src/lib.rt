@@ -22,12 +22,19 @@ ghost use Rattle.seek.specs.Seek.{SoughtAt, Nearer, Fallback, Falls, Lea
 pub struct Spare {
     pub slot: usize,
     pub depth: usize,
+    pub node: usize,
+    pub kind: usize,
+    pub from: usize,
 }
 
 pub struct Sought {
     pub found: bool,
     // of the Leaf's body
     pub place: usize,
+    pub node: usize,
+    pub kind: usize,
+    pub from: usize,
+    pub depth: usize,
 }
 
 // where bytes stand to a bound: all that begins with them lies below it, they do not decide yet, all lies above
@@ -41,16 +48,19 @@ pub const ABOVE: usize = 2;
 const NO_BYTE: usize = 256;
 
 // The first Leaf, in byte order, of the tree at a slot to which `depth` bytes lead: down the lowest children. The place of its body.
-pub fn first(f: &[u8], slot: usize, depth: usize) -> usize
+pub fn first(f: &[u8], slot: usize, depth: usize, node: usize, kind: usize, from: usize) -> Sought
     requires { ⌜ Sub (now f) slot depth × (depth ≤ edition1 .longest) ⌝ }
     ensures { λ r. ⌜ FirstAt (now (f .entry)) slot r ⌝ }
 {
     let mut s = slot;
     let mut d = depth;
+    let mut o = node;
+    let mut q = kind;
+    let mut b = from;
     loop {
         let e = Entry::read(f, s);
         if e.high == Kind::LEAF {
-            return e.place;
+            return Sought { found: true, place: e.place, node: o, kind: q, from: b, depth: d };
         }
         if e.high == Kind::PREFIX {
             s = Prefix::child(f, e.place);
@@ -58,6 +68,9 @@ pub fn first(f: &[u8], slot: usize, depth: usize) -> usize
             continue;
         }
         let k = visit::next_child(f, e.place, e.high, 0);
+        o = e.place;
+        q = e.high;
+        b = k.byte + 1;
         s = k.slot;
         d += 1;
     }
@@ -114,6 +127,9 @@ fn nearer(f: &[u8], o: usize, kind: usize, b: usize, d: usize, old: Spare) -> Sp
     Spare {
         slot: k.slot,
         depth: d + 1,
+        node: o,
+        kind: kind,
+        from: k.byte + 1,
     }
 }
 
@@ -125,11 +141,10 @@ fn fall_back(f: &[u8], spare: Spare) -> Sought
     if spare.slot == 0 {
         return Sought {
             found: false,
-            place: 0,
+            place: 0, node: 0, kind: 0, from: 0, depth: 0,
         };
     }
-    let place = first(f, spare.slot, spare.depth);
-    Sought { found: true, place }
+    first(f, spare.slot, spare.depth, spare.node, spare.kind, spare.from)
 }
 
 // The key of the Leaf at a place is at or above the bound.
@@ -156,14 +171,14 @@ pub fn seek(f: &[u8], root: usize, text: &[u8], tail: usize) -> Sought
 {
     let mut s = root;
     let mut d = 0;
-    let mut spare = Spare { slot: 0, depth: 0 };
+    let mut spare = Spare { slot: 0, depth: 0, node: 0, kind: 0, from: 0 };
     loop {
         let e = Entry::read(f, s);
         if e.high == Kind::LEAF {
             if leaf_reaches(f, e.place, text, tail) {
                 return Sought {
                     found: true,
-                    place: e.place,
+                    place: e.place, node: 0, kind: 0, from: 0, depth: d,
                 };
             }
             return fall_back(f, spare);
@@ -172,7 +187,7 @@ pub fn seek(f: &[u8], root: usize, text: &[u8], tail: usize) -> Sought
             let n = Prefix::length(f, e.place);
             let w = weigh_bytes(f, e.place + Prefix::BYTES, n, text, d, tail);
             if w == ABOVE {
-                return fall_back(f, Spare { slot: s, depth: d });
+                return fall_back(f, Spare { slot: s, depth: d, node: 0, kind: 0, from: 0 });
             }
             if w == BELOW {
                 return fall_back(f, spare);
@@ -193,4 +208,16 @@ pub fn seek(f: &[u8], root: usize, text: &[u8], tail: usize) -> Sought
         s = k.slot;
         d += 1;
     }
+}
+
+pub fn next(f: &[u8], root: usize, text: &[u8], tail: usize, node: usize, kind: usize, from: usize, depth: usize) -> Sought {
+    if tail == 1 {
+        if kind != 0 {
+            let k = visit::next_child(f, node, kind, from);
+            if k.byte != NO_BYTE {
+                return first(f, k.slot, depth, node, kind, k.byte + 1);
+            }
+        }
+    }
+    seek(f, root, text, tail)
 }
