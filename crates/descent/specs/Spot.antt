@@ -7,8 +7,9 @@ use lib.ListN.{length, drop}
 use lib.Dec.{eqb}
 use Rattle.layout.specs.Place.{prefixChild}
 use Rattle.layout.specs.Kind.{Prefix}
-use Rattle.model.specs.Strings.{pick, shared}
-use Rattle.model.specs.Edition.{edition1}
+use Rattle.model.specs.Strings.{pick, shared, All}
+use Rattle.model.proofs.Edition1.{Positive}
+use Rattle.model.specs.Edition.{editionOf}
 use Rattle.model.specs.State.{State}
 use Rattle.model.specs.Body.{PrefixAt, lookKid}
 use Rattle.model.specs.Visits.{visits, visitsIn}
@@ -103,18 +104,6 @@ pub record Over (xs : List Step) (n : Body) (b : ℕ) (u : Body) : Type 0 where
 
 -- ---- the way
 
--- steps from the root of a tree to a subtree: the key takes every one of them, and the field at `link` names the subtree's slot
-pub record Way (k : List ℕ) (l : Lay) (s : Spot) : Type 0 where
-  pub steps : List Step
-  pub sub : Lay
-  pub rest : List ℕ
-  pub whole : l ≡ plug steps sub
-  pub leads : Leads edition1 k steps rest
-  pub deep : s .depth ≡ length (pathOf steps)
-  pub slotIs : slotOf sub ≡ s .here .slot
-  pub linkIs : Link steps (s .here .link)
-  pub over : Over steps (s .node) (s .byte) (s .above)
-
 -- ---- the ends
 
 -- 2: the Leaf of this key
@@ -125,127 +114,142 @@ pub record ThisKey (k : List ℕ) (s : Spot) (xs : List Step) (t : Lay) : Type 0
   pub kind : s .here .kind ≡ 1
   pub free : NotUnder xs
 
--- 3: a Leaf of another key, and q walked bytes shared from there
-pub record OtherKey (k : List ℕ) (s : Spot) (xs : List Step) (t : Lay) : Type 0 where
-  pub extent : ℕ
-  pub key : List ℕ
-  pub value : List ℕ
-  pub is : t ≡ leaf (s .here .slot) (s .here .place) extent key value
-  pub kind : s .here .kind ≡ 1
-  pub free : NotUnder xs
-  pub differs : k ≡ key → ⊥
-  pub shares : s .shared ≡ shared (drop (s .depth) (edition1 .walked k)) (drop (s .depth) (edition1 .walked key))
-
--- 4: an inner node without the byte
-pub record NoByte (k : List ℕ) (s : Spot) (t : Lay) : Type 0 where
-  pub kids : LayKids
-  pub is : t ≡ node (s .here .slot) (s .here .place) (s .here .kind) kids
-  pub short : s .depth ≤ 112
-  pub byte : ℕ
-  pub after : List ℕ
-  pub next : drop (s .depth) (edition1 .walked k) ≡ byte ∷ after
-  pub absent : lookKid byte (pairs kids) ≡ none
-
--- 5: a Prefix that matched for q of its bytes, and not for all
-pub record PartPrefix (k : List ℕ) (s : Spot) (t : Lay) : Type 0 where
-  pub bytes : List ℕ
-  pub below : Lay
-  pub is : t ≡ prefix (s .here .slot) (s .here .place) bytes below
-  pub kind : s .here .kind ≡ 2
-  pub short : s .depth + length bytes ≤ 112
-  pub shares : s .shared ≡ shared bytes (drop (s .depth) (edition1 .walked k))
-  pub less : s .shared < length bytes
-
-pub record Spotted (k : List ℕ) (l : Lay) (s : Spot) : Type 0 where
-  pub way : Way k l s
-  pub range : (2 ≤ s .end) × (s .end ≤ 5)
-  pub found : s .end ≡ 2 → ThisKey k s (way .steps) (way .sub)
-  pub other : s .end ≡ 3 → OtherKey k s (way .steps) (way .sub)
-  pub missing : s .end ≡ 4 → NoByte k s (way .sub)
-  pub parted : s .end ≡ 5 → PartPrefix k s (way .sub)
-
--- the tree of a frame that is not empty
-pub record InTree (k : List ℕ) (r : Root) (s : Spot) : Type 0 where
-  pub lay : Lay
-  pub is : r ≡ tree lay
-  pub spot : Spotted k lay s
-
--- what the descent of key k through the root r ends with; 1: an empty frame
-pub record SpotAt (k : List ℕ) (r : Root) (s : Spot) : Type 0 where
-  -- a counter that is equal to the defined path's length
-  pub visited : s .visited ≡ visitsIn edition1 (rootArt r) k
-  pub empty : s .end ≡ 1 → r ≡ bare (s .here .slot) (s .here .place)
-  pub inTree : (s .end ≡ 1 → ⊥) → InTree k r s
-
 -- ---- while it goes
 
--- f is a good frame
-pub record Standing (f : List ℕ) : Type 0 where
-  pub st : State
-  pub stands : Stands edition1 f st
+module _ (ed : ℕ) where
+  -- steps from the root of a tree to a subtree: the key takes every one of them, and the field at `link` names the subtree's slot
+  pub record Way (k : List ℕ) (l : Lay) (s : Spot) : Type 0 where
+    pub steps : List Step
+    pub sub : Lay
+    pub rest : List ℕ
+    pub whole : l ≡ plug steps sub
+    pub leads : Leads (editionOf ed) k steps rest
+    pub deep : s .depth ≡ length (pathOf steps)
+    pub slotIs : slotOf sub ≡ s .here .slot
+    pub linkIs : Link steps (s .here .link)
+    pub over : Over steps (s .node) (s .byte) (s .above)
 
--- f is a good frame with records, and the descent of k through it stands at s
-pub record Going (f k : List ℕ) (s : Spot) : Type 0 where
-  pub st : State
-  pub stands : Stands edition1 f st
-  pub lay : Lay
-  pub is : stands .root ≡ tree lay
-  pub way : Way k lay s
+  -- 3: a Leaf of another key, and q walked bytes shared from there
+  pub record OtherKey (k : List ℕ) (s : Spot) (xs : List Step) (t : Lay) : Type 0 where
+    pub extent : ℕ
+    pub key : List ℕ
+    pub value : List ℕ
+    pub is : t ≡ leaf (s .here .slot) (s .here .place) extent key value
+    pub kind : s .here .kind ≡ 1
+    pub free : NotUnder xs
+    pub differs : k ≡ key → ⊥
+    pub shares : s .shared ≡ shared (drop (s .depth) ((editionOf ed) .walked k)) (drop (s .depth) ((editionOf ed) .walked key))
 
--- of the path through l, the slots up to s are counted, and the subtree t is left: what is left gives what the whole gives
-pub record Counted (k : List ℕ) (s : Spot) (l t : Lay) : Type 0 where
-  pub left : s .visited + visits edition1 (art t) (s .depth) k ≡ visits edition1 (art l) 0 k
-  pub few : s .visited ≤ s .depth
-  pub short : s .depth ≤ 113
+  -- 4: an inner node without the byte
+  pub record NoByte (k : List ℕ) (s : Spot) (t : Lay) : Type 0 where
+    pub kids : LayKids
+    pub is : t ≡ node (s .here .slot) (s .here .place) (s .here .kind) kids
+    pub short : s .depth < editionOf ed .longest
+    pub byte : ℕ
+    pub after : List ℕ
+    pub next : drop (s .depth) ((editionOf ed) .walked k) ≡ byte ∷ after
+    pub absent : lookKid byte (pairs kids) ≡ none
 
--- the descent goes on from s
-pub record Underway (f k : List ℕ) (s : Spot) : Type 0 where
-  pub going : Going f k s
-  pub count : Counted k s (going .lay) (going .way .sub)
+  -- 5: a Prefix that matched for q of its bytes, and not for all
+  pub record PartPrefix (k : List ℕ) (s : Spot) (t : Lay) : Type 0 where
+    pub bytes : List ℕ
+    pub below : Lay
+    pub is : t ≡ prefix (s .here .slot) (s .here .place) bytes below
+    pub kind : s .here .kind ≡ 2
+    pub short : s .depth + length bytes < editionOf ed .longest
+    pub shares : s .shared ≡ shared bytes (drop (s .depth) ((editionOf ed) .walked k))
+    pub less : s .shared < length bytes
 
-pub record AtLeaf (f k : List ℕ) (s : Spot) (o : ℕ) : Type 0 where
-  pub going : Going f k s
-  pub count : Counted k s (going .lay) (going .way .sub)
-  pub extent : ℕ
-  pub key : List ℕ
-  pub value : List ℕ
-  pub is : going .way .sub ≡ leaf (s .here .slot) o extent key value
-  pub room : o + 16 ≤ length f
-  pub at : LeafOf edition1 f (pathOf (going .way .steps)) o extent key value
-  pub free : NotUnder (going .way .steps)
+  pub record Spotted (k : List ℕ) (l : Lay) (s : Spot) : Type 0 where
+    pub way : Way k l s
+    pub range : (2 ≤ s .end) × (s .end ≤ 5)
+    pub found : s .end ≡ 2 → ThisKey k s (way .steps) (way .sub)
+    pub other : s .end ≡ 3 → OtherKey k s (way .steps) (way .sub)
+    pub missing : s .end ≡ 4 → NoByte k s (way .sub)
+    pub parted : s .end ≡ 5 → PartPrefix k s (way .sub)
 
-pub record AtPrefix (f k : List ℕ) (s : Spot) (o : ℕ) : Type 0 where
-  pub going : Going f k s
-  pub count : Counted k s (going .lay) (going .way .sub)
-  pub bytes : List ℕ
-  pub below : Lay
-  pub is : going .way .sub ≡ prefix (s .here .slot) o bytes below
-  pub at : PrefixAt f o bytes (slotOf below)
-  pub hangs : Below bytes below
-  pub low : 1 ≤ s .here .slot
-  pub short : s .depth + length bytes ≤ 112
+  -- the tree of a frame that is not empty
+  pub record InTree (k : List ℕ) (r : Root) (s : Spot) : Type 0 where
+    pub lay : Lay
+    pub is : r ≡ tree lay
+    pub spot : Spotted k lay s
 
-pub record AtNode (f k : List ℕ) (s : Spot) (o kind : ℕ) : Type 0 where
-  pub going : Going f k s
-  pub count : Counted k s (going .lay) (going .way .sub)
-  pub kids : LayKids
-  pub is : going .way .sub ≡ node (s .here .slot) o kind kids
-  pub at : NodeOf f o kind kids
-  pub short : s .depth ≤ 112
-  pub live : (b : ℕ) → lookKid b (pairs kids) ≡ some 0 → ⊥
-  pub low : 1 ≤ s .here .slot
-  pub byte : ℕ
-  pub after : List ℕ
-  pub next : going .way .rest ≡ byte ∷ after
+  -- what the descent of key k through the root r ends with; 1: an empty frame
+  pub record SpotAt (k : List ℕ) (r : Root) (s : Spot) : Type 0 where
+    -- a counter that is equal to the defined path's length
+    pub visited : s .visited ≡ visitsIn (editionOf ed) (rootArt r) k
+    pub empty : s .end ≡ 1 → r ≡ bare (s .here .slot) (s .here .place)
+    pub inTree : (s .end ≡ 1 → ⊥) → InTree k r s
 
--- it ended in the tree
-pub record Ended (f k : List ℕ) (s : Spot) : Type 0 where
-  pub st : State
-  pub stands : Stands edition1 f st
-  pub tree : InTree k (stands .root) s
-  pub visited : s .visited ≡ visitsIn edition1 (rootArt (stands .root)) k
+  -- f is a good frame
+  pub record Standing (f : List ℕ) : Type 0 where
+    pub st : State
+    pub stands : Stands (editionOf ed) f st
 
--- one step from s to r: deeper, or to the end
-pub record Stepped (f k : List ℕ) (s r : Spot) : Type 0 where
-  pub goes : r .end ≡ 0 → Underway f k r × (s .depth < r .depth) × (r .depth ≤ 113)
-  pub ends : (r .end ≡ 0 → ⊥) → Ended f k r
+  -- f is a good frame with records, and the descent of k through it stands at s
+  pub record Going (f k : List ℕ) (s : Spot) : Type 0 where
+    pub st : State
+    pub stands : Stands (editionOf ed) f st
+    pub lay : Lay
+    pub is : stands .root ≡ tree lay
+    pub way : Way k lay s
+
+  -- of the path through l, the slots up to s are counted, and the subtree t is left: what is left gives what the whole gives
+  pub record Counted (k : List ℕ) (s : Spot) (l t : Lay) : Type 0 where
+    pub left : s .visited + visits (editionOf ed) (art t) (s .depth) k ≡ visits (editionOf ed) (art l) 0 k
+    pub few : s .visited ≤ s .depth
+    pub short : s .depth ≤ editionOf ed .longest
+
+  -- the descent goes on from s
+  pub record Underway (f k : List ℕ) (s : Spot) : Type 0 where
+    pub going : Going f k s
+    pub count : Counted k s (going .lay) (going .way .sub)
+
+  pub record AtLeaf (f k : List ℕ) (s : Spot) (o : ℕ) : Type 0 where
+    pub going : Going f k s
+    pub count : Counted k s (going .lay) (going .way .sub)
+    pub extent : ℕ
+    pub key : List ℕ
+    pub value : List ℕ
+    pub is : going .way .sub ≡ leaf (s .here .slot) o extent key value
+    pub room : o + 16 ≤ length f
+    pub at : LeafOf (editionOf ed) f (pathOf (going .way .steps)) o extent key value
+    pub free : NotUnder (going .way .steps)
+
+  pub record AtPrefix (f k : List ℕ) (s : Spot) (o : ℕ) : Type 0 where
+    pub going : Going f k s
+    pub count : Counted k s (going .lay) (going .way .sub)
+    pub bytes : List ℕ
+    pub below : Lay
+    pub is : going .way .sub ≡ prefix (s .here .slot) o bytes below
+    pub at : PrefixAt f o bytes (slotOf below)
+    pub hangs : Below bytes below
+    pub low : 1 ≤ s .here .slot
+    pub short : s .depth + length bytes < editionOf ed .longest
+    -- in edition 1 no byte of a path is 0
+    pub clean : (ed ≡ 2 → ⊥) → All Positive bytes
+
+  pub record AtNode (f k : List ℕ) (s : Spot) (o kind : ℕ) : Type 0 where
+    pub going : Going f k s
+    pub count : Counted k s (going .lay) (going .way .sub)
+    pub kids : LayKids
+    pub is : going .way .sub ≡ node (s .here .slot) o kind kids
+    pub at : NodeOf f o kind kids
+    pub short : s .depth < editionOf ed .longest
+    pub live : (b : ℕ) → lookKid b (pairs kids) ≡ some 0 → ⊥
+    pub low : 1 ≤ s .here .slot
+    pub byte : ℕ
+    pub after : List ℕ
+    pub next : going .way .rest ≡ byte ∷ after
+
+  -- it ended in the tree
+  pub record Ended (f k : List ℕ) (s : Spot) : Type 0 where
+    pub st : State
+    pub stands : Stands (editionOf ed) f st
+    pub tree : InTree k (stands .root) s
+    pub visited : s .visited ≡ visitsIn (editionOf ed) (rootArt (stands .root)) k
+
+  -- one step from s to r: deeper, or to the end
+  pub record Stepped (f k : List ℕ) (s r : Spot) : Type 0 where
+    pub goes : r .end ≡ 0 → Underway f k r × (s .depth < r .depth) × (r .depth ≤ editionOf ed .longest)
+    pub ends : (r .end ≡ 0 → ⊥) → Ended f k r

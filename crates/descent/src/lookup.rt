@@ -3,12 +3,13 @@ use crate::spot::Spot;
 use crate::walk;
 use fields::body::Leaf;
 ghost use denote.Ref.{ptr};
-ghost use Rattle.model.specs.Edition.{edition1};
+ghost use Rattle.model.specs.Edition.{editionOf};
 ghost use Rattle.model.specs.State.{State};
 ghost use Rattle.model.specs.Visits.{visitsIn};
 ghost use Rattle.model.specs.Frame.{Stands, rootArt};
 ghost use Rattle.model.specs.Touch.{findAt};
 ghost use Rattle.model.specs.Promise.{foundOf};
+ghost use Rattle.keys.specs.Word.{Spells};
 ghost use Rattle.descent.specs.Spot.{Standing};
 ghost use Rattle.descent.specs.Lookup.{Looked, Handed};
 
@@ -22,11 +23,11 @@ pub struct Held {
 }
 
 // Where a key's value stands in a good frame.
-pub fn find(f: &[u8], key: &[u8]) -> Held
-    requires { ⌜ Standing (now f) ⌝ }
-    ensures { λ r. ⌜ ((st : State) (W : Stands edition1 (now (f .entry)) st) → Looked (now (f .entry)) (now (key .entry)) st (W .root) r) ⌝ }
+pub fn find(f: &[u8], key: &[u8], word: &[u8], edition: usize) -> Held
+    requires { ⌜ Standing edition (now f) × Spells edition (now key) (now word) ⌝ }
+    ensures { λ r. ⌜ ((st : State) (W : Stands (editionOf edition) (now (f .entry)) st) → Looked edition (now (f .entry)) (now (key .entry)) st (W .root) r) ⌝ }
 {
-    let s = walk::descend(f, key);
+    let s = walk::descend(f, key, word, edition);
     if s.end != Spot::FOUND {
         return Held {
             found: false,
@@ -48,11 +49,11 @@ pub fn find(f: &[u8], key: &[u8]) -> Held
 }
 
 // The value as a part of the frame; for an absent key the empty part at its start.
-pub fn value<'a>(f: &'a [u8], key: &[u8]) -> &'a [u8]
-    requires { ⌜ Standing (now f) ⌝ }
-    ensures { λ r. ⌜ ((st : State) (W : Stands edition1 (now (f .entry)) st) → Handed (now (f .entry)) (ptr (f .entry)) (foundOf (findAt edition1 (W .root) (now (key .entry))) (visitsIn edition1 (rootArt (W .root)) (now (key .entry)))) (ptr r) (now r)) ⌝ }
+pub fn value<'a>(f: &'a [u8], key: &[u8], word: &[u8], edition: usize) -> &'a [u8]
+    requires { ⌜ Standing edition (now f) × Spells edition (now key) (now word) ⌝ }
+    ensures { λ r. ⌜ ((st : State) (W : Stands (editionOf edition) (now (f .entry)) st) → Handed (now (f .entry)) (ptr (f .entry)) (foundOf (findAt (editionOf edition) (W .root) (now (key .entry))) (visitsIn (editionOf edition) (rootArt (W .root)) (now (key .entry)))) (ptr r) (now r)) ⌝ }
 {
-    let v = find(f, key);
+    let v = find(f, key, word, edition);
     if v.found {
         let from = v.place;
         let to = from + v.length;

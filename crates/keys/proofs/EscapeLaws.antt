@@ -3,7 +3,7 @@ use Prim.Native.Nat.{ℕ, zero, suc, _+_, _-_, _<_, _≤_}
 use native.Mathlib.Omega.{arith}
 use native.Mathlib.Numerals.{add-one}
 use mathlib.Core.Path.{_≡_, refl, sym, _∙_, ap}
-use mathlib.Core.List.{List, [], _∷_, _++_, append-assoc}
+use mathlib.Core.List.{List, [], _∷_, _++_, append-assoc, head-eq-of-cons-eq, tail-eq-of-cons-eq}
 use lib.ListN.{length, take, drop, getD, set, length-set}
 use lib.Seq.{drop-cons, take-suc-set, take-set-le}
 use borrow.Author.Tests.{eq-eqb, ne-eqb}
@@ -81,6 +81,19 @@ end-share : (b : ℕ) (k : List ℕ) → shared (escaped []) (escaped (b ∷ k))
 end-share zero k = refl
 end-share (suc b) k = rw (ne-eqb 0 (suc b) (λ e. omega arith)) refl
 
+-- no walked string is the beginning of another, whatever the keys
+pub escaped-apart : (k l t : List ℕ) → escaped l ≡ escaped k ++ t → k ≡ l
+escaped-apart [] [] t e = refl
+escaped-apart [] (zero ∷ l) t e = absurd (omega (arith, head-eq-of-cons-eq (tail-eq-of-cons-eq e)))
+escaped-apart [] (suc c ∷ l) t e = absurd (omega (arith, head-eq-of-cons-eq e))
+escaped-apart (zero ∷ k) [] t e = absurd (omega (arith, head-eq-of-cons-eq (tail-eq-of-cons-eq e)))
+escaped-apart (suc b ∷ k) [] t e = absurd (omega (arith, head-eq-of-cons-eq e))
+escaped-apart (zero ∷ k) (zero ∷ l) t e = let on = escaped-apart k l t (tail-eq-of-cons-eq (tail-eq-of-cons-eq e)) in cc
+escaped-apart (zero ∷ k) (suc c ∷ l) t e = absurd (omega (arith, head-eq-of-cons-eq e))
+escaped-apart (suc b ∷ k) (zero ∷ l) t e = absurd (omega (arith, head-eq-of-cons-eq e))
+escaped-apart (suc b ∷ k) (suc c ∷ l) t e =
+    let on = escaped-apart k l t (tail-eq-of-cons-eq e) in let here = head-eq-of-cons-eq e in cc
+
 -- ---- the walked string as it is written: the first n bytes of g, and what is left of the key
 
 -- what is left of k at i
@@ -145,19 +158,19 @@ begun-room k g i n B h = omega (arith, B .long, long-two (drop i k))
 -- ---- two keys byte by byte: n bytes are shared up to i
 
 pub record Common (k l : List ℕ) (i n : ℕ) : Type 0 where
-  pub within : i ≤ length k
+  pub along : i ≤ length l
   pub few : n ≤ i + i
   pub rest : shared (escaped k) (escaped l) ≡ n + shared (escaped (drop i k)) (escaped (drop i l))
 
 pub common-none : (k l : List ℕ) → Common k l 0 0
-common-none k l = record { within = omega arith; few = omega arith; rest = omega arith }
+common-none k l = record { along = omega arith; few = omega arith; rest = omega arith }
 
 module _ (k l : List ℕ) (i n : ℕ) (C : Common k l i n) where
   pub common-more : i < length k → i < length l → getD k i 0 ≡ getD l i 0 → Common k l (i + 1) (n + weightOf (getD k i 0))
   common-more h g e =
       let m = rw (left-more k i h, left-more l i g, ← e) at (C .rest) in
       record {
-    within = omega arith;
+    along = omega arith;
     few = omega (arith, C .few, weight-range (getD k i 0));
     rest = omega (arith, m, share-same (getD k i 0) (drop (i + 1) k) (drop (i + 1) l));
   }

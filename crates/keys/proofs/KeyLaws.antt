@@ -2,7 +2,7 @@
 -- nothing.
 use Prim.Native.Nat.{ℕ, zero, suc, _+_, _-_, _<_, _≤_}
 use mathlib.Core.Path.{_≡_, refl, _∙_, ap, sym}
-use mathlib.Core.List.{List, [], _∷_, _++_}
+use mathlib.Core.List.{List, [], _∷_, _++_, append-nil}
 use mathlib.Core.Bool.{Bool, true, false, not}
 use native.Mathlib.Omega.{arith}
 use native.Mathlib.Numerals.{add-one}
@@ -12,14 +12,15 @@ use borrow.Author.Tests.{eq-eqb, ne-eqb, lt-ltb, le-ltb}
 use Rattle.pieces.specs.Decides.{Decides}
 use Rattle.pieces.specs.Range.{Clean, Alike}
 use Rattle.pieces.proofs.DecideLaws.{handed}
-use Rattle.model.specs.Strings.{shared, hasZero}
+use Rattle.model.specs.Strings.{shared, hasZero, All}
 use Rattle.model.specs.Edition.{edition1, edition2, editionOf, escaped}
 use Rattle.model.specs.Body.{Text}
 use Rattle.moves.specs.Pasted.{Pasted}
-use Rattle.keys.specs.Word.{Spelt}
-use Rattle.keys.proofs.EscapeLaws.{one-set}
-use Rattle.model.proofs.StringLaws.{eqb-cases}
-use Rattle.model.proofs.Edition1.{zero-free, free-zero, positive-at, at-positive, walked-at}
+use Rattle.keys.specs.Word.{Spelt, Spells}
+use Rattle.keys.proofs.EscapeLaws.{one-set, escaped-apart}
+use Rattle.model.proofs.StringLaws.{eqb-cases, all-right}
+use Rattle.model.proofs.WellLaws.{Inside}
+use Rattle.model.proofs.Edition1.{Positive, zero-free, free-zero, positive-at, at-positive, walked-at, inside1}
 
 -- ---- the walked string
 
@@ -140,6 +141,17 @@ module _ (x y : List ℕ) (c m n : ℕ) where
   pub share-right : length y ≤ n → c + shared (drop m x) (drop n y) ≡ c
   share-right h = rw (drop-past y n h, shared-nil (drop m x)) (omega arith)
 
+-- bytes other than 0 are shared with a key as with its walked string
+shared-past : (p x : List ℕ) → All Positive p → shared p x ≡ shared p (x ++ 0 ∷ [])
+shared-past [] x h = refl
+shared-past (a ∷ p) [] h = rw (ne-eqb a 0 (λ e. omega (arith, h .0))) refl
+shared-past (a ∷ p) (b ∷ x) h = eqb-cases a b (λ t q. rw t (ap suc (shared-past p x (h .1)))) (λ t n. rw t refl)
+
+shared-end : (p k : List ℕ) (d : ℕ) → All Positive p → shared p (drop d k) ≡ shared p (drop d (k ++ 0 ∷ []))
+shared-end p k zero h = shared-past p k h
+shared-end p [] (suc d) h = rw (drop-past [] d (omega arith)) refl
+shared-end p (b ∷ k) (suc d) h = shared-end p k d h
+
 -- ---- what the two editions make of it
 
 module _ (n : ℕ) where
@@ -179,3 +191,41 @@ module _ (n : ℕ) where
     long = sym (walked-length k);
     text = one-set g (length k) 0 h ∙ ap (λ x. x ++ 0 ∷ []) all;
   })
+
+-- ---- a way that goes on inside
+
+-- whatever the key, its walked string does not end where another's goes on
+module _ (ed : ℕ) where
+  two-ends : (k path : List ℕ) → ed ≡ 2 → Inside (editionOf ed) path → editionOf ed .walked k ≡ path → ⊥
+  two-ends k path e I q =
+      let w = rw (of-two ed e) at (I .word) in
+      let z = rw (of-two ed e) at q in
+      let same = escaped-apart k (I .key) (I .byte ∷ I .rest) (w ∙ rw z) in
+      let n : length (escaped (I .key)) ≡ length path + length (I .byte ∷ I .rest) = ap length w ∙ length-append path (I .byte ∷ I .rest) in
+      let m : length (escaped (I .key)) ≡ length path = ap (λ x. length (escaped x)) (sym same) ∙ ap length z in
+      omega (arith, n, m)
+
+  pub path-positive : (path : List ℕ) → (ed ≡ 2 → ⊥) → Inside (editionOf ed) path → All Positive path
+  path-positive path e I = inside1 path (rw (of-other ed e) at I) .chars
+
+  other-ends : (k path : List ℕ) → (ed ≡ 2 → ⊥) → Inside (editionOf ed) path → editionOf ed .walked k ≡ path → ⊥
+  other-ends k path e I q =
+      let z = rw (of-other ed e) at q in
+      omega (arith, all-right Positive k (0 ∷ []) (rw z (path-positive path e I)) .0)
+
+  pub goes-on : (k path rest : List ℕ) → Inside (editionOf ed) path → editionOf ed .walked k ≡ path ++ rest → (b : ℕ) × (after : List ℕ) × (rest ≡ b ∷ after)
+  goes-on k path [] I q =
+      let z = q ∙ append-nil path in
+      eqb-cases ed 2 (λ t e. absurd (two-ends k path e I z)) (λ t e. absurd (other-ends k path e I z))
+  goes-on k path (b ∷ after) I q = (b, after, refl)
+
+  -- what is read in the place of the walked string
+  pub spells-at : (k w : List ℕ) (d : ℕ) → Spells ed k w → getD w d 0 ≡ getD (editionOf ed .walked k) d 0
+  spells-at k w d S = eqb-cases ed 2
+      (λ t e. rw (S .second e) refl)
+      (λ t e. rw (of-other ed e, S .first e) (sym (walked-at k d)))
+
+  pub spells-shared : (p k w : List ℕ) (d : ℕ) → Spells ed k w → ((ed ≡ 2 → ⊥) → All Positive p) → shared p (drop d w) ≡ shared p (drop d (editionOf ed .walked k))
+  spells-shared p k w d S P = eqb-cases ed 2
+      (λ t e. rw (S .second e) refl)
+      (λ t e. rw (of-other ed e, S .first e) (shared-end p k d (P e)))

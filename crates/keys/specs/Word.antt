@@ -3,6 +3,7 @@ use Prim.Native.Nat.{ℕ, zero, suc}
 use mathlib.Core.Path.{_≡_}
 use mathlib.Core.List.{List}
 use lib.ListN.{length, take}
+use Rattle.model.specs.Edition.{editionOf}
 
 -- the first n bytes of g are the string w
 pub record Spelt (w g : List ℕ) (n : ℕ) : Type 0 where
@@ -13,3 +14,8 @@ pub record Spelt (w g : List ℕ) (n : ℕ) : Type 0 where
 abbrev pub weightOf : ℕ → ℕ
 weightOf zero = 2
 weightOf (suc b) = 1
+
+-- w is what a descent by the key k reads: in edition 2 the walked string, in edition 1 the key, behind which a byte 0 is read
+pub record Spells (ed : ℕ) (k w : List ℕ) : Type 0 where
+  pub second : ed ≡ 2 → w ≡ editionOf ed .walked k
+  pub first : (ed ≡ 2 → ⊥) → w ≡ k

@@ -144,7 +144,7 @@ pub fn matched(p: &[u8], word: &[u8], d: usize) -> usize
 
 // How many bytes the walked strings of two keys share in edition 2.
 fn shared_escaped(key: &[u8], other: &[u8]) -> usize
-    requires { ⌜ (length (now key) < 65536) × (length (now other) < 65536) ⌝ }
+    requires { ⌜ length (now other) < 65536 ⌝ }
     ensures { λ r. ⌜ r ≡ shared (escaped (now (key .entry))) (escaped (now (other .entry))) ⌝ }
 {
     let mut i = 0;
@@ -186,7 +186,7 @@ fn shared_plain(key: &[u8], other: &[u8], d: usize) -> usize
 
 // How many walked bytes two keys share from depth d on, up to which they share all.
 pub fn shared_from(key: &[u8], other: &[u8], d: usize, edition: usize) -> usize
-    requires { ⌜ (length (now key) < 65536) × (length (now other) < 65536) × (d ≤ shared (editionOf edition .walked (now key)) (editionOf edition .walked (now other))) ⌝ }
+    requires { ⌜ (length (now other) < 65536) × (d ≤ shared (editionOf edition .walked (now key)) (editionOf edition .walked (now other))) ⌝ }
     ensures { λ r. ⌜ r ≡ shared (drop d (editionOf edition .walked (now (key .entry)))) (drop d (editionOf edition .walked (now (other .entry)))) ⌝ }
 {
     if edition == SECOND {

@@ -24,7 +24,7 @@ weight-requires : tie.Need-weight-requires Inv-loop μ-loop
 weight-requires c κs = search needs
 
 add-result : tie.Need-add-result Inv-loop μ-loop
-add-result c = let l = c .before .before .before .before .loop in let few = l .inv .few in omega arith
+add-result c = let l = c .before .before .before .before .loop in let few = l .inv .few in let along = l .inv .along in omega arith
 
 sub-result : tie.Need-sub-result Inv-loop μ-loop
 sub-result c = let w = c .weight .ensures .1 in omega arith
@@ -42,7 +42,7 @@ weight-requires-2 : tie.Need-weight-requires-2 Inv-loop μ-loop
 weight-requires-2 c κs = search needs
 
 add-n : tie.Need-add-n Inv-loop μ-loop
-add-n c = let l = c .before .before .before .before .before .before .loop in let few = l .inv .few in omega arith
+add-n c = let l = c .before .before .before .before .before .before .loop in let few = l .inv .few in let along = l .inv .along in omega arith
 
 add-i : tie.Need-add-i Inv-loop μ-loop
 add-i c = search needs
@@ -54,7 +54,7 @@ loop-again : tie.Need-loop-again Inv-loop μ-loop
 loop-again c = let l = c .before .before .before .before .before .before .loop in let w = c .weight2 .ensures .0 in rw w (common-more _ _ _ _ (l .inv) (omega arith) (omega arith) (c .before .if2 .left))
 
 add-result-2 : tie.Need-add-result-2 Inv-loop μ-loop
-add-result-2 c = let l = c .before .before .loop in let few = l .inv .few in let in-key = l .inv .within in omega arith
+add-result-2 c = let l = c .before .before .loop in let few = l .inv .few in let along = l .inv .along in omega arith
 
 returns-3 : tie.Need-returns-3 Inv-loop μ-loop
 returns-3 c = let l = c .before .before .loop in common-both _ _ _ _ (l .inv) (omega arith) (omega arith)
@@ -66,7 +66,7 @@ weight-requires-3 : tie.Need-weight-requires-3 Inv-loop μ-loop
 weight-requires-3 c κs = search needs
 
 add-result-3 : tie.Need-add-result-3 Inv-loop μ-loop
-add-result-3 c = let l = c .before .before .before .before .loop in let few = l .inv .few in let in-key = l .inv .within in omega arith
+add-result-3 c = let l = c .before .before .before .before .loop in let few = l .inv .few in let along = l .inv .along in omega arith
 
 sub-result-2 : tie.Need-sub-result-2 Inv-loop μ-loop
 sub-result-2 c = let w = c .weight3 .ensures .1 in omega arith

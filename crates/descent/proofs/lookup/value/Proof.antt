@@ -22,7 +22,7 @@ part-result-end : tie.Need-part-result-end
 part-result-end c = let z = c .before .before .before .before .before .pre in omega (arith, c .before .before .find .ensures (z .st) (z .stands) .inside (c .before .if1 .taken))
 
 returns : tie.Need-returns
-returns c = λ st W. value-part (c .before .before .before .find .ensures st W) _ (c .before .before .if1 .taken)
+returns c = λ st W. value-part _ (c .before .before .before .find .ensures st W) _ (c .before .before .if1 .taken)
 
 sub-result-2 : tie.Need-sub-result-2
 sub-result-2 c = search needs
@@ -34,7 +34,7 @@ part-result-end-2 : tie.Need-part-result-end-2
 part-result-end-2 c = search needs
 
 returns-2 : tie.Need-returns-2
-returns-2 c = λ st W. value-none (c .before .before .find .ensures st W) _ (c .before .if1 .left) refl refl
+returns-2 c = λ st W. value-none _ (c .before .before .find .ensures st W) _ (c .before .if1 .left) refl refl
 
 pub value-spec : {M : Type 1} → statement M
 value-spec =

@@ -12,19 +12,19 @@ length-requires : tie.Need-length-requires
 length-requires c κs = search needs
 
 bytes-requires : tie.Need-bytes-requires
-bytes-requires c κs = prefix-few (c .before .before .before .pre) (c .length .result) (c .length .ensures .0)
+bytes-requires c κs = prefix-few _ (c .before .before .before .pre) (c .length .result) (c .length .ensures .0)
 
 matched-requires : tie.Need-matched-requires
 matched-requires c κs =
     let z = c .before .before .before .before in
     let n = c .before .length in
-    omega (arith, z .pre .short, ap length (c .bytes .ensures ∙ prefix-part (z .pre) (n .result) (n .ensures .0)))
+    omega (arith, z .pre .short, ap length (c .bytes .ensures ∙ prefix-part _ (z .pre) (n .result) (n .ensures .0)))
 
 ended-requires : tie.Need-ended-requires
 ended-requires c κs = search needs
 
 returns : tie.Need-returns
-returns c = let z = c .before .before .before .before .before .before .before in let n = c .before .before .before .before .length in let q = c .before .before .matched in let B = c .before .before .before .bytes in let p = B .ensures ∙ prefix-part (z .pre) (n .result) (n .ensures .0) in rw (c .ended .ensures) (prefix-parted (z .pre) (q .result) (n .result) (rw p at (q .ensures)) (n .ensures .0 ∙ z .pre .at .long) (c .before .if1 .taken))
+returns c = let z = c .before .before .before .before .before .before .before in let n = c .before .before .before .before .length in let q = c .before .before .matched in let B = c .before .before .before .bytes in let p = B .ensures ∙ prefix-part _ (z .pre) (n .result) (n .ensures .0) in rw (c .ended .ensures) (prefix-parted _ (z .pre) (q .result) (n .result) (rw p at (q .ensures)) (n .ensures .0 ∙ z .pre .at .long) (c .before .if1 .taken))
 
 child-requires : tie.Need-child-requires
 child-requires c κs = search needs
@@ -33,7 +33,7 @@ below-prefix-requires : tie.Need-below-prefix-requires
 below-prefix-requires c κs = search needs
 
 returns-2 : tie.Need-returns-2
-returns-2 c = let z = c .before .before .before .before .before .before .before .before in let n = c .before .before .before .before .before .length in let q = c .before .before .before .matched in let B = c .before .before .before .before .bytes in let h = c .before .child in let p = B .ensures ∙ prefix-part (z .pre) (n .result) (n .ensures .0) in rw (c .below-prefix .ensures) (prefix-below (z .pre) (q .result) (n .result) (rw p at (q .ensures)) (n .ensures .0 ∙ z .pre .at .long) (h .result) (c .before .before .if1 .left) (h .ensures .0 ∙ z .pre .at .child))
+returns-2 c = let z = c .before .before .before .before .before .before .before .before in let n = c .before .before .before .before .before .length in let q = c .before .before .before .matched in let B = c .before .before .before .before .bytes in let h = c .before .child in let p = B .ensures ∙ prefix-part _ (z .pre) (n .result) (n .ensures .0) in rw (c .below-prefix .ensures) (prefix-below _ (z .pre) (q .result) (n .result) (rw p at (q .ensures)) (n .ensures .0 ∙ z .pre .at .long) (h .result) (c .before .before .if1 .left) (h .ensures .0 ∙ z .pre .at .child))
 
 pub at-prefix-spec : {M : Type 1} → statement M
 at-prefix-spec =
