@@ -15,43 +15,34 @@ Inv-loop f₀ row keep have i₀ f i = (keep ≤ i) × (i ≤ have) × (length f
 abbrev μ-loop : tie.MeasureT-loop
 μ-loop f₀ row keep have i₀ f i = i
 
--- src/lib.rt:74:5
 loop-holds : tie.Need-loop-holds Inv-loop μ-loop
 loop-holds c =
     (omega arith, omega arith, refl, freed-start _ _ _)
 
--- src/lib.rt:75:9
 sub-i : tie.Need-sub-i Inv-loop μ-loop
 sub-i c = search needs
 
--- src/lib.rt:76:26
 mul-release : tie.Need-mul-release Inv-loop μ-loop
 mul-release c = search needs
 
--- src/lib.rt:76:26
 shared-slice-read-release : tie.Need-shared-slice-read-release Inv-loop μ-loop
 shared-slice-read-release c = search needs
 
--- src/lib.rt:76:9
 release-requires : tie.Need-release-requires Inv-loop μ-loop
 release-requires c κs =
     freed-frees (c .before .before .before .loop .inv .3) (omega arith) (c .before .before .before .before .before .before .pre .0)
 
--- src/lib.rt:74:5
 loop-less : tie.Need-loop-less Inv-loop μ-loop
 loop-less c = search needs
 
--- src/lib.rt:74:5
 loop-again : tie.Need-loop-again Inv-loop μ-loop
 loop-again c =
     let v = c .before .before .before .before .before .before .loop .inv in
     (omega arith, omega arith, search needs, freed-step (v .3) (omega arith) (c .before .before .release .ensures))
 
--- src/lib.rt:69:1
 same-length : tie.Need-same-length Inv-loop μ-loop
 same-length c = search needs
 
--- src/lib.rt:69:1
 returns : tie.Need-returns Inv-loop μ-loop
 returns c =
     let v = c .before .loop .inv in freed-end (v .3) (omega arith)

@@ -16,27 +16,22 @@ Inv-loop f slot row₀ have bytes₀ long s₀ count₀ n₀ row bytes s count n
 abbrev μ-loop : tie.MeasureT-loop
 μ-loop f slot row₀ have bytes₀ long s₀ count₀ n₀ row bytes s count n = length bytes₀ - n
 
--- src/lib.rt:95:5
 loop-holds : tie.Need-loop-holds Inv-loop μ-loop
 loop-holds c =
     let z = c .before .before .before .pre in
     (omega (arith, z .bytesFit), refl, refl, read-start _ _ _ _ _ _)
 
--- src/lib.rt:96:13
 read-requires : tie.Need-read-requires Inv-loop μ-loop
 read-requires c κs =
     let v = c .loop .inv in
     read-slot (v .3) (c .before .before .before .before .pre)
 
--- src/lib.rt:98:13
 same-length : tie.Need-same-length Inv-loop μ-loop
 same-length c = search needs
 
--- src/lib.rt:98:13
 same-length-2 : tie.Need-same-length-2 Inv-loop μ-loop
 same-length-2 c = search needs
 
--- src/lib.rt:98:13
 returns : tie.Need-returns Inv-loop μ-loop
 returns c =
     let v = c .before .before .before .loop .inv in
@@ -44,7 +39,6 @@ returns c =
     let e = c .before .before .read .ensures in
     (v .3, λ q. omega (arith, e .0))
 
--- src/lib.rt:104:18
 add-at : tie.Need-add-at Inv-loop μ-loop
 add-at c =
     let v = c .before .before .before .before .loop .inv in
@@ -52,7 +46,6 @@ add-at c =
     let e = c .before .before .before .read .ensures in
     omega (arith, e .1, read-room (v .3) z (omega (arith, e .0)))
 
--- src/lib.rt:105:13
 length-requires : tie.Need-length-requires Inv-loop μ-loop
 length-requires c κs =
     let v = c .before .before .before .before .loop .inv in
@@ -60,7 +53,6 @@ length-requires c κs =
     let e = c .before .before .before .read .ensures in
     omega (arith, e .1, read-room (v .3) z (omega (arith, e .0)))
 
--- src/lib.rt:106:18
 add-to : tie.Need-add-to Inv-loop μ-loop
 add-to c =
     let v = c .before .before .before .before .before .loop .inv in
@@ -68,15 +60,12 @@ add-to c =
     let e = c .before .before .before .before .read .ensures in
     omega (arith, e .1, read-room (v .3) z (omega (arith, e .0)))
 
--- src/lib.rt:107:31
 sub-paste : tie.Need-sub-paste Inv-loop μ-loop
 sub-paste c = search needs
 
--- src/lib.rt:107:31
 part-paste-start : tie.Need-part-paste-start Inv-loop μ-loop
 part-paste-start c = search needs
 
--- src/lib.rt:107:31
 part-paste-end : tie.Need-part-paste-end Inv-loop μ-loop
 part-paste-end c =
     let v = c .before .before .before .before .before .before .loop .inv in
@@ -85,7 +74,6 @@ part-paste-end c =
     let p = read-piece (v .3) z (omega (arith, e .0)) (e .1) (c .before .length .ensures .0) in
     omega arith
 
--- src/lib.rt:107:9
 paste-requires : tie.Need-paste-requires Inv-loop μ-loop
 paste-requires c κs =
     let v = c .before .before .before .before .before .before .before .loop .inv in
@@ -94,7 +82,6 @@ paste-requires c κs =
     let p = read-piece (v .3) z (omega (arith, e .0)) (e .1) (c .before .before .length .ensures .0) in
     part-fits _ _ _ _ _ _ (p .3) (v .1)
 
--- src/lib.rt:108:9
 mul-row : tie.Need-mul-row Inv-loop μ-loop
 mul-row c =
     let v = c .before .before .before .before .before .before .before .before .before .before .loop .inv in
@@ -103,7 +90,6 @@ mul-row c =
     let p = read-piece (v .3) z (omega (arith, e .0)) (e .1) (c .before .before .before .before .before .length .ensures .0) in
     let w = z .low in omega (arith, p .4)
 
--- src/lib.rt:108:9
 slice-write-row : tie.Need-slice-write-row Inv-loop μ-loop
 slice-write-row c =
     let v = c .before .before .before .before .before .before .before .before .before .before .loop .inv in
@@ -112,7 +98,6 @@ slice-write-row c =
     let p = read-piece (v .3) z (omega (arith, e .0)) (e .1) (c .before .before .before .before .before .length .ensures .0) in
     omega (arith, p .4)
 
--- src/lib.rt:109:9
 child-requires : tie.Need-child-requires Inv-loop μ-loop
 child-requires c κs =
     let v = c .before .before .before .before .before .before .before .before .before .before .loop .inv in
@@ -120,7 +105,6 @@ child-requires c κs =
     let e = c .before .before .before .before .before .before .before .before .before .read .ensures in
     omega (arith, e .1, read-room (v .3) z (omega (arith, e .0)))
 
--- src/lib.rt:110:9
 add-count : tie.Need-add-count Inv-loop μ-loop
 add-count c =
     let v = c .before .before .before .before .before .before .before .before .before .before .before .loop .inv in
@@ -129,7 +113,6 @@ add-count c =
     let p = read-piece (v .3) z (omega (arith, e .0)) (e .1) (c .before .before .before .before .before .before .length .ensures .0) in
     let w = z .low in omega (arith, p .4)
 
--- src/lib.rt:111:9
 add-n : tie.Need-add-n Inv-loop μ-loop
 add-n c =
     let v = c .before .before .before .before .before .before .before .before .before .before .before .loop .inv in
@@ -138,7 +121,6 @@ add-n c =
     let p = read-piece (v .3) z (omega (arith, e .0)) (e .1) (c .before .before .before .before .before .before .length .ensures .0) in
     let w = z .short in omega (arith, p .3)
 
--- src/lib.rt:95:5
 loop-less : tie.Need-loop-less Inv-loop μ-loop
 loop-less c =
     let v = c .before .before .before .before .before .before .before .before .before .before .before .loop .inv in
@@ -147,7 +129,6 @@ loop-less c =
     let p = read-piece (v .3) z (omega (arith, e .0)) (e .1) (c .before .before .before .before .before .before .length .ensures .0) in
     omega (arith, p .3, p .1)
 
--- src/lib.rt:95:5
 loop-again : tie.Need-loop-again Inv-loop μ-loop
 loop-again c =
     let v = c .before .before .before .before .before .before .before .before .before .before .before .loop .inv in

@@ -16,34 +16,27 @@ Inv-loop f₀ row₀ have need i₀ f row i =
 abbrev μ-loop : tie.MeasureT-loop
 μ-loop f₀ row₀ have need i₀ f row i = need - i
 
--- src/lib.rt:61:5
 loop-holds : tie.Need-loop-holds Inv-loop μ-loop
 loop-holds c =
     (omega arith, omega arith, refl, refl, taken-start _ _ _ _ _ refl)
 
--- src/lib.rt:62:13
 take-requires : tie.Need-take-requires Inv-loop μ-loop
 take-requires c κs =
     let v = c .before .before .loop .inv in
     taken-takes (omega arith) (omega arith) (v .4) (c .before .before .before .before .before .pre)
 
--- src/lib.rt:63:9
 mul-row : tie.Need-mul-row Inv-loop μ-loop
 mul-row c = search needs
 
--- src/lib.rt:63:9
 slice-write-row : tie.Need-slice-write-row Inv-loop μ-loop
 slice-write-row c = search needs
 
--- src/lib.rt:64:9
 add-i : tie.Need-add-i Inv-loop μ-loop
 add-i c = search needs
 
--- src/lib.rt:61:5
 loop-less : tie.Need-loop-less Inv-loop μ-loop
 loop-less c = search needs
 
--- src/lib.rt:61:5
 loop-again : tie.Need-loop-again Inv-loop μ-loop
 loop-again c =
     let l = c .before .before .before .before .before in
@@ -51,15 +44,12 @@ loop-again c =
     let z = c .before .before .before .before .before .before .before .before .pre in
     (omega arith, omega arith, search needs, search needs, taken-step (omega arith) (omega arith) (v .4) (omega (arith, z .long)) (c .before .before .take .ensures))
 
--- src/lib.rt:56:1
 same-length : tie.Need-same-length Inv-loop μ-loop
 same-length c = search needs
 
--- src/lib.rt:56:1
 same-length-2 : tie.Need-same-length-2 Inv-loop μ-loop
 same-length-2 c = search needs
 
--- src/lib.rt:56:1
 returns : tie.Need-returns Inv-loop μ-loop
 returns c =
     let v = c .before .loop .inv in

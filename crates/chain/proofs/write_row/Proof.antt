@@ -16,33 +16,26 @@ Inv-loop f₀ row bytes child to₀ i₀ below₀ f to i below =
 abbrev μ-loop : tie.MeasureT-loop
 μ-loop f₀ row bytes child to₀ i₀ below₀ f to i below = i
 
--- src/lib.rt:41:9
 bodies-of-requires : tie.Need-bodies-of-requires Inv-loop μ-loop
 bodies-of-requires c κs = search needs
 
--- src/lib.rt:43:5
 loop-holds : tie.Need-loop-holds Inv-loop μ-loop
 loop-holds c =
     let e = c .bodies-of .ensures in
     (omega arith, omega arith, omega arith, λ l. absurd (omega arith), omega arith, refl, row-start _ _ _ _ _ _ (c .bodies-of .ensures) refl)
 
--- src/lib.rt:44:9
 sub-i : tie.Need-sub-i Inv-loop μ-loop
 sub-i c = search needs
 
--- src/lib.rt:45:20
 mul-from : tie.Need-mul-from Inv-loop μ-loop
 mul-from c = search needs
 
--- src/lib.rt:46:17
 mul-s : tie.Need-mul-s Inv-loop μ-loop
 mul-s c = search needs
 
--- src/lib.rt:46:17
 shared-slice-read-s : tie.Need-shared-slice-read-s Inv-loop μ-loop
 shared-slice-read-s c = search needs
 
--- src/lib.rt:47:13
 read-requires : tie.Need-read-requires Inv-loop μ-loop
 read-requires c κs =
     let l = c .before .before .before in
@@ -50,19 +43,15 @@ read-requires c κs =
     let S = row-seat (l .loop .inv .6) (omega arith) (z .pre) in
     (S .0, S .1)
 
--- src/lib.rt:48:44
 sub-write : tie.Need-sub-write Inv-loop μ-loop
 sub-write c = search needs
 
--- src/lib.rt:48:44
 part-write-start : tie.Need-part-write-start Inv-loop μ-loop
 part-write-start c = search needs
 
--- src/lib.rt:48:44
 part-write-end : tie.Need-part-write-end Inv-loop μ-loop
 part-write-end c = search needs
 
--- src/lib.rt:48:9
 write-requires : tie.Need-write-requires Inv-loop μ-loop
 write-requires c κs =
     let l = c .before .before .before .before .before .before in
@@ -70,11 +59,9 @@ write-requires c κs =
     let v = l .loop .inv in
     row-fits (v .6) (omega arith) (omega arith) (omega arith) (omega arith) (z .pre) (c .before .before .read .ensures .1) (omega arith)
 
--- src/lib.rt:43:5
 loop-less : tie.Need-loop-less Inv-loop μ-loop
 loop-less c = search needs
 
--- src/lib.rt:43:5
 loop-again : tie.Need-loop-again Inv-loop μ-loop
 loop-again c =
     let l = c .before .before .before .before .before .before .before .before .before in
@@ -91,11 +78,9 @@ loop-again c =
       row-step (v .6) (omega arith) (omega arith) (omega arith) (omega arith) (v .3) (c .before .before .before .before .before .read .ensures .1) Y,
     )
 
--- src/lib.rt:36:1
 same-length : tie.Need-same-length Inv-loop μ-loop
 same-length c = search needs
 
--- src/lib.rt:36:1
 returns : tie.Need-returns Inv-loop μ-loop
 returns c =
     let v = c .before .loop .inv in

@@ -16,39 +16,32 @@ Inv-loop f₀ o slot at₀ s₀ left₀ f at s left = (length f ≡ length f₀)
 abbrev μ-loop : tie.MeasureT-loop
 μ-loop f₀ o slot at₀ s₀ left₀ f at s left = left
 
--- src/shift.rt:17:5
 loop-holds : tie.Need-loop-holds Inv-loop μ-loop
 loop-holds c =
     (refl, c .before .pre, λ g X. X)
 
--- src/shift.rt:18:13
 read-requires : tie.Need-read-requires Inv-loop μ-loop
 read-requires c κs =
     let v = c .before .loop .inv in
     fills-slot (v .1)
 
--- src/shift.rt:20:13
 same-length : tie.Need-same-length Inv-loop μ-loop
 same-length c = search needs
 
--- src/shift.rt:20:13
 returns : tie.Need-returns Inv-loop μ-loop
 returns c =
     let v = c .before .before .before .before .loop .inv in
     let e = c .before .before .read .ensures in
     v .2 _ (fill-other (λ z. omega (arith, e .0)))
 
--- src/shift.rt:22:13
 length-requires : tie.Need-length-requires Inv-loop μ-loop
 length-requires c κs =
     let v = c .before .before .before .before .before .loop .inv in
     fills-room (v .1)
 
--- src/shift.rt:24:13
 same-length-2 : tie.Need-same-length-2 Inv-loop μ-loop
 same-length-2 c = search needs
 
--- src/shift.rt:24:13
 returns-2 : tie.Need-returns-2 Inv-loop μ-loop
 returns-2 c =
     let v = c .before .before .before .before .before .before .before .loop .inv in
@@ -56,18 +49,15 @@ returns-2 c =
     let n = c .before .length .ensures .0 in
     v .2 _ (fill-full n (omega arith))
 
--- src/shift.rt:26:16
 length-requires-2 : tie.Need-length-requires-2 Inv-loop μ-loop
 length-requires-2 c κs =
     let v = c .before .before .before .before .before .before .before .before .loop .inv in
     let e = c .before .before .before .before .before .before .read .ensures in
     fills-low (v .1) (omega (arith, e .0)) (e .1)
 
--- src/shift.rt:26:12
 add-if3 : tie.Need-add-if3 Inv-loop μ-loop
 add-if3 c = search needs
 
--- src/shift.rt:27:13
 onto-requires : tie.Need-onto-requires Inv-loop μ-loop
 onto-requires c κs =
     let v = c .before .before .before .before .before .before .before .before .before .before .before .loop .inv in
@@ -76,7 +66,6 @@ onto-requires c κs =
     let m = c .before .before .length2 .ensures .0 in
     fills-joins (v .1) (omega (arith, e .0)) (e .1) n m (omega arith)
 
--- src/shift.rt:28:13
 release-requires : tie.Need-release-requires Inv-loop μ-loop
 release-requires c κs =
     let v = c .before .before .before .before .before .before .before .before .before .before .before .before .before .before .before .loop .inv in
@@ -85,11 +74,9 @@ release-requires c κs =
     let m = c .before .before .before .before .before .before .length2 .ensures .0 in
     fills-frees (v .1) (omega (arith, e .0)) (e .1) n m (omega arith) (c .before .before .before .onto .ensures)
 
--- src/shift.rt:29:13
 same-length-3 : tie.Need-same-length-3 Inv-loop μ-loop
 same-length-3 c = search needs
 
--- src/shift.rt:29:13
 returns-3 : tie.Need-returns-3 Inv-loop μ-loop
 returns-3 c =
     let v = c .before .before .before .before .before .before .before .before .before .before .before .before .before .before .before .before .before .before .loop .inv in
@@ -98,7 +85,6 @@ returns-3 c =
     let m = c .before .before .before .before .before .before .before .before .before .length2 .ensures .0 in
     v .2 _ (fill-onto (omega (arith, e .0)) (e .1) n m (omega arith) (c .before .before .before .before .before .before .onto .ensures) (c .before .before .release .ensures))
 
--- src/shift.rt:31:9
 draw-requires : tie.Need-draw-requires Inv-loop μ-loop
 draw-requires c κs =
     let v = c .before .before .before .before .before .before .before .before .before .before .before .loop .inv in
@@ -107,7 +93,6 @@ draw-requires c κs =
     let m = c .before .before .length2 .ensures .0 in
     fills-draws (v .1) (omega (arith, e .0)) (e .1) n m (omega arith)
 
--- src/shift.rt:33:9
 child-requires : tie.Need-child-requires Inv-loop μ-loop
 child-requires c κs =
     let v = c .before .before .before .before .before .before .before .before .before .before .before .before .before .before .before .loop .inv in
@@ -116,14 +101,12 @@ child-requires c κs =
     let m = c .before .before .before .before .before .before .length2 .ensures .0 in
     fills-room (fills-again (v .1) (omega (arith, e .0)) (e .1) n m (omega arith) (c .before .before .before .draw .ensures) refl refl)
 
--- src/shift.rt:34:9
 sub-left : tie.Need-sub-left Inv-loop μ-loop
 sub-left c =
     let v = c .before .before .before .before .before .before .before .before .before .before .before .before .before .before .before .before .loop .inv in
     let e = c .before .before .before .before .before .before .before .before .before .before .before .before .before .before .read .ensures in
     fills-left (v .1) (omega (arith, e .0)) (e .1)
 
--- src/shift.rt:17:5
 loop-less : tie.Need-loop-less Inv-loop μ-loop
 loop-less c =
     let v = c .before .before .before .before .before .before .before .before .before .before .before .before .before .before .before .before .loop .inv in
@@ -131,7 +114,6 @@ loop-less c =
     let z = fills-left (v .1) (omega (arith, e .0)) (e .1) in
     omega arith
 
--- src/shift.rt:17:5
 loop-again : tie.Need-loop-again Inv-loop μ-loop
 loop-again c =
     let v = c .before .before .before .before .before .before .before .before .before .before .before .before .before .before .before .before .loop .inv in

@@ -16,25 +16,21 @@ Inv-loop f₀ slot b at s₀ byte₀ name₀ left₀ f s byte name left = (lengt
 abbrev μ-loop : tie.MeasureT-loop
 μ-loop f₀ slot b at s₀ byte₀ name₀ left₀ f s byte name left = left
 
--- src/shift.rt:48:5
 loop-holds : tie.Need-loop-holds Inv-loop μ-loop
 loop-holds c =
     (refl, c .before .pre, λ g X. X)
 
--- src/shift.rt:49:13
 read-requires : tie.Need-read-requires Inv-loop μ-loop
 read-requires c κs =
     let v = c .before .loop .inv in
     pushes-slot (v .1)
 
--- src/shift.rt:51:17
 take-requires : tie.Need-take-requires Inv-loop μ-loop
 take-requires c κs =
     let v = c .before .before .before .before .before .loop .inv in
     let e = c .before .before .before .read .ensures in
     pushes-takes (v .1) (λ z. omega (arith, e .0))
 
--- src/shift.rt:52:17
 read-requires-2 : tie.Need-read-requires-2 Inv-loop μ-loop
 read-requires-2 c κs =
     let v = c .before .before .before .before .before .before .before .before .before .loop .inv in
@@ -42,7 +38,6 @@ read-requires-2 c κs =
     let t = c .before .before .before .take .ensures in
     pushes-entry (v .1) (λ z. omega (arith, e .0)) t
 
--- src/shift.rt:53:13
 fresh-requires : tie.Need-fresh-requires Inv-loop μ-loop
 fresh-requires c κs =
     let v = c .before .before .before .before .before .before .before .before .before .before .before .loop .inv in
@@ -51,7 +46,6 @@ fresh-requires c κs =
     let q = c .before .read2 .ensures .1 in
     pushes-fresh (v .1) (λ z. omega (arith, e .0)) t q
 
--- src/shift.rt:54:13
 relink-requires : tie.Need-relink-requires Inv-loop μ-loop
 relink-requires c κs =
     let v = c .before .before .before .before .before .before .before .before .before .before .before .before .before .before .before .loop .inv in
@@ -60,11 +54,9 @@ relink-requires c κs =
     let q = c .before .before .before .before .before .read2 .ensures .1 in
     pushes-named (v .1) (λ z. omega (arith, e .0)) t q (c .before .before .before .fresh .ensures)
 
--- src/shift.rt:55:13
 same-length : tie.Need-same-length Inv-loop μ-loop
 same-length c = search needs
 
--- src/shift.rt:55:13
 returns : tie.Need-returns Inv-loop μ-loop
 returns c =
     let v = c .before .before .before .before .before .before .before .before .before .before .before .before .before .before .before .before .before .before .loop .inv in
@@ -73,13 +65,11 @@ returns c =
     let q = c .before .before .before .before .before .before .before .before .read2 .ensures .1 in
     v .2 _ (push-node (λ z. omega (arith, e .0)) t q (c .before .before .before .before .before .before .fresh .ensures) (c .before .before .relink .ensures))
 
--- src/shift.rt:57:9
 relink-requires-2 : tie.Need-relink-requires-2 Inv-loop μ-loop
 relink-requires-2 c κs =
     let v = c .before .before .before .before .before .loop .inv in
     pushes-link (v .1)
 
--- src/shift.rt:58:12
 length-requires : tie.Need-length-requires Inv-loop μ-loop
 length-requires c κs =
     let v = c .before .before .before .before .before .before .before .before .before .loop .inv in
@@ -87,7 +77,6 @@ length-requires c κs =
     let g = c .before .before .before .relink2 .ensures in
     pushes-low (v .1) (omega (arith, e .0)) (e .1) g
 
--- src/shift.rt:59:13
 front-requires : tie.Need-front-requires Inv-loop μ-loop
 front-requires c κs =
     let v = c .before .before .before .before .before .before .before .before .before .before .before .before .loop .inv in
@@ -96,11 +85,9 @@ front-requires c κs =
     let n = c .before .before .length .ensures .0 in
     pushes-spare (v .1) (omega (arith, e .0)) (e .1) g n (omega arith)
 
--- src/shift.rt:60:13
 same-length-2 : tie.Need-same-length-2 Inv-loop μ-loop
 same-length-2 c = search needs
 
--- src/shift.rt:60:13
 returns-2 : tie.Need-returns-2 Inv-loop μ-loop
 returns-2 c =
     let v = c .before .before .before .before .before .before .before .before .before .before .before .before .before .before .before .loop .inv in
@@ -109,7 +96,6 @@ returns-2 c =
     let n = c .before .before .before .before .before .length .ensures .0 in
     v .2 _ (push-short (omega (arith, e .0)) (e .1) g n (omega arith) (c .before .before .front .ensures))
 
--- src/shift.rt:62:9
 turn-requires : tie.Need-turn-requires Inv-loop μ-loop
 turn-requires c κs =
     let v = c .before .before .before .before .before .before .before .before .before .before .before .before .loop .inv in
@@ -118,7 +104,6 @@ turn-requires c κs =
     let n = c .before .before .length .ensures .0 in
     pushes-full (v .1) (omega (arith, e .0)) (e .1) g n (omega arith)
 
--- src/shift.rt:63:16
 add-name : tie.Need-add-name Inv-loop μ-loop
 add-name c =
     let v = c .before .before .before .before .before .before .before .before .before .before .before .before .before .before .before .before .loop .inv in
@@ -127,7 +112,6 @@ add-name c =
     let z = pushes-low (v .1) (omega (arith, e .0)) (e .1) g in
     omega arith
 
--- src/shift.rt:64:9
 child-requires : tie.Need-child-requires Inv-loop μ-loop
 child-requires c κs =
     let v = c .before .before .before .before .before .before .before .before .before .before .before .before .before .before .before .before .before .loop .inv in
@@ -136,7 +120,6 @@ child-requires c κs =
     let z = pushes-low (v .1) (omega (arith, e .0)) (e .1) g in
     omega arith
 
--- src/shift.rt:65:9
 sub-left : tie.Need-sub-left Inv-loop μ-loop
 sub-left c =
     let v = c .before .before .before .before .before .before .before .before .before .before .before .before .before .before .before .before .before .before .loop .inv in
@@ -144,7 +127,6 @@ sub-left c =
     let g = c .before .before .before .before .before .before .before .before .before .before .before .before .relink2 .ensures in
     pushes-left (v .1) (omega (arith, e .0)) (e .1) g
 
--- src/shift.rt:48:5
 loop-less : tie.Need-loop-less Inv-loop μ-loop
 loop-less c =
     let v = c .before .before .before .before .before .before .before .before .before .before .before .before .before .before .before .before .before .before .loop .inv in
@@ -153,7 +135,6 @@ loop-less c =
     let z = pushes-left (v .1) (omega (arith, e .0)) (e .1) g in
     omega arith
 
--- src/shift.rt:48:5
 loop-again : tie.Need-loop-again Inv-loop μ-loop
 loop-again c =
     let v = c .before .before .before .before .before .before .before .before .before .before .before .before .before .before .before .before .before .before .loop .inv in
