@@ -1,5 +1,6 @@
 // The entry of a key: the key, or its text up to and including the first delimiter after the prefix; found from a bound on, and written.
 use fields::body::Leaf;
+use fields::body::Node;
 use layout::number;
 ghost use mathlib.Core.Path.{_≡_};
 ghost use mathlib.Core.Bool.{false};
@@ -17,9 +18,6 @@ ghost use Rattle.names.specs.Entry.{CutAt, OfKey, EntryFrom};
 const PAST_KEY: usize = 1;
 
 const PAST_GROUP: usize = 256;
-
-// as many bytes as there are
-const BYTES: usize = 256;
 
 // the bytes of the length before an entry
 pub const LENGTH_SIZE: usize = 2;
@@ -85,7 +83,7 @@ pub fn ending(key: &[u8], from: usize, delimiter: usize) -> Cut
     requires { ⌜ from ≤ length (now key) ⌝ }
     ensures { λ r. ⌜ CutAt (now (key .entry)) from (delimiterOf delimiter) r ⌝ }
 {
-    if delimiter < BYTES {
+    if delimiter < Node::BYTE_VALUES {
         return sought_ending(key, from, delimiter);
     }
     Cut {
