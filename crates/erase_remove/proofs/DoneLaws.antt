@@ -8,6 +8,7 @@ use mathlib.Core.Option.{some}
 use native.Mathlib.Omega.{arith}
 use lib.ListN.{length}
 use Rattle.layout.specs.Number.{Bytes}
+use Rattle.layout.specs.Kind.{Prefix}
 use Rattle.model.specs.Edition.{edition1}
 use Rattle.model.proofs.Edition1.{lawful1}
 use Rattle.model.proofs.StateLaws.{tree-some}
@@ -17,15 +18,16 @@ use Rattle.model.specs.Tree.Left.{kept}
 use Rattle.model.specs.State.{State, Done, done, room, after, eraseChange, callErase}
 use Rattle.model.specs.Item.{Item, extent, cover, leafy, sum}
 use Rattle.model.specs.Frame.{Lay, slotOf, art, items, Root, tree, rootArt, View, Stands}
-use Rattle.model.specs.Touch.{Touch, Outside, touchErase, eraseTouch, findAt, extentAt}
+use Rattle.model.specs.Touch.{Touch, Outside, touchErase, eraseTouch, findAt, extentAt, among}
 use Rattle.model.specs.Promise.{eraseKinds}
 use Rattle.model.specs.Mark.{marks}
 use Rattle.model.proofs.MarkLaws.{Stay}
 use Rattle.model.proofs.ChainLaws.{Hung}
+use Rattle.model.proofs.StringLaws.{clash}
 use Rattle.between.specs.Hole.{Step, plug, pathOf, artIn}
 use Rattle.between.specs.Work.{Work}
 use Rattle.between.specs.Lead.{Leads, NotLeaf, aboveOf}
-use Rattle.between.specs.Since.{Since, Accounts}
+use Rattle.between.specs.Since.{Since, Accounts, kindsOf}
 use Rattle.between.specs.Edit.{Booked}
 use Rattle.between.proofs.HoleLaws.{art-plug, plug-sum}
 use Rattle.between.proofs.LeadLaws.{hangs-in, hangs-over, plug-find}
@@ -68,7 +70,7 @@ module _ {f k : List ℕ} {s : State} (w : Stands edition1 f s) (xs : List Step)
     module _ {g : List ℕ} {h : View} {slot e n : ℕ} {takes rewrites frees : List Item} (notLeaf : NotLeaf t) (W : Work edition1 g h [] slot (([], plug xs lay) ∷ []) []) (es : slot ≡ slotOf (plug xs lay)) (bytes : Bytes g)
         (books : Booked (standsView w) h (c .takes) (c .frees) (c .extent) (c .dead) (w .nums .R - 1)) (fewer : sum leafy (items lay) + 1 ≡ sum leafy (items t))
         (was : extentAt (length k) (findAt edition1 (w .root) k) ≡ extent e n ∷ []) (Z : Since f (standsView w) g h takes rewrites (extent e n ∷ frees) []) (A : Accounts (w .root) (touchErase edition1 t (aboveOf xs) (length (pathOf xs)) k) (c .takes ++ c .frees) takes rewrites frees)
-        (St : Stay (touchErase edition1 t (aboveOf xs) (length (pathOf xs)) k .goes) (marks (pathOf xs) t) (marks (pathOf xs) lay)) where
+        (St : Stay (touchErase edition1 t (aboveOf xs) (length (pathOf xs)) k .goes) (marks (pathOf xs) t) (marks (pathOf xs) lay)) (plain : among Prefix (kindsOf takes) ≡ false) where
       records-is : s .R - 1 ≡ w .nums .R - 1
       records-is = ap (λ (z : State). z .R - 1) (w .state)
 
@@ -97,7 +99,7 @@ module _ {f k : List ℕ} {s : State} (w : Stands edition1 f s) (xs : List Step)
           let ks = c .takes ++ c .frees in
           let ek : eraseKinds edition1 (w .root) k ≡ ks = ap (λ (z : Root). eraseKinds edition1 z k) er ∙ ap (λ a. let x = eraseChange edition1 a k in x .takes ++ x .frees) (art-plug xs t) ∙ ap (λ (x : Change Left). x .takes ++ x .frees) change-is in
           let et : eraseTouch edition1 (w .root) k ≡ T = ap (λ (z : Root). eraseTouch edition1 z k) er ∙ plug-erase-touch L t notLeaf in
-          let O = outside-of (w .nums) (w .lists) (w .root) (tree (plug xs lay)) (extent e n ∷ []) tt Z (w .heap) (W .heap) (root-owns (plug xs lay) W) T ks A (stay-plug xs t lay St refl er) dies (λ a. (ap (sum (cover a)) (sym was), found-covers edition1 k (w .root) a)) false (λ z a p. absurd (let y : _≡_ {A = ℕ} 0 1 = cc in omega arith)) in
+          let O = outside-of (w .nums) (w .lists) (w .root) (tree (plug xs lay)) (extent e n ∷ []) tt Z (w .heap) (W .heap) (root-owns (plug xs lay) W) T ks A (stay-plug xs t lay St refl er) (λ q. clash (cc)) dies (λ a. (ap (sum (cover a)) (sym was), found-covers edition1 k (w .root) a)) false (λ z a p. absurd (let y : _≡_ {A = ℕ} 0 1 = cc in omega arith)) in
           let O1 = subst (λ (z : Touch). Outside f g (w .root) (tree (plug xs lay)) (w .lists) (h .lists) ks z [] dies false) (sym et) O in
           subst (λ (z : List ℕ). Outside f g (w .root) (tree (plug xs lay)) (w .lists) (h .lists) z (eraseTouch edition1 (w .root) k) [] dies false) (sym ek) O1
 

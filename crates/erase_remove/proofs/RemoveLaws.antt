@@ -15,8 +15,8 @@ use Rattle.model.specs.State.{State, callErase}
 use Rattle.model.specs.Item.{Item, body, cover, leafy}
 use Rattle.model.specs.Frame.{Lay, LayKids, art, pairs, View, Stands}
 use Rattle.model.specs.Frame.Lay.{leaf, node}
+use Rattle.model.specs.Mark.{is}
 use Rattle.model.specs.Touch.{Touch, touch, touchErase}
-use Rattle.model.specs.Freedom.{is}
 use Rattle.model.proofs.ItemLaws.{sum-cons}
 use Rattle.model.proofs.MarkLaws.{node-marks, is-gone, stay-more}
 use Rattle.inner.specs.Inner.{Removed}
@@ -159,4 +159,4 @@ module _ {f k : List ℕ} {p : Spot} (P : Stays f k p) (s : State) (w : Stands e
             node-marks (is x) (path (P .erase) s w) n o kind rest,
             left-marks (P .erase) s w (is x) (path (P .erase) s w),
             is-gone x (p .here .slot ∷ []) (p .here .slot) Leaf k k (rw touched at z) (among-here (p .here .slot) []),
-          )))
+          ))) refl

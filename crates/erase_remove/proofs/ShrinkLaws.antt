@@ -10,7 +10,7 @@ use native.Mathlib.Decide.{decLt}
 use lib.ListN.{length}
 use Rattle.layout.specs.Number.{Bytes, put}
 use Rattle.layout.specs.Place.{atRoot, entryAt}
-use Rattle.layout.specs.Kind.{Leaf, bodySize, Kind, fewest, most, shrinkMark, kindDown}
+use Rattle.layout.specs.Kind.{Leaf, bodySize, Kind, fewest, most, shrinkMark, kindDown, Prefix}
 use Rattle.layout.specs.Entry.{placeOf}
 use Rattle.layout.proofs.KindLaws.{size-least, shrunk-enough, shrunk-fits}
 use Rattle.model.specs.Edition.{edition1}
@@ -22,8 +22,8 @@ use Rattle.model.specs.Frame.{Lay, LayKids, slotOf, art, items, itemsAll, pairs
 use Rattle.model.specs.Frame.Lay.{leaf, prefix, node}
 use Rattle.model.specs.Frame.LayKids.{nil, kid}
 use Rattle.model.specs.Touch as model
+use Rattle.model.specs.Mark.{is}
 use Rattle.model.specs.Touch.{Touch, touch, touchErase}
-use Rattle.model.specs.Freedom.{is}
 use Rattle.model.proofs.ItemLaws.{in-yes, sum-app, sum-cons}
 use Rattle.model.proofs.StandsGood.{leafy-other}
 use Rattle.model.proofs.MarkLaws.{node-marks, is-gone, stay-more}
@@ -51,7 +51,7 @@ use Rattle.between.proofs.EditLaws.{removed, carried-node}
 use Rattle.between.proofs.EraseLaws.{less-shrinks, lost-shrinks}
 use Rattle.between.proofs.BookedLaws.{room-of, booked-row, booked-root, booked-free, booked-as, tally-turn}
 use Rattle.between.proofs.SinceLaws.{since-start, since-take, since-write, since-also, since-link, since-free}
-use Rattle.between.proofs.OutsideLaws.{among-here, among-there, slots-later, slots-app, holder-slots, holder-sum, next-above}
+use Rattle.between.proofs.OutsideLaws.{among-here, among-there, slots-later, slots-app, holder-slots, holder-sum, next-above, among-not}
 use Rattle.between.proofs.StayLaws.{carried-marks}
 use Rattle.descent.specs.declared.spot.Spot.{Spot}
 use Rattle.erase_remove.specs.Leaf.{Drops, Dropped}
@@ -388,4 +388,4 @@ module _ {f k : List ℕ} {p : Spot} (P : Falls f k p) (s : State) (w : Stands e
                       left-marks (P .erase) s w (is x) way,
                       is-gone x (l ∷ n ∷ []) l Leaf k k (rw touched at z) (among-here l (n ∷ [])),
                       is-gone x (l ∷ n ∷ []) n kind way way (rw touched at z) (among-there n l (n ∷ []) (among-here n [])),
-                    )))
+                    ))) (let d = down in among-not Prefix kd [] (λ z. omega arith))

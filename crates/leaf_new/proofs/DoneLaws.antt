@@ -3,22 +3,23 @@
 use Prim.Native.Nat.{ℕ, _+_, _≤_}
 use mathlib.Core.Path.{_≡_, refl, sym, ap, subst, _∙_}
 use mathlib.Core.List.{List, [], _∷_, _++_}
-use mathlib.Core.Bool.{true}
+use mathlib.Core.Bool.{true, false}
 use mathlib.Core.Option.{Option, some}
 use native.Mathlib.Omega.{arith}
 use lib.ListN.{length}
 use lib.Dec.{ltb}
 use Rattle.layout.specs.Number.{Bytes}
-use Rattle.layout.specs.Kind.{Leaf}
+use Rattle.layout.specs.Kind.{Leaf, Prefix}
 use Rattle.model.specs.Strings.{pick}
 use Rattle.model.specs.Edition.{edition1}
 use Rattle.model.specs.Tree.{Art, Change, over, extentOf, newKey, putTree}
 use Rattle.model.specs.State.{State, putIn, putChange, room, after, done}
 use Rattle.model.specs.Item.{Item, extent, cover, leafy, sum}
 use Rattle.model.specs.Frame.{Lay, slotOf, art, items, Root, tree, rootArt, rootItems, View, stateOf, Stands}
-use Rattle.model.specs.Touch.{Touch, Outside, stay, touchPut, putTouch, findLay, findAt, extentAt, dying}
+use Rattle.model.specs.Touch.{Touch, Outside, among, stay, Last, touchPut, putTouch, findLay, findAt, extentAt, dying}
 use Rattle.model.specs.Mark.{marks, rootMarks}
 use Rattle.model.proofs.UniqueLaws.{root-unique, stands-unique}
+use Rattle.model.proofs.StringLaws.{clash}
 use Rattle.model.proofs.MarkLaws.{Stay}
 use Rattle.model.proofs.ExtentLaws.{dying-less}
 use Rattle.descent.specs.declared.spot.Spot.{Spot}
@@ -26,14 +27,14 @@ use Rattle.room.specs.Book.{RoomFor}
 use Rattle.between.specs.Hole.{Step, plug, pathOf, holderOf, artIn}
 use Rattle.between.specs.Work.{Work}
 use Rattle.between.specs.Lead.{Leads}
-use Rattle.between.specs.Since.{Since, Extents, Accounts}
+use Rattle.between.specs.Since.{Since, Extents, kindsOf, Accounts}
 use Rattle.between.specs.Edit.{Booked}
 use Rattle.between.proofs.HoleLaws.{art-plug, plug-sum}
 use Rattle.between.proofs.LeadLaws.{hangs-in, plug-put, plug-look, plug-touch, found-extent}
 use Rattle.between.proofs.WorkLaws.{stands-tree, standsView, stands-sum, stands-of, root-owns}
 use Rattle.between.proofs.BookedLaws.{book-of, room-of}
 use Rattle.between.proofs.OutsideLaws.{found-covers, outside-of, extent-from}
-use Rattle.between.proofs.StayLaws.{stay-plug}
+use Rattle.between.proofs.StayLaws.{stay-plug, last-plug}
 use Rattle.leaf_new.specs.Put.{PutAt, Stepped}
 
 -- ---- a good frame stands for one state
@@ -89,6 +90,7 @@ record Ended (f g k v : List ℕ) {s : State} (w : Stands edition1 f s) (change 
   pub since : Since f (standsView w) g view takes rewrites (gone ++ frees) (extent place (extentOf k v) ∷ [])
   pub accounts : Accounts (w .root) (putTouch edition1 (w .root) k v) (change .takes ++ change .frees) takes rewrites frees
   pub stays : stay (putTouch edition1 (w .root) k v .goes) (rootMarks (w .root)) (rootMarks (tree whole)) ≡ true
+  pub last : among Prefix (kindsOf takes) ≡ true → Last (rootMarks (w .root)) (rootMarks (tree whole))
   pub look : findAt edition1 (tree whole) k ≡ some (record { at = place + length k; long = length v })
   pub fromB : ltb 0 (change .extent) ≡ true → w .nums .B ≤ place
 
@@ -103,7 +105,7 @@ module _ (f g k v : List ℕ) {s : State} (w : Stands edition1 f s) (c : Change 
       let e : extentAt (length k) (findAt edition1 (tree (D .whole)) k) ≡ extent (D .place) (extentOf k v) ∷ [] = ap (extentAt (length k)) (D .look) ∙ found-extent (D .place) k v in
       subst (λ (z : List Item). Outside f g (w .root) (tree (D .whole)) (w .lists) (D .view .lists) (c .takes ++ c .frees) (putTouch edition1 (w .root) k v) z (dead k w c) (ltb 0 (c .extent))) (sym e)
       (outside-of (w .nums) (w .lists) (w .root) (tree (D .whole)) (D .gone) (D .extents) (D .since) (w .heap) (D .work .heap) (root-owns (D .whole) (D .work))
-      (putTouch edition1 (w .root) k v) (c .takes ++ c .frees) (D .accounts) (D .stays) (dead k w c)
+      (putTouch edition1 (w .root) k v) (c .takes ++ c .frees) (D .accounts) (D .stays) (D .last) (dead k w c)
       (λ a. (D .dies a, omega (arith, dying-less (cover a) (c .dead) (extentAt (length k) (findAt edition1 (w .root) k)), found-covers edition1 k (w .root) a))) (ltb 0 (c .extent))
       (λ q a h. omega (arith, D .fromB q, extent-from (D .place) (extentOf k v) a h)))
 
@@ -119,7 +121,7 @@ module _ {f : List ℕ} {st : State} (S : Stands edition1 f st) (k v : List ℕ)
     (fits : room st (putChange edition1 st k v) ≡ true) {f' : List ℕ} {h : View} {s e : ℕ} (T : Lay) {ts rs gs : List Item} (W : Work edition1 f' h [] s (([], T) ∷ []) []) (es : s ≡ slotOf T) (bytes : Bytes f')
     (Z : Booked (standsView S) h (Leaf ∷ takes) frees (extentOf k v) 0 (st .R + 1)) (ea : art T ≡ A) (more : sum leafy (items T) ≡ sum leafy (rootItems (S .root)) + 1)
     (C : Since f (standsView S) f' h ts rs gs (extent e (extentOf k v) ∷ [])) (N : Accounts (S .root) (putTouch edition1 (S .root) k v) ((Leaf ∷ takes) ++ frees) ts rs gs)
-    (stays : stay (putTouch edition1 (S .root) k v .goes) (rootMarks (S .root)) (rootMarks (tree T)) ≡ true) (le : S .nums .B ≤ e) (look : findAt edition1 (tree T) k ≡ some (record { at = e + length k; long = length v })) where
+    (stays : stay (putTouch edition1 (S .root) k v .goes) (rootMarks (S .root)) (rootMarks (tree T)) ≡ true) (plain : among Prefix (kindsOf ts) ≡ false) (le : S .nums .B ≤ e) (look : findAt edition1 (tree T) k ≡ some (record { at = e + length k; long = length v })) where
   pub new-key : Stepped f k v f' st S
   new-key =
       let er : st .R ≡ S .nums .R = ap (λ (x : State). x .R) (S .state) in
@@ -145,6 +147,7 @@ module _ {f : List ℕ} {st : State} (S : Stands edition1 f st) (k v : List ℕ)
         since = C;
         accounts = N;
         stays = stays;
+        last = λ q. clash (cc);
         look = look;
         fromB = λ q. le;
       }) change fits
@@ -185,6 +188,7 @@ pub record EditedOver (gone : List Item) (f g k v : List ℕ) {s : State} (w : S
   pub since : Since f (standsView w) g view takes rewrites (gone ++ frees) (extent place (extentOf k v) ∷ [])
   pub accounts : Accounts (w .root) (touchPut edition1 t (holderOf xs) (length (pathOf xs)) k v) (change .takes ++ change .frees) takes rewrites frees
   pub stays : Stay (touchPut edition1 t (holderOf xs) (length (pathOf xs)) k v .goes) (marks (pathOf xs) t) (marks (pathOf xs) lay)
+  pub last : among Prefix (kindsOf takes) ≡ true → Last (marks (pathOf xs) t) (marks (pathOf xs) lay)
   pub look : findLay edition1 lay (length (pathOf xs)) k ≡ some (record { at = place + length k; long = length v })
   pub fromB : ltb 0 (change .extent) ≡ true → w .nums .B ≤ place
 
@@ -221,6 +225,7 @@ module _ (f g k v : List ℕ) {s : State} (w : Stands edition1 f s) (xs : List S
         since = D .since;
         accounts = subst (λ (z : Touch). Accounts (w .root) z (D .change .takes ++ D .change .frees) (D .takes) (D .rewrites) (D .frees)) (sym touch-is) (D .accounts);
         stays = stay-plug xs t (D .lay) (D .stays) (ap (λ (z : Touch). z .goes) touch-is) er;
+        last = λ q. last-plug xs t (D .lay) w er (D .work) (D .last q);
         look = plug-look L (D .lay) ∙ D .look;
         fromB = D .fromB;
       }

@@ -14,8 +14,8 @@ use Rattle.model.specs.State.{State, room, putChange}
 use Rattle.model.specs.Item.{body, cover, leafy}
 use Rattle.model.specs.Frame.{Lay, LayKids, slotOf, artKids, pairs, NodeOf, View, Stands}
 use Rattle.model.specs.Frame.Lay.{node}
+use Rattle.model.specs.Mark.{is}
 use Rattle.model.specs.Touch.{Touch, touch, putTouch, size}
-use Rattle.model.specs.Freedom.{is}
 use Rattle.model.proofs.ItemLaws.{sum-cons}
 use Rattle.model.proofs.MarkLaws.{node-marks, stay-more}
 use Rattle.inner.specs.Inner.{placeAt, NodeOpen, Added}
@@ -136,6 +136,7 @@ module _ {f : List ℕ} {st : State} {S : Stands edition1 f st} {k : List ℕ} {
             }))
             (stay-plug xs (node n o kind ks) (node n o kind ks1) (stay-more (λ m z. omega (arith, node-marks (is m) (pathOf xs) n o kind ks, node-marks (is m) (pathOf xs) n o kind ks1, join-marks (is m) (pathOf xs) b i t1 ks)))
             (ap (λ (z : Touch). z .goes) node-touch) (P .is))
+            refl
             (omega (arith, one-row h0 (S .heap .lists .eight) .B))
             (plug-look (P .leads) (node n o kind ks1) ∙ join-look edition1 k d b i t1 ks (leads-byte (P .leads)) (lacks-byte P) ∙ leaf-look edition1 l q e k v (d + 1))
 

@@ -14,8 +14,7 @@ use Rattle.model.specs.State.{State, room, putChange, putIn}
 use Rattle.model.specs.Item.{Item, body, leafy, sum, Same}
 use Rattle.model.specs.Frame.{Lay, bare, tree, rootArt, rootItems, rootSlot, View, Heap, Stands}
 use Rattle.model.specs.Touch.{putTouch}
-use Rattle.model.specs.Mark.{rootMarks}
-use Rattle.model.specs.Freedom.{is}
+use Rattle.model.specs.Mark.{rootMarks, is}
 use Rattle.model.proofs.ItemLaws.{sum-cons, in-over}
 use Rattle.model.proofs.MarkLaws.{bare-marks, is-gone, stay-of, stay-more}
 use Rattle.room.specs.View.{listOf, placeFrom, taken, released, rooted}
@@ -129,6 +128,7 @@ module _ {f : List ℕ} {st : State} (S : Stands edition1 f st) {k : List ℕ} {
               rewritesIn = λ w. omega (arith, sum-none w);
             }))
             (stay-at (rootMarks (tree t1)) (ap (λ x. putTouch edition1 x k v .goes) er) er (stay-of (n ∷ []) (rootMarks (bare n o)) (rootMarks (tree t1)) (stay-more (λ x z. omega (arith, bare-marks (is x) n o, is-gone x (n ∷ []) n EmptyRoot [] [] z (among-here n []))))))
+            refl
             (omega (arith, one-row h0 (S .heap .lists .eight) .B))
             (leaf-look edition1 l q e k v 0)
 

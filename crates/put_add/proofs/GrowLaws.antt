@@ -9,7 +9,7 @@ use native.Mathlib.Omega.{arith}
 use lib.ListN.{length, getD}
 use borrow.Author.Tests.{le-ltb}
 use Rattle.layout.specs.Number.{Bytes}
-use Rattle.layout.specs.Kind.{Leaf, Kind, bodySize, most, kindUp}
+use Rattle.layout.specs.Kind.{Leaf, Kind, bodySize, most, kindUp, Prefix}
 use Rattle.layout.specs.Entry.{placeOf}
 use Rattle.layout.proofs.KindLaws.{size-least}
 use Rattle.model.specs.Edition.{edition1}
@@ -19,8 +19,8 @@ use Rattle.model.specs.Item.{Item, body, extent, onSlot, cover, leafy, sum, Sam
 use Rattle.model.specs.Body.{lookKid}
 use Rattle.model.specs.Frame.{Lay, LayKids, slotOf, artKids, itemsAll, pairs, rootItems, NodeOf, View, Heap, freed, Stands}
 use Rattle.model.specs.Frame.Lay.{node}
+use Rattle.model.specs.Mark.{is}
 use Rattle.model.specs.Touch.{Touch, touch, putTouch, holder, size}
-use Rattle.model.specs.Freedom.{is}
 use Rattle.model.proofs.Edition1.{lawful1}
 use Rattle.model.proofs.ItemLaws.{sum-app, sum-cons}
 use Rattle.model.proofs.MarkLaws.{node-marks, is-gone, stay-more}
@@ -45,7 +45,7 @@ use Rattle.between.proofs.LinkLaws.{relinked, link-room}
 use Rattle.between.proofs.LeadLaws.{leads-byte, leads-on, plug-touch, plug-look, join-look, leaf-look, node-grow}
 use Rattle.between.proofs.BookedLaws.{booked-row, booked-as, booked-extend, booked-root, booked-free, booked-count, room-of, room-same}
 use Rattle.between.proofs.SinceLaws.{since-start, since-take, since-leaf, since-write, since-link, since-free, since-count}
-use Rattle.between.proofs.OutsideLaws.{among-here, among-there}
+use Rattle.between.proofs.OutsideLaws.{among-here, among-there, among-not}
 use Rattle.between.proofs.StayLaws.{join-marks, carried-marks, stay-plug}
 use Rattle.descent.specs.declared.spot.Spot.{Spot}
 use Rattle.room.specs.Link.{Relinked}
@@ -316,6 +316,7 @@ module _ {f : List ℕ} {st : State} {S : Stands edition1 f st} {k : List ℕ} {
                         carried-marks (is x) (pathOf xs) up ks,
                         is-gone x (n ∷ []) n kind (pathOf xs) (pathOf xs) z (among-here n []),
                       ))) (ap (λ (z : Touch). z .goes) node-touch) (P .is))
+                      (among-not Prefix up [] (λ z. omega (arith, G .low)))
                       (omega (arith, two-row h0 up K (S .heap .lists .eight) .B))
                       (plug-look (P .leads) (node m q up ks1) ∙ join-look edition1 k d b i t1 ks0 (leads-byte (P .leads)) (look-none b ks0 absent0) ∙ leaf-look edition1 l p e k v (d + 1))
 

@@ -18,9 +18,9 @@ use Rattle.model.specs.Item.{Item, body, extent, cover, sum, Same}
 use Rattle.model.specs.Item as item
 use Rattle.model.specs.Frame.{Lay, slotOf, LeafOf, View, Heap, tree, Stands}
 use Rattle.model.specs.Frame.Lay.{leaf}
+use Rattle.model.specs.Mark.{is}
 use Rattle.model.specs.Touch.{Touch, touch, touchPut, findAt, extentAt}
-use Rattle.model.specs.Freedom.{is}
-use Rattle.model.proofs.StringLaws.{same-refl}
+use Rattle.model.proofs.StringLaws.{same-refl, clash}
 use Rattle.model.proofs.Edition1.{key-passes}
 use Rattle.model.proofs.ItemLaws.{sum-app, sum-cons}
 use Rattle.model.proofs.MarkLaws.{leaf-marks, stay-more}
@@ -148,6 +148,7 @@ module _ {f : List ℕ} {s : State} (w : Stands edition1 f s) (xs : List Step) (
           accounts = subst (λ (t : Touch). Accounts (w .root) t [] [] [] []) (sym (touch-same n o e k v v' (holderOf xs) d len))
               (record { takes = tt; frees = λ z. refl; kindsIn = tt; slotsIn = tt; freesIn = λ z. omega (arith, sum-none z); rewritesIn = λ z. omega (arith, sum-none z) });
           stays = stay-more (λ m z. omega (arith, leaf-marks (is m) (pathOf xs) n o e k v', leaf-marks (is m) (pathOf xs) n o e k v));
+          last = λ q. clash (cc);
           look = leaf-look edition1 n o e k v d;
           fromB = λ q. absurd (let z : _≡_ {A = ℕ} 0 1 = cc in omega arith);
         }
@@ -240,6 +241,7 @@ module _ {f : List ℕ} {s : State} (w : Stands edition1 f s) (xs : List Step) (
                   rewritesIn = λ z. omega (arith, sum-cons z b [], sum-none z, stands-sum w (plug xs (leaf n o e k v')) er z, plug-sum z xs (leaf n o e k v'), leaf-sum z n o e k v');
                 });
             stays = stay-more (λ m z. omega (arith, leaf-marks (is m) (pathOf xs) n o e k v', leaf-marks (is m) (pathOf xs) n o e' k v));
+            last = λ q. clash (cc);
             look = leaf-look edition1 n o e' k v d;
             fromB = λ q. omega (arith, X .place);
           }

@@ -15,8 +15,8 @@ use Rattle.model.specs.State.{State, tally}
 use Rattle.model.specs.Item.{Item, body, cover, leafy, sum}
 use Rattle.model.specs.Frame.{Lay, slotOf, View, Stands}
 use Rattle.model.specs.Frame.Lay.{leaf, node}
+use Rattle.model.specs.Mark.{is, marks}
 use Rattle.model.specs.Touch.{Touch, touch, holder, touchPut}
-use Rattle.model.specs.Freedom.{is}
 use Rattle.model.proofs.ItemLaws.{sum-cons}
 use Rattle.model.proofs.MarkLaws.{leaf-marks, stay-more}
 use Rattle.room.specs.View.{listOf, placeFrom, taken, Roomy}
@@ -33,6 +33,7 @@ use Rattle.between.proofs.LeadLaws.{leaf-look}
 use Rattle.between.proofs.WorkLaws.{standsView, work-take, leafy-leaf}
 use Rattle.between.proofs.SinceLaws.{since-start, since-take}
 use Rattle.between.proofs.BookedLaws.{booked-row, booked-as, booked-extend}
+use Rattle.between.proofs.StayLaws.{last-leaf}
 use Rattle.room.specs.Link.{Relinked}
 use Rattle.leaf_new.specs.Make.{Counted}
 use Rattle.leaf_new.proofs.OpenLaws.{leaf-opened}
@@ -222,6 +223,7 @@ module _ {f : List ℕ} {st : State} {w : Stands edition1 f st} {k : List ℕ} {
                     raised-marks Y (is x),
                     fork-marks (is x) (pathOf xs ++ P .parted .w) m place4 (P .parted .b) new (P .parted .c) old,
                   ));
+                  last = λ q. last-leaf (pathOf xs) n o e k' v' (marks (pathOf xs) (Y .lay));
                   look = Y .look k d (P .parted .b ∷ P .parted .s) deep
                       ∙ fork-look k (d + length (P .parted .w)) m place4 (P .parted .b) new (P .parted .c) old (byte-here k (pathOf xs) (P .word) (P .parted)) (P .parted .apart)
                       ∙ leaf-look edition1 (G .leaf) (placeFrom view2 (listOf view2 Leaf)) (taken view2 Leaf .nums .B) k v (d + length (P .parted .w) + 1);
