@@ -16,13 +16,14 @@ use Rattle.model.specs.Item.{Item, body, cover, leafy, sum}
 use Rattle.model.specs.Body.{PrefixAt}
 use Rattle.model.specs.Frame.{Lay, IsNode, slotOf, art, items, rootItems, Stands, tree, Tree}
 use Rattle.model.specs.Frame.Lay.{leaf, prefix, node}
-use Rattle.model.specs.Touch.{among, holder, touchLone, stay}
-use Rattle.model.specs.Mark.{marks, rootMarks, count, like}
-use Rattle.model.specs.Freedom.{is}
+use Rattle.model.specs.Touch.{among, holder, touchLone, stay, Touch, Above, chainAbove}
+use Rattle.model.specs.Mark.{marks, rootMarks, count, is, like}
 use Rattle.model.proofs.ItemLaws.{sum-app, sum-cons}
 use Rattle.model.proofs.StandsGood.{leafy-other}
-use Rattle.model.proofs.OneBody.{leaf-one}
+use Rattle.model.proofs.OneBody.{leaf-one, join-touch}
 use Rattle.model.proofs.MarkLaws.{leaf-marks, prefix-marks, is-gone, is-from, counts-like, stay-more}
+use Rattle.model.proofs.StringLaws.{clash, shared-whole}
+use Rattle.model.specs.Strings.{shared}
 use Rattle.moves.specs.Moved.{Only}
 use Rattle.room.specs.View.{rooted, released}
 use Rattle.room.specs.Step.{Frees}
@@ -39,7 +40,7 @@ use Rattle.between.proofs.LeadLaws.{hangs-in, hangs-free}
 use Rattle.between.proofs.EraseLaws.{withNow, plug-under-lone}
 use Rattle.between.proofs.SinceLaws.{since-start, since-also, since-write, since-free, since-link}
 use Rattle.between.proofs.BookedLaws.{tally-turn, booked-root, booked-free}
-use Rattle.between.proofs.OutsideLaws.{among-here, slots-later, slots-app, next-above, holder-sum, holder-slots, among-there}
+use Rattle.between.proofs.OutsideLaws.{among-here, slots-later, slots-app, holder-sum, holder-slots, among-there}
 use Rattle.between.proofs.StayLaws.{stay-plug}
 use Rattle.descent.specs.declared.spot.Body.{Body}
 use Rattle.room.specs.Link.{Relinked}
@@ -58,7 +59,7 @@ use Rattle.erase_join.proofs.DropLaws.{besides, frees-first, freed-firs
 use Rattle.erase_join.proofs.JoinLaws.{over-leaves}
 use Rattle.erase_join.proofs.OneLaws.{alone, child-few, joined-one, left-back, left-onto}
 use Rattle.erase_join.proofs.SiteLaws.{leaves, lost, nodeBody, beside, site-change, site-open, site-left, Mid}
-use Rattle.erase_join.proofs.UpLaws.{leaf-shorter, child-stood, two-in, among-later, suits-free}
+use Rattle.erase_join.proofs.UpLaws.{leaf-shorter, child-stood, two-in, among-later, suits-free, above-held}
 
 -- a Prefix is freed too
 tally-more : (n : ℕ) (j : ℕ) → tally (Leaf ∷ Node4 ∷ prefixes n ++ []) j ≡ tally (prefixes n ++ Node4 ∷ Leaf ∷ []) j
@@ -141,6 +142,7 @@ module _ {f k : List ℕ} {s : State} (w : Stands edition1 f s) {l : Lone} (a : 
         let u = leaf n o e k' v in
         let W1 = leaf-work n o e k' v P in
         let W2 = leaf-closed n o e k' v P in
+        let above = above-held xs (alone w (a .slot) (a .place) p xs P) in
         let b = body (a .slot) Prefix (a .place) in
         let g1 = body (l .leaf) Leaf (l .at) in
         let n1 = body (l .node) Node4 (P .nodeAt) in
@@ -170,8 +172,9 @@ module _ {f k : List ℕ} {s : State} (w : Stands edition1 f s) {l : Lone} (a : 
                 is-gone x gs (a .slot) Prefix (pathOf xs) (pathOf xs ++ p) z (among-there (a .slot) (l .leaf) (l .node ∷ a .slot ∷ []) (among-there (a .slot) (l .node) (a .slot ∷ []) (among-here (a .slot) []))),
                 leaf-marks (is x) (pathOf (ups a p xs) ++ l .byte ∷ []) n o e k' v,
                 leaf-marks (is x) (pathOf xs) n o e k' v,
-              ))) refl (P .whole ∙ ap tree (plug-under (a .slot) (a .place) p xs (pairOf P)));
-          accounts = rw (next-above xs) (record {
+              ))) (ap (λ (z : Above). l .leaf ∷ l .node ∷ a .slot ∷ chainAbove z) above) (P .whole ∙ ap tree (plug-under (a .slot) (a .place) p xs (pairOf P)));
+          last = λ c. clash (cc);
+          accounts = rw above (record {
             takes = tt;
             frees = λ j. refl;
             kindsIn = (refl, (refl, (refl, tt)));
@@ -272,6 +275,7 @@ module _ {f k : List ℕ} {s : State} (w : Stands edition1 f s) {l : Lone} (a : 
                   (λ x. omega (arith, wrote-sum (cover x), sum-cons (cover x) (body (a .slot) Prefix (a .place)) (rowItems (bodiesOf u) [])));
               noLeaf = (sum-none leafy, row-leafy (X .gone));
               stays = stays;
+              last = λ c. clash (cc);
               accounts = record {
                 takes = tt;
                 frees = goes;
@@ -293,10 +297,12 @@ module _ {f k : List ℕ} {s : State} (w : Stands edition1 f s) {l : Lone} (a : 
         let O = joined-one w (a .slot) (a .place) p xs P in
         let b = body (a .slot) Prefix (a .place) in
         let more : length (p ++ l .byte ∷ []) ≡ length p + 1 = length-append p (l .byte ∷ []) in
+        let some = opened-above w a p xs P .1 .some in
         let D = left-onto (omega arith) n o q t (O .0) (omega (arith, O .2)) X in
         let N : bodiesOf t ≡ [] = node-run t (O .0) .0 in
+        let touches = join-touch (l .node) (l .leaf) n o q t (O .0) (a .slot) (length p) (aboveOf xs) (O .1) (O .2) in
         over-mid (prefix n o q t) i P room K X
-        (subst (λ (y : Lay). stay (l .leaf ∷ l .node ∷ n ∷ []) (rootMarks (w .root)) (rootMarks (tree (plug xs y))) ≡ true) (sym (D .1)) (stay-plug xs (prefix (a .slot) (a .place) p (pairOf P)) (prefix (a .slot) (a .place) ((p ++ l .byte ∷ []) ++ q) t) (record {
+        (subst (λ (z : Touch). stay (z .goes) (rootMarks (w .root)) (rootMarks (tree (plug xs (X .lay)))) ≡ true) (sym touches) (subst (λ (y : Lay). stay (l .leaf ∷ l .node ∷ n ∷ []) (rootMarks (w .root)) (rootMarks (tree (plug xs y))) ≡ true) (sym (D .1)) (stay-plug xs (prefix (a .slot) (a .place) p (pairOf P)) (prefix (a .slot) (a .place) ((p ++ l .byte ∷ []) ++ q) t) (record {
           each = λ x z h.
               let gs = l .leaf ∷ l .node ∷ n ∷ [] in
               let low = pathOf (ups a p xs) ++ l .byte ∷ [] in
@@ -310,19 +316,23 @@ module _ {f k : List ℕ} {s : State} (w : Stands edition1 f s) {l : Lone} (a : 
                 prefix-marks (is x) low n o q t,
                 is-gone x gs n Prefix low (low ++ q) z (among-there n (l .leaf) (l .node ∷ n ∷ []) (among-there n (l .node) (n ∷ []) (among-here n []))),
                 prefix-marks (like x) (pathOf xs) (a .slot) (a .place) to t,
-                is-from x (a .slot) Prefix (pathOf xs) (pathOf xs ++ p) (pathOf xs ++ to),
+                is-from x (a .slot) Prefix (pathOf xs) p to (omega (arith, ap (shared p) (append-assoc p (l .byte ∷ []) q), shared-whole p (l .byte ∷ q), some)),
                 counts-like x (marks (low ++ q) t),
                 ap (λ y. count (like x) (marks y t)) at,
               );
-        }) refl (P .whole ∙ ap tree (plug-under (a .slot) (a .place) p xs (pairOf P)))))
-        (subst (λ (z : List (ℕ × ℕ)). SlotsIn (l .leaf ∷ l .node ∷ n ∷ a .slot ∷ []) (rowItems ((a .slot, a .place) ∷ (n, o) ∷ z) [] ++ [])) (sym N)
-        (slots-later (l .leaf ∷ l .node ∷ n ∷ []) (a .slot ∷ []) (b ∷ []) (among-here (a .slot) [], tt) .0, (among-there n (l .leaf) (l .node ∷ n ∷ a .slot ∷ []) (among-there n (l .node) (n ∷ a .slot ∷ []) (among-here n (a .slot ∷ []))), tt)))
-        (λ j. ap (λ (z : List (ℕ × ℕ)). among j (l .leaf ∷ l .node ∷ slotsOf (rowItems z []))) (D .0))
+        }) refl (P .whole ∙ ap tree (plug-under (a .slot) (a .place) p xs (pairOf P))))))
+        (subst (λ (z : Touch). SlotsIn (z .goes ++ z .rewrites) (rowItems ((a .slot, a .place) ∷ (n, o) ∷ bodiesOf t) [] ++ [])) (sym touches)
+        (subst (λ (z : List (ℕ × ℕ)). SlotsIn (l .leaf ∷ l .node ∷ n ∷ a .slot ∷ n ∷ []) (rowItems ((a .slot, a .place) ∷ (n, o) ∷ z) [] ++ [])) (sym N) (
+          slots-later (l .leaf ∷ l .node ∷ n ∷ []) (a .slot ∷ n ∷ []) (b ∷ []) (among-here (a .slot) (n ∷ []), tt) .0,
+          (among-there n (l .leaf) (l .node ∷ n ∷ a .slot ∷ n ∷ []) (among-there n (l .node) (n ∷ a .slot ∷ n ∷ []) (among-here n (a .slot ∷ n ∷ []))), tt),
+        )))
+        (λ j. ap (λ (z : List (ℕ × ℕ)). among j (l .leaf ∷ l .node ∷ slotsOf (rowItems z []))) (D .0) ∙ ap (λ (z : Touch). among j (z .goes)) (sym touches))
     run-over (node n o kind ks) i P room =
         let u = node n o kind ks in
         let X = filled u i P room in
         let b = body (a .slot) Prefix (a .place) in
         let more : length (p ++ l .byte ∷ []) ≡ length p + 1 = length-append p (l .byte ∷ []) in
+        let some = opened-above w a p xs P .1 .some in
         let D = left-back (omega arith) u tt (omega (arith, short u i P room)) X in
         over-mid u i P room K X
         (subst (λ (y : Lay). stay (l .leaf ∷ l .node ∷ []) (rootMarks (w .root)) (rootMarks (tree (plug xs y))) ≡ true) (sym (D .1)) (stay-plug xs (prefix (a .slot) (a .place) p (pairOf P)) (prefix (a .slot) (a .place) (p ++ l .byte ∷ []) u) (record {
@@ -335,7 +345,7 @@ module _ {f k : List ℕ} {s : State} (w : Stands edition1 f s) {l : Lone} (a : 
                 ap (λ y. count (is x) (marks y (pairOf P))) (path-under (a .slot) (a .place) p xs),
                 site-left P [] x z,
                 prefix-marks (like x) (pathOf xs) (a .slot) (a .place) (p ++ l .byte ∷ []) u,
-                is-from x (a .slot) Prefix (pathOf xs) (pathOf xs ++ p) (pathOf xs ++ (p ++ l .byte ∷ [])),
+                is-from x (a .slot) Prefix (pathOf xs) p (p ++ l .byte ∷ []) (omega (arith, shared-whole p (l .byte ∷ []), some)),
                 counts-like x (marks low u),
                 ap (λ y. count (like x) (marks y u)) at,
               );

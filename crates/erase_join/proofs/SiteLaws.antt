@@ -7,7 +7,7 @@ use mathlib.Core.Option.{Option, some}
 use native.Mathlib.Omega.{arith}
 use lib.ListN.{length, getD}
 use Rattle.layout.specs.Number.{Bytes}
-use Rattle.layout.specs.Kind.{Leaf, Node4}
+use Rattle.layout.specs.Kind.{Leaf, Node4, Prefix}
 use Rattle.model.specs.Strings.{pick}
 use Rattle.model.specs.Edition.{edition1}
 use Rattle.model.specs.Tree.{Art, Kids, Change, Left, extentOf, findTree, eraseTree, lessOne}
@@ -20,9 +20,8 @@ use Rattle.model.specs.Frame.LayKids.{nil, kid}
 use Rattle.model.specs.Touch.{touchLost, touchLone, eraseTouch, hasByte, findAt, extentAt}
 use Rattle.model.specs.Promise.{eraseKinds}
 use Rattle.model.specs.Touch as model
-use Rattle.model.specs.Mark.{Mark, mark, marks, marksAll, rootMarks}
+use Rattle.model.specs.Mark.{Mark, mark, marks, marksAll, rootMarks, is}
 use Rattle.model.specs.Mark as marking
-use Rattle.model.specs.Freedom.{is}
 use Rattle.model.proofs.StringLaws.{same-refl}
 use Rattle.model.proofs.ItemLaws.{sum-cons}
 use Rattle.model.proofs.Edition1.{lawful1}
@@ -33,7 +32,7 @@ use Rattle.model.proofs.MarkLaws.{leaf-marks, node-marks, kid-marks, nil-marks,
 use Rattle.between.specs.Hole.{app, Step, plug, pathOf, stepsItems, among, stepPath}
 use Rattle.between.specs.Work.{Work}
 use Rattle.between.specs.Lead.{aboveOf, Foremost, Leads}
-use Rattle.between.specs.Since.{Since, Accounts}
+use Rattle.between.specs.Since.{Since, Accounts, kindsOf}
 use Rattle.between.specs.Edit.{Booked}
 use Rattle.between.proofs.TreeLaws.{sum-none, leaf-sum, kid-sum, nil-sum, kid-parts}
 use Rattle.between.proofs.KidsLaws.{remove-sum, remove-trees, art-app, has-is}
@@ -200,6 +199,7 @@ pub record Mid (f f1 k : List ℕ) {s : State} (w : Stands edition1 f s) {xs : L
   pub noLeaf : (sum leafy took ≡ 0) × (sum leafy gave ≡ 0)
   pub accounts : Accounts (w .root) (touchLone (aboveOf xs) (l .node) (l .leaf) u) (kinds ++ frees) took wrote (body (l .leaf) Leaf (l .at) ∷ body (l .node) Node4 (P .nodeAt) ∷ gave)
   pub stays : model.stay (touchLone (aboveOf xs) (l .node) (l .leaf) u .goes) (rootMarks (w .root)) (rootMarks (tree lay)) ≡ true
+  pub last : model.among Prefix (kindsOf took) ≡ true → model.Last (rootMarks (w .root)) (rootMarks (tree lay))
 
 module _ {f f1 k : List ℕ} {s : State} {w : Stands edition1 f s} {xs : List Step} {l : Lone} {u : Lay} {P : Site k (w .root) xs l u} (M : Mid f f1 k w P) where
   some-left : 1 ≤ M .view .nums .R
@@ -269,7 +269,7 @@ module _ {f f1 k : List ℕ} {s : State} {w : Stands edition1 f s} {xs : List St
       refl,
       stands',
       λ many. rw (kinds-are, site-touch P)
-          (outside-of (w .nums) (w .lists) (w .root) (tree (M .lay)) (extent (P .extent) (extentOf k (P .value)) ∷ []) tt since' (w .heap) (Z .work .heap) (root-owns (M .lay) (Z .work)) (touchLone (aboveOf xs) (l .node) (l .leaf) u) (M .kinds ++ M .frees) (M .accounts) (M .stays) (extentAt (length k) (findAt edition1 (w .root) k))
+          (outside-of (w .nums) (w .lists) (w .root) (tree (M .lay)) (extent (P .extent) (extentOf k (P .value)) ∷ []) tt since' (w .heap) (Z .work .heap) (root-owns (M .lay) (Z .work)) (touchLone (aboveOf xs) (l .node) (l .leaf) u) (M .kinds ++ M .frees) (M .accounts) (M .stays) (M .last) (extentAt (length k) (findAt edition1 (w .root) k))
           (λ a. (ap (sum (cover a)) (sym (site-was P)), found-covers edition1 k (w .root) a)) false (λ q. absurd (let z : _≡_ {A = ℕ} 0 1 = cc in omega arith))),
     )
 

@@ -2,8 +2,9 @@
 use Prim.Native.Nat.{ℕ, _+_, _<_, _≤_}
 use mathlib.Core.Path.{_≡_, refl, sym, ap, subst, _∙_}
 use mathlib.Core.List.{List, [], _∷_, _++_, append-assoc, append-nil}
-use mathlib.Core.Bool.{true}
+use mathlib.Core.Bool.{true, false}
 use native.Mathlib.Omega.{arith}
+use lib.ListN.{length-append}
 use Rattle.layout.specs.Kind.{Leaf, Prefix, Node4}
 use Rattle.model.specs.Edition.{edition1}
 use Rattle.model.specs.Tree.{Art, Change, Left, prefixes, asPrefix, extentOf, loneChild}
@@ -12,13 +13,13 @@ use Rattle.model.specs.State.{State, room, eraseChange}
 use Rattle.model.specs.Item.{Item, body, cover, leafy, sum}
 use Rattle.model.specs.Frame.{Lay, IsNode, slotOf, art, items, rootItems, tree, Tree, View, Stands}
 use Rattle.model.specs.Frame.Lay.{leaf, prefix, node}
-use Rattle.model.specs.Touch.{among, holder, held, Above, touchLone, stay}
-use Rattle.model.specs.Mark.{mark, marks, rootMarks, count, like}
-use Rattle.model.specs.Freedom.{is}
+use Rattle.model.specs.Touch.{among, holder, held, Above, touchLone, stay, Touch, Last}
+use Rattle.model.specs.Mark.{mark, marks, rootMarks, count, is, like}
 use Rattle.model.proofs.ItemLaws.{sum-app, sum-cons}
 use Rattle.model.proofs.ChainLaws.{inner-atop}
-use Rattle.model.proofs.OneBody.{node-inner}
-use Rattle.model.proofs.MarkLaws.{leaf-marks, prefix-marks, is-to, counts-like, stay-more}
+use Rattle.model.proofs.OneBody.{node-inner, lone-touch}
+use Rattle.model.proofs.MarkLaws.{leaf-marks, prefix-marks, is-to, counts-like, stay-more, is-other}
+use Rattle.model.proofs.StringLaws.{clash}
 use Rattle.room.specs.View.{Roomy, rooted}
 use Rattle.room.specs.Book.{takenAll, RoomFor, Kinds}
 use Rattle.room.proofs.BookLaws.{room-first}
@@ -26,7 +27,7 @@ use Rattle.between.specs.Hole.{Step, under, plug, pathOf, stepsItems, holderOf,
 use Rattle.between.specs.Hole as hole
 use Rattle.between.specs.Work.{Suits, rootOf, Work}
 use Rattle.between.specs.Lead.{NotUnder, NotLeaf, aboveOf}
-use Rattle.between.specs.Since.{holderItems, SlotsIn}
+use Rattle.between.specs.Since.{holderItems, SlotsIn, kindsOf}
 use Rattle.between.proofs.TreeLaws.{sum-none, leaf-parts, as-leaf, begins-less}
 use Rattle.between.proofs.HoleLaws.{art-plug}
 use Rattle.between.proofs.WorkLaws.{stands-tree, standsView, work-as, work-close, forest-first, forest-more, forest-sum}
@@ -36,7 +37,7 @@ use Rattle.between.proofs.EraseLaws.{withNow, plug-lone}
 use Rattle.between.proofs.SinceLaws.{since-start, since-also, since-link}
 use Rattle.between.proofs.BookedLaws.{tally-turn, booked-row, booked-root, room-of}
 use Rattle.between.proofs.OutsideLaws.{among-here, among-there, slots-later, slots-app, holder-sum, holder-slots}
-use Rattle.between.proofs.StayLaws.{stay-plug}
+use Rattle.between.proofs.StayLaws.{stay-plug, last-still}
 use Rattle.room.specs.Link.{Relinked}
 use Rattle.erase_remove.proofs.RemoveLaws.{booked-none}
 use Rattle.erase_join.specs.declared.lone.Lone.{Lone}
@@ -50,7 +51,7 @@ use Rattle.chain.proofs.RunLaws.{node-run, run-sum, run-art}
 use Rattle.chain.proofs.PushLaws.{pushed-art}
 use Rattle.erase_join.proofs.JoinLaws.{up-leaves}
 use Rattle.erase_join.proofs.OneLaws.{child-one, child-few, left-front, left-new}
-use Rattle.erase_join.proofs.SiteLaws.{leaves, lost, nodeBody, beside, site-change, site-open, site-sum, site-left, Mid}
+use Rattle.erase_join.proofs.SiteLaws.{leaves, lost, nodeBody, beside, site-change, site-open, site-sum, site-left, Mid, site-marks}
 
 -- ---- what the joins share
 
@@ -79,7 +80,7 @@ pub among-later : (k : ℕ) (ks ls : List ℕ) → among k ls ≡ true → among
 among-later k [] ls h = h
 among-later k (j ∷ ks) ls h = among-there k j (ks ++ ls) (among-later k ks ls h)
 
-above-held : (xs : List Step) → NotUnder xs → aboveOf xs ≡ held (holderOf xs)
+pub above-held : (xs : List Step) → NotUnder xs → aboveOf xs ≡ held (holderOf xs)
 above-held [] n = refl
 above-held (under s o p ∷ xs) n = absurd n
 above-held (hole.among s o kind ls b j rs ∷ xs) n = refl
@@ -137,6 +138,7 @@ module _ {f k : List ℕ} {s : State} (w : Stands edition1 f s) {xs : List Step}
         noLeaf = (sum-none leafy, sum-none leafy);
         stays = stay-plug xs (pairOf P) u (stay-more (λ x z. omega (arith, site-left P [] x z, leaf-marks (is x) (pathOf xs ++ l .byte ∷ []) n o e k' v, leaf-marks (is x) (pathOf xs) n o e k' v)))
             (ap (λ (z : Above). touchLone z (l .node) (l .leaf) (leaf n o e k' v) .goes) (above-held xs free)) (P .whole);
+        last = λ c. clash (cc);
         accounts = rw (above-held xs free) (record {
           takes = tt;
           frees = λ j. refl;
@@ -193,10 +195,10 @@ module _ {f k : List ℕ} {s : State} (w : Stands edition1 f s) {xs : List Step}
         wrote-sum : (v : Item → ℕ) → sum v wrote ≡ sum v (holderItems xs) + sum v (rowItems (bodiesOf u) [])
         wrote-sum v = omega (arith, sum-app v (holderItems xs) (rowItems (bodiesOf u) [] ++ []), sum-app v (rowItems (bodiesOf u) []) [], sum-none v)
 
-        up-mid : stay (touchLone (held (holderOf xs)) (l .node) (l .leaf) u .goes) (rootMarks (w .root)) (rootMarks (tree (plug xs (X .lay)))) ≡ true
+        up-mid : (among Prefix (kindsOf (rowItems (X .new) [])) ≡ true → Last (rootMarks (w .root)) (rootMarks (tree (plug xs (X .lay))))) → stay (touchLone (held (holderOf xs)) (l .node) (l .leaf) u .goes) (rootMarks (w .root)) (rootMarks (tree (plug xs (X .lay)))) ≡ true
             → SlotsIn (touchLone (held (holderOf xs)) (l .node) (l .leaf) u .goes ++ touchLone (held (holderOf xs)) (l .node) (l .leaf) u .rewrites) wrote
             → touchLone (held (holderOf xs)) (l .node) (l .leaf) u .goes ≡ l .leaf ∷ l .node ∷ [] → Mid f g k w P
-        up-mid stays slots goes =
+        up-mid last stays slots goes =
             let g1 = body (l .leaf) Leaf (l .at) in
             let n1 = body (l .node) Node4 (P .nodeAt) in
             record {
@@ -215,6 +217,7 @@ module _ {f k : List ℕ} {s : State} (w : Stands edition1 f s) {xs : List Step}
               since = X .since f (standsView w) [] wrote [] (since-also (holderItems xs) (since-also (rowItems (bodiesOf u) []) (since-start (w .heap)))) (λ a. omega (arith, wrote-sum (cover a)));
               noLeaf = (row-leafy (X .new), sum-none leafy);
               stays = rw (above-held xs free) stays;
+              last = last;
               accounts = rw (above-held xs free) (record {
                 takes = row-bodies (X .new) [] tt;
                 frees = λ j. ap (among j) (sym goes);
@@ -230,10 +233,11 @@ module _ {f k : List ℕ} {s : State} (w : Stands edition1 f s) {xs : List Step}
   run-up {g} R (prefix n o p t) i P fits =
       let X = R edition1 (standsView w) xs (l .node) (prefix n o p t) (beside P) (nodeBody P) (pushing (prefix n o p t) i P fits) (P .slotIs) in
       let O = child-one w P 1 (omega arith) in
-      let e = left-front n o p t (O .0) (O .1) (omega (arith, O .2)) X .1 in
+      let F = left-front n o p t (O .0) (O .1) (omega (arith, O .2)) X in
+      let e = F .1 in
       let b = body n Prefix o in
       let N : bodiesOf t ≡ [] = node-run t (O .0) .0 in
-      up-mid (prefix n o p t) i P fits X
+      up-mid (prefix n o p t) i P fits X (λ c. let z : false ≡ true = rw (F .0) at c in clash (cc))
       (subst (λ (y : Lay). stay (l .leaf ∷ l .node ∷ []) (rootMarks (w .root)) (rootMarks (tree (plug xs y))) ≡ true) (sym e) (stay-plug xs (pairOf P) (prefix n o (l .byte ∷ p) t) (record {
         each = λ x z h.
             let low = pathOf xs ++ l .byte ∷ [] in
@@ -243,21 +247,30 @@ module _ {f k : List ℕ} {s : State} (w : Stands edition1 f s) {xs : List Step}
               site-left P [] x z,
               prefix-marks (is x) low n o p t,
               prefix-marks (like x) (pathOf xs) n o (l .byte ∷ p) t,
-              is-to x n Prefix low (low ++ p) (pathOf xs),
+              is-to x n Prefix low (low ++ p) (pathOf xs) (omega (arith, length-append low p, O .1)) (omega (arith, length-append low p, length-append (pathOf xs) (l .byte ∷ []))),
               ap (λ y. like x (mark n Prefix (pathOf xs) y)) q,
               counts-like x (marks (low ++ p) t),
               ap (λ y. count (like x) (marks y t)) q,
             );
       }) refl (P .whole)))
+      (subst (λ (z : Touch). SlotsIn (z .goes ++ z .rewrites) (holderItems xs ++ (rowItems ((n, o) ∷ bodiesOf t) [] ++ []))) (sym (lone-touch (l .node) (l .leaf) n o p t (O .0) (holderOf xs)))
       (slots-app (l .leaf ∷ l .node ∷ n ∷ holder (holderOf xs)) (holderItems xs) (rowItems ((n, o) ∷ bodiesOf t) [] ++ []) (holder-in w P free (l .leaf ∷ l .node ∷ n ∷ []))
       (subst (λ (z : List (ℕ × ℕ)). SlotsIn (l .leaf ∷ l .node ∷ n ∷ holder (holderOf xs)) (rowItems ((n, o) ∷ z) [] ++ [])) (sym N)
-      (slots-later (l .leaf ∷ l .node ∷ []) (n ∷ holder (holderOf xs)) (b ∷ []) (among-here n (holder (holderOf xs)), tt))))
+      (slots-later (l .leaf ∷ l .node ∷ []) (n ∷ holder (holderOf xs)) (b ∷ []) (among-here n (holder (holderOf xs)), tt)))))
       refl
   run-up {g} R (node n o kind ks) i P fits =
       let u = node n o kind ks in
       let X = R edition1 (standsView w) xs (l .node) u (beside P) (nodeBody P) (pushing u i P fits) (P .slotIs) in
       let O = left-new u tt X in
       up-mid u i P fits X
+      (λ c. last-still xs (pairOf P) (X .lay) w (P .whole) (X .work) (λ x ek. omega (
+        arith,
+        site-marks P (is x),
+        is-other x (l .node) Node4 (pathOf xs) (pathOf xs) (λ z. omega (arith, ek)),
+        is-other x (l .leaf) Leaf k k (λ z. omega (arith, ek)),
+        ap (λ y. count (is x) (marks (pathOf xs) y)) (O .isLay),
+        prefix-marks (is x) (pathOf xs) (O .slot) (O .place) (l .byte ∷ []) u,
+      )))
       (subst (λ (y : Lay). stay (l .leaf ∷ l .node ∷ []) (rootMarks (w .root)) (rootMarks (tree (plug xs y))) ≡ true) (sym (O .isLay)) (stay-plug xs (pairOf P) (prefix (O .slot) (O .place) (l .byte ∷ []) u)
       (stay-more (λ x z. omega (arith, site-left P [] x z, prefix-marks (is x) (pathOf xs) (O .slot) (O .place) (l .byte ∷ []) u))) refl (P .whole)))
       (slots-app (l .leaf ∷ l .node ∷ holder (holderOf xs)) (holderItems xs) [] (holder-in w P free (l .leaf ∷ l .node ∷ [])) tt)
