@@ -34,7 +34,7 @@ use Rattle.between.proofs.LeadLaws.{hangs-in, plug-put, plug-look, plug-touch, 
 use Rattle.between.proofs.WorkLaws.{stands-tree, standsView, stands-sum, stands-of, root-owns}
 use Rattle.between.proofs.BookedLaws.{book-of, room-of}
 use Rattle.between.proofs.OutsideLaws.{found-covers, outside-of, extent-from}
-use Rattle.between.proofs.StayLaws.{stay-plug, last-plug}
+use Rattle.between.proofs.StayLaws.{stay-plug, last-plug, LastIn}
 use Rattle.leaf_new.specs.Put.{PutAt, Stepped}
 
 -- ---- a good frame stands for one state
@@ -188,7 +188,7 @@ pub record EditedOver (gone : List Item) (f g k v : List ℕ) {s : State} (w : S
   pub since : Since f (standsView w) g view takes rewrites (gone ++ frees) (extent place (extentOf k v) ∷ [])
   pub accounts : Accounts (w .root) (touchPut edition1 t (holderOf xs) (length (pathOf xs)) k v) (change .takes ++ change .frees) takes rewrites frees
   pub stays : Stay (touchPut edition1 t (holderOf xs) (length (pathOf xs)) k v .goes) (marks (pathOf xs) t) (marks (pathOf xs) lay)
-  pub last : among Prefix (kindsOf takes) ≡ true → Last (marks (pathOf xs) t) (marks (pathOf xs) lay)
+  pub last : among Prefix (kindsOf takes) ≡ true → LastIn (marks (pathOf xs) t) (marks (pathOf xs) lay)
   pub look : findLay edition1 lay (length (pathOf xs)) k ≡ some (record { at = place + length k; long = length v })
   pub fromB : ltb 0 (change .extent) ≡ true → w .nums .B ≤ place
 

@@ -14,6 +14,7 @@ use Rattle.model.specs.Item.{Item, body, cover, sum}
 use Rattle.model.specs.Frame.{Lay, slotOf, IsNode, art, View, Heap, Stands, Begins}
 use Rattle.model.specs.Frame.Lay.{node}
 use Rattle.model.proofs.ItemLaws.{sum-cons}
+use Rattle.model.proofs.StringLaws.{clash}
 use Rattle.room.specs.View.{listOf, placeFrom, taken, Roomy, recorded, rooted}
 use Rattle.room.specs.Step.{Takes, Took}
 use Rattle.room.specs.Book.{RoomFor}
@@ -304,6 +305,7 @@ module _ {f k v : List ℕ} {p : Spot} (N : NoneBefore f k v p) where
                     since = since-count (since w) C5;
                     accounts = first-accounts A (N .before) (rest w) (string w) (dropped w .tip) j (dropped w .few) fewer (taken-bs w) tt w;
                     stays = first-stays A (N .before) (rest w) (string w) (dropped w .tip) m (place4 w) (new w) j (dropped w .few) fewer (dropped w .run);
+                    last = λ c. clash (cc);
                     look = fork-look k d m (place4 w) (cut A .b) (new w) (cut A .c) (rest w) byte (cut A .apart) ∙ leaf-look edition1 (G .leaf) (placeFrom h1 (listOf h1 Leaf)) (taken h1 Leaf .nums .B) k v (d + 1);
                     fromB = λ z. from-two (standsView w) k v (w .heap .lists .eight);
                   }

@@ -2,31 +2,34 @@
 -- edition 1 alone stands here. Assumes nothing.
 use Prim.Native.Nat.{ℕ, zero, suc, _+_, _<_, _≤_}
 use mathlib.Core.Path.{_≡_, refl, sym, ap, subst, _∙_}
-use mathlib.Core.List.{List, [], _∷_, _++_, append-nil, append-assoc}
+use mathlib.Core.List.{List, [], _∷_, _++_, append-nil}
 use native.Mathlib.Omega.{arith}
-use native.Mathlib.Decide.{decLt}
-use lib.ListN.{length, drop, length-append}
-use lib.Dec.{eqb}
+use native.Mathlib.Decide.{decLe}
+use lib.ListN.{length, length-append}
 use borrow.Author.Tests.{eq-eqb, ne-eqb}
 use Rattle.layout.specs.Kind.{Leaf, Prefix, Node4}
-use Rattle.model.specs.Strings.{pick, shared, Parted}
+use Rattle.layout.specs.Place.{prefixMost}
+use Rattle.model.specs.Strings.{shared, Parted}
 use Rattle.model.specs.Edition.{edition1}
 use Rattle.model.specs.Tree.{chain, prefixes}
 use Rattle.model.specs.State.{State}
-use Rattle.model.specs.Item.{Item, body, sum}
+use Rattle.model.specs.Item.{Item, sum}
 use Rattle.model.specs.Frame.{Lay, IsNode, rootItems, Stands}
 use Rattle.model.specs.Frame.Lay.{prefix, node}
 use Rattle.model.specs.Touch.{Touch, touch, holder, touchPut}
-use Rattle.model.specs.Mark.{Mark, mark, marks, count, like}
-use Rattle.model.specs.Freedom.{is}
+use Rattle.model.specs.Mark.{Mark, mark, marks, count, is, like, slotIs}
 use Rattle.model.proofs.ItemLaws.{sum-app, sum-cons}
-use Rattle.model.proofs.MarkLaws.{Stay, is-to, is-from, is-gone, counts-like, prefix-marks}
-use Rattle.model.proofs.OneBody.{below-node}
+use Rattle.model.proofs.MarkLaws.{Stay, is-to, is-from, is-gone, counts-like, prefix-marks, is-same, weight-in}
+use Rattle.model.proofs.OneBody.{below-node, oneCut, cut-touch}
+use Rattle.model.proofs.StringLaws.{shared-whole}
+use Rattle.model.proofs.WayLaws.{shared-turn}
+use Rattle.model.proofs.ShiftLaws.{slot-weighs}
 use Rattle.between.specs.Hole.{pathOf, holderOf}
 use Rattle.between.specs.Since.{Accounts, Bodies, SlotsIn, holderItems}
 use Rattle.between.proofs.TreeLaws.{sum-none}
 use Rattle.between.proofs.WorkLaws.{forest-first}
 use Rattle.between.proofs.OutsideLaws.{among-here, slots-later, slots-app, holder-sum, holder-slots}
+use Rattle.between.proofs.StayLaws.{LastIn, from-below}
 use Rattle.descent.specs.declared.spot.Spot.{Spot}
 use Rattle.chain.specs.Row.{rowItems, bodiesOf, bytesOf, tipOf}
 use Rattle.chain.proofs.RunLaws.{node-run, run-one}
@@ -39,17 +42,9 @@ use Rattle.put_cut.proofs.SpotLaws.{xs, text, below, old, own, w0, open
 
 -- ---- what is touched, by which parts are non-empty
 
-module _ (k path : List ℕ) {r p : List ℕ} (e : edition1 .walked k ≡ path ++ r) (Q : Parted r p) (v : List ℕ) (n o h : ℕ) (l : Lay) where
-  abbrev touchAt : ℕ → Touch
-  touchAt q =
-      let deep = touchPut edition1 l n (length path + length p) k v in
-      pick (eqb q (length p)) deep
-      (pick (eqb q 0)
-      (pick (eqb (length p) 1) (touch (holder h) (n ∷ [])) (touch (n ∷ holder h) []))
-      (pick (eqb (suc q) (length p)) (touch (n ∷ []) []) (touch (n ∷ holder h) [])))
-
-  touched : (q : ℕ) → length (Q .w) ≡ q → touchPut edition1 (prefix n o p l) h (length path) k v ≡ touchAt q
-  touched q eq = ap touchAt (shares-is k path e Q ∙ eq)
+module _ (k path : List ℕ) {r p : List ℕ} (e : edition1 .walked k ≡ path ++ r) (Q : Parted r p) (v : List ℕ) (n o h : ℕ) (l : Lay) (one : IsNode l) (most : length p ≤ prefixMost) where
+  touched : (q : ℕ) → length (Q .w) ≡ q → touchPut edition1 (prefix n o p l) h (length path) k v ≡ oneCut n p h (touchPut edition1 l n (length path + length p) k v) q
+  touched q eq = cut-touch edition1 n o p l h (length path) k v one (omega (arith, length-is k path e Q)) most ∙ ap (oneCut n p h (touchPut edition1 l n (length path + length p) k v)) (shares-is k path e Q ∙ eq)
 
   touch-none : length (Q .w) ≡ 0 → length (Q .t) ≡ 0 → touchPut edition1 (prefix n o p l) h (length path) k v ≡ touch (holder h) (n ∷ [])
   touch-none ew et = let z = length-is k path e Q in touched 0 ew ∙ rw (ne-eqb 0 (length p) (λ y. omega arith), eq-eqb (length p) 1 (omega arith)) refl
@@ -57,17 +52,11 @@ module _ (k path : List ℕ) {r p : List ℕ} (e : edition1 .walked k ≡ path +
   touch-after : length (Q .w) ≡ 0 → 1 ≤ length (Q .t) → touchPut edition1 (prefix n o p l) h (length path) k v ≡ touch (n ∷ holder h) []
   touch-after ew et = let z = length-is k path e Q in touched 0 ew ∙ rw (ne-eqb 0 (length p) (λ y. omega arith), ne-eqb (length p) 1 (λ y. omega arith)) refl
 
-  touch-before : 1 ≤ length (Q .w) → length (Q .t) ≡ 0 → touchPut edition1 (prefix n o p l) h (length path) k v ≡ touch (n ∷ []) []
-  touch-before ew et =
+  touch-within : 1 ≤ length (Q .w) → touchPut edition1 (prefix n o p l) h (length path) k v ≡ touch (n ∷ []) []
+  touch-within ew =
       let q = length (Q .w) in
       let z = length-is k path e Q in
-      touched q refl ∙ rw (ne-eqb q (length p) (λ y. omega arith), ne-eqb q 0 (λ y. omega arith), eq-eqb (suc q) (length p) (omega arith)) refl
-
-  touch-both : 1 ≤ length (Q .w) → 1 ≤ length (Q .t) → touchPut edition1 (prefix n o p l) h (length path) k v ≡ touch (n ∷ holder h) []
-  touch-both ew et =
-      let q = length (Q .w) in
-      let z = length-is k path e Q in
-      touched q refl ∙ rw (ne-eqb q (length p) (λ y. omega arith), ne-eqb q 0 (λ y. omega arith), ne-eqb (suc q) (length p) (λ y. omega arith)) refl
+      touched q refl ∙ rw (ne-eqb q (length p) (λ y. omega arith), ne-eqb q 0 (λ y. omega arith)) refl
 
 -- ---- at the spot
 
@@ -133,10 +122,10 @@ module _ {f k v : List ℕ} {p : Spot} (A : AtPart f k v p) where
     none-left e = omega (arith, ap length left-is, tail-is A, parts A (w0 A) .1 .most)
 
     told-after : 1 ≤ length (cut A .t) → told ≡ touch (p .here .slot ∷ holder (holderOf (xs A))) []
-    told-after some = touch-after k (pathOf (xs A)) (word A) (cut A) v (p .here .slot) (p .here .place) (holderOf (xs A)) (below A) no-front some
+    told-after some = touch-after k (pathOf (xs A)) (word A) (cut A) v (p .here .slot) (p .here .place) (holderOf (xs A)) (below A) inner (parts A (w0 A) .1 .most) no-front some
 
     told-none : length (cut A .t) ≡ 0 → told ≡ touch (holder (holderOf (xs A))) (p .here .slot ∷ [])
-    told-none gone = touch-none k (pathOf (xs A)) (word A) (cut A) v (p .here .slot) (p .here .place) (holderOf (xs A)) (below A) no-front gone
+    told-none gone = touch-none k (pathOf (xs A)) (word A) (cut A) v (p .here .slot) (p .here .place) (holderOf (xs A)) (below A) inner (parts A (w0 A) .1 .most) no-front gone
 
     pub first-accounts : (j : ℕ) → j ≤ 1 → chain (length (left A)) + j ≡ chain (suc (length (left A))) → (bs : List Item) → Bodies bs → {s : State} (w : Stands edition1 f s)
         → Accounts (w .root) told (Leaf ∷ Node4 ∷ prefixes j) bs (holderItems (xs A) ++ rowItems (bodiesOf (old A)) []) (rowItems (ownRow (p .here .slot) (p .here .place) j) [])
@@ -180,7 +169,7 @@ module _ {f k v : List ℕ} {p : Spot} (A : AtPart f k v p) where
                   knot-marks (like x),
                   ap (λ y. count (like x) (marks low y)) is-lay,
                   prefix-marks (like x) low n o (cut A .t) (below A),
-                  is-to x n Prefix path (path ++ text A) low,
+                  is-to x n Prefix path (path ++ text A) low (omega (arith, length-append path (text A), parts A (w0 A) .1 .some)) (omega (arith, ap length low-is, length-append low (cut A .t), some-left e)),
                   ap (λ y. like x (mark n Prefix low y)) low-is,
                   counts-like x (marks (path ++ text A) (below A)),
                   ap (λ y. count (like x) (marks y (below A))) low-is,
@@ -210,15 +199,10 @@ module _ {f k v : List ℕ} {p : Spot} (A : AtPart f k v p) where
     front = omega (arith, shares A)
 
     pub within-accounts : (kinds : List ℕ) (bs : List Item) → Bodies bs → {s : State} (w : Stands edition1 f s) → Accounts (w .root) told kinds bs (rowItems (bodiesOf (old A)) []) []
-    within-accounts kinds bs B w = elim (decLt 0 (length (cut A .t))) [
-      | yes y ↦ by-touch (holder (holderOf (xs A))) (touch-both k (pathOf (xs A)) (word A) (cut A) v (p .here .slot) (p .here .place) (holderOf (xs A)) (below A) front y)
-      | no y ↦ by-touch [] (touch-before k (pathOf (xs A)) (word A) (cut A) v (p .here .slot) (p .here .place) (holderOf (xs A)) (below A) front (omega arith))
-    ]
-      where
-        by-touch : (ss : List ℕ) → told ≡ touch (p .here .slot ∷ ss) [] → Accounts (w .root) told kinds bs (rowItems (bodiesOf (old A)) []) []
-        by-touch ss e =
-            subst (λ (t : Touch). Accounts (w .root) t kinds bs (rowItems (bodiesOf (old A)) []) []) (sym e)
-            (record { takes = B; frees = λ s. refl; kindsIn = tt; slotsIn = own-in w ss; freesIn = λ z. omega (arith, sum-none z); rewritesIn = λ z. omega (arith, own-sum w z, old-sum A w z) })
+    within-accounts kinds bs B w =
+        subst (λ (t : Touch). Accounts (w .root) t kinds bs (rowItems (bodiesOf (old A)) []) [])
+        (sym (touch-within k (pathOf (xs A)) (word A) (cut A) v (p .here .slot) (p .here .place) (holderOf (xs A)) (below A) inner (parts A (w0 A) .1 .most) front))
+        (record { takes = B; frees = λ s. refl; kindsIn = tt; slotsIn = own-in w []; freesIn = λ z. omega (arith, sum-none z); rewritesIn = λ z. omega (arith, own-sum w z, old-sum A w z) })
 
     pub within-stays : (goes : List ℕ) (m place : ℕ) (new lay : Lay) → bytesOf lay ≡ left A → tipOf lay ≡ tipOf (below A)
         → Stay goes (marks (pathOf (xs A)) (old A)) (marks (pathOf (xs A)) (prefix (p .here .slot) (p .here .place) (cut A .w) (node m place Node4 (forkKids (cut A .b) new (cut A .c) lay))))
@@ -233,8 +217,47 @@ module _ {f k v : List ℕ} {p : Spot} (A : AtPart f k v p) where
                 prefix-marks (is x) path n o (text A) (below A),
                 prefix-marks (like x) path n o (cut A .w) (node m place Node4 (forkKids (cut A .b) new (cut A .c) lay)),
                 fork-marks (like x) (path ++ cut A .w) m place (cut A .b) new (cut A .c) lay,
-                is-from x n Prefix path (path ++ text A) (path ++ cut A .w),
+                is-from x n Prefix path (text A) (cut A .w) (omega (arith, front, shared-turn (text A) (cut A .w), ap (shared (cut A .w)) (cut A .right), shared-whole (cut A .w) (cut A .c ∷ cut A .t))),
                 low-marks (like x) lay string tip,
                 counts-like x (marks (path ++ text A) (below A)),
               );
         }
+
+    -- a Prefix that was taken stands below the Node4
+    pub within-last : (m place : ℕ) (new lay : Lay) → bytesOf lay ≡ left A → tipOf lay ≡ tipOf (below A)
+        → LastIn (marks (pathOf (xs A)) (old A)) (marks (pathOf (xs A)) (prefix (p .here .slot) (p .here .place) (cut A .w) (node m place Node4 (forkKids (cut A .b) new (cut A .c) lay))))
+    within-last m place new lay string tip once i x y hi moved hx hy es ek fresh c =
+        let path = pathOf (xs A) in
+        let n = p .here .slot in
+        let o = p .here .place in
+        let knot = node m place Node4 (forkKids (cut A .b) new (cut A .c) lay) in
+        let top = mark n Prefix path (path ++ cut A .w) in
+        let own = mark n Prefix path (path ++ text A) in
+        let self : slotIs n own ≡ 1 = slot-weighs own n refl in
+        let topped : slotIs n top ≡ 1 = slot-weighs top n refl in
+        let first : i ≡ own = elim (decLe 1 (is i own)) [
+          | yes q ↦ is-same i own q
+          | no q ↦ absurd (moved (omega (
+            arith,
+            prefix-marks (is i) path n o (text A) (below A),
+            prefix-marks (is i) path n o (cut A .w) knot,
+            fork-marks (is i) (path ++ cut A .w) m place (cut A .b) new (cut A .c) lay,
+            low-marks (is i) lay string tip,
+          )))
+        ] in
+        let ex : x .slot ≡ n = sym es ∙ ap (λ (z : Mark). z .slot) first in
+        let at : x ≡ top = elim (decLe 1 (is x top)) [
+          | yes q ↦ is-same x top q
+          | no q ↦ absurd (omega (
+            arith,
+            once n,
+            prefix-marks (slotIs n) path n o (cut A .w) knot,
+            prefix-marks (is x) path n o (cut A .w) knot,
+            weight-in (slotIs n) (marks (path ++ cut A .w) knot) x (omega (arith, prefix-marks (is x) path n o (cut A .w) knot)) (omega (arith, slot-weighs x n ex)),
+          ))
+        ] in
+        let low' : length (path ++ cut A .w) ≤ length (y .from) = elim (decLe 1 (is y top)) [
+          | yes q ↦ absurd (fresh (rw (is-same y top q) (omega (arith, prefix-marks (slotIs n) path n o (text A) (below A)))))
+          | no q ↦ from-below y (λ z. omega (arith, ek)) (path ++ cut A .w) knot (omega (arith, prefix-marks (is y) path n o (cut A .w) knot))
+        ] in
+        omega (arith, ap (λ (z : Mark). length (z .from)) at, length-append path (cut A .w), front)

@@ -52,7 +52,7 @@ use Rattle.put_cut.specs.After.{lacking, Splitting, Split, SplitOff, Spl
 use Rattle.put_cut.proofs.RunLists.{unwound-long, tip-not-leaf, sum-row, since-rows}
 use Rattle.put_cut.proofs.ModelLaws.{made-within, here-left}
 use Rattle.put_cut.proofs.SpotLaws.{takes-of, took-of, run-leaves, fork-leaves, xs, text, below, old, own, w0, root-at, opened, parts, old-run, old-many, cut, left, all-cut, word, shares, old-put, past-is, upto-is, before-is, prefix-room, bytes-differ, forked-as, forks-of}
-use Rattle.put_cut.proofs.OneLaws.{few-bodies, within-accounts, within-stays}
+use Rattle.put_cut.proofs.OneLaws.{few-bodies, within-accounts, within-stays, within-last}
 
 module _ {f k v : List ℕ} {p : Spot} (N : SomeBefore f k v p) where
   abbrev A : AtPart f k v p
@@ -265,6 +265,7 @@ module _ {f k v : List ℕ} {p : Spot} (N : SomeBefore f k v p) where
                 since = since-count (since w) C4;
                 accounts = within-accounts A (N .before) (withinChange .takes ++ []) (taken-bs w) (row-bodies (split w .new) (b4 w ∷ []) tt) w;
                 stays = within-stays A (N .before) _ m (place4 w) (new w) (rest w) (string w) (split w .tip);
+                last = λ c. within-last A (N .before) m (place4 w) (new w) (rest w) (string w) (split w .tip);
                 look = through edition1 k (cut A .w) (cut A .b ∷ cut A .s) d n o (knot w) (here-left k path (word A) (cut A))
                     ∙ fork-look k (d + length (cut A .w)) m (place4 w) (cut A .b) (new w) (cut A .c) (rest w) (byte-here k path (word A) (cut A)) (cut A .apart)
                     ∙ leaf-look edition1 (G .leaf) (placeFrom (view2 w) (listOf (view2 w) Leaf)) (taken (view2 w) Leaf .nums .B) k v (d + length (cut A .w) + 1);
