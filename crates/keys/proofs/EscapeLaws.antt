@@ -124,19 +124,19 @@ pub begun-more : (k g : List ℕ) (i n : ℕ) → i < length k → n + 1 < lengt
 begun-more k g i n h l B =
     let e = left-more k i h in
     record {
-  within = omega arith;
-  long = (let m = rw e at (B .long) in omega (arith, m, long-more (getD k i 0) (drop (i + 1) k)));
-  text = begun-byte (escaped k) g n (getD k i 0) (drop (i + 1) k) l (rw e at (B .text));
-}
+      within = omega arith;
+      long = (let m = rw e at (B .long) in omega (arith, m, long-more (getD k i 0) (drop (i + 1) k)));
+      text = begun-byte (escaped k) g n (getD k i 0) (drop (i + 1) k) l (rw e at (B .text));
+    }
 
 -- the two bytes of the end
 pub begun-end : (k g : List ℕ) (i n : ℕ) → length k ≤ i → n + 1 < length g → Begun k g i n → Spelt (escaped k) (set (set g n 0) (n + 1) 0) (n + 2)
 begun-end k g i n h l B =
     let e = left-none k i h in
     record {
-  long = (let m = rw e at (B .long) in m);
-  text = two-both g n 0 0 l ∙ (rw e at (B .text));
-}
+      long = (let m = rw e at (B .long) in m);
+      text = two-both g n 0 0 l ∙ (rw e at (B .text));
+    }
 
 -- there is room for the next two bytes
 pub begun-room : (k g : List ℕ) (i n : ℕ) → Begun k g i n → length (escaped k) ≤ length g → n + 1 < length g
@@ -157,10 +157,10 @@ module _ (k l : List ℕ) (i n : ℕ) (C : Common k l i n) where
   common-more h g e =
       let m = rw (left-more k i h, left-more l i g, ← e) at (C .rest) in
       record {
-    within = omega arith;
-    few = omega (arith, C .few, weight-range (getD k i 0));
-    rest = omega (arith, m, share-same (getD k i 0) (drop (i + 1) k) (drop (i + 1) l));
-  }
+        within = omega arith;
+        few = omega (arith, C .few, weight-range (getD k i 0));
+        rest = omega (arith, m, share-same (getD k i 0) (drop (i + 1) k) (drop (i + 1) l));
+      }
 
   pub common-part : i < length k → i < length l → (getD k i 0 ≡ getD l i 0 → ⊥) → n ≡ shared (escaped k) (escaped l)
   common-part h g d =
@@ -197,10 +197,10 @@ module _ (k : List ℕ) (d i n : ℕ) (P : Passed k d i n) where
       let b = getD k i 0 in
       let e : d - n ≡ weightOf b + (d - (n + weightOf b)) = omega arith in
       record {
-    few = omega (arith, P .few, weight-range b);
-    under = g;
-    rest = m ∙ (rw e (at-later b (drop (i + 1) k) (d - (n + weightOf b))));
-  }
+        few = omega (arith, P .few, weight-range b);
+        under = g;
+        rest = m ∙ (rw e (at-later b (drop (i + 1) k) (d - (n + weightOf b))));
+      }
 
   pub passed-first : i < length k → d ≡ n → getD k i 0 ≡ getD (escaped k) d 0
   passed-first h e =

@@ -176,6 +176,6 @@ module _ (n : ℕ) where
   spelt-other k f g e h P =
       let all : take (length k) g ≡ k = text-part g 0 k (omega arith) (λ i l. P .text (0 + i) i l refl) in
       rw (of-other n e) (record {
-    long = sym (walked-length k);
-    text = one-set g (length k) 0 h ∙ ap (λ x. x ++ 0 ∷ []) all;
-  })
+        long = sym (walked-length k);
+        text = one-set g (length k) 0 h ∙ ap (λ x. x ++ 0 ∷ []) all;
+      })

@@ -13,6 +13,7 @@ pub const SECOND: usize = 2;
 
 // the most bytes of a key
 const LONGEST: usize = 112;
+
 const LONGEST_SECOND: usize = 255;
 
 // the refusals of a key, by document 01's numbers

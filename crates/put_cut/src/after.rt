@@ -9,14 +9,7 @@ use room::heap;
 ghost use Rattle.put_cut.specs.After.{Gathers, RunGathered, Drops, FirstDropped, Splits, SplitOff};
 
 // The bytes of the Prefix from q on are the first of `bytes`; those of the chain below follow, and its bodies are the row's from `have` on.
-fn gather(
-    f: &[u8],
-    place: usize,
-    q: usize,
-    row: &mut [usize],
-    have: usize,
-    bytes: &mut [u8],
-) -> Run
+fn gather(f: &[u8], place: usize, q: usize, row: &mut [usize], have: usize, bytes: &mut [u8]) -> Run
     requires { ⌜ Gathers (now f) (now row) (now bytes) place q have ⌝ }
     ensures { λ r. ⌜ RunGathered (now (f .entry)) (now (row .entry)) (now (row .exit)) (now (bytes .exit)) place q have (r .count) (r .long) (r .child) ⌝ }
 {
