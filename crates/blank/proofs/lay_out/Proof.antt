@@ -10,8 +10,8 @@ data-start-of-requires c κs = search needs
 clear-requires : tie.Need-clear-requires
 clear-requires c κs = search needs
 
-add-t9 : tie.Need-add-t9
-add-t9 c = search needs
+add-t10 : tie.Need-add-t10
+add-t10 c = search needs
 
 write-requires : tie.Need-write-requires
 write-requires c κs = search needs
@@ -35,7 +35,7 @@ lay-out-spec =
     (tie.spec
     data-start-of-requires
     clear-requires
-    add-t9
+    add-t10
     write-requires
     write-requires-2
     same-length
