@@ -5,3 +5,4 @@ pub mod ReadLaws
 pub mod RunLaws
 pub mod FillLaws
 pub mod PushLaws
+pub mod DownLaws
