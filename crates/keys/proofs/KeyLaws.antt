@@ -96,7 +96,7 @@ other-length k f o n d h q =
 
 -- ---- shared bytes: c are counted, and x goes on at m, y at n
 
-drop-past : (x : List ℕ) (n : ℕ) → length x ≤ n → drop n x ≡ []
+pub drop-past : (x : List ℕ) (n : ℕ) → length x ≤ n → drop n x ≡ []
 drop-past [] zero h = refl
 drop-past [] (suc n) h = refl
 drop-past (a ∷ x) zero h = absurd (omega arith)

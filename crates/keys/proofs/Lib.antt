@@ -1,2 +1,3 @@
 pub mod EscapeLaws
 pub mod KeyLaws
+pub mod WordLaws

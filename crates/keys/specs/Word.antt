@@ -1,8 +1,11 @@
--- A walked string written out in a lent slice, and the bytes that a byte of the key becomes there in edition 2.
+-- A walked string written out in a lent slice, the bytes that a byte of the key becomes there in edition 2, and the string that a descent by
+-- a key reads.
 use Prim.Native.Nat.{ℕ, zero, suc}
 use mathlib.Core.Path.{_≡_}
-use mathlib.Core.List.{List}
+use mathlib.Core.List.{List, [], _∷_, _++_}
+use mathlib.Core.Logic.{_⊎_}
 use lib.ListN.{length, take}
+use Rattle.model.specs.Edition.{Edition}
 
 -- the first n bytes of g are the string w
 pub record Spelt (w g : List ℕ) (n : ℕ) : Type 0 where
@@ -13,3 +16,9 @@ pub record Spelt (w g : List ℕ) (n : ℕ) : Type 0 where
 abbrev pub weightOf : ℕ → ℕ
 weightOf zero = 2
 weightOf (suc b) = 1
+
+-- w is what a descent by the key k reads: its walked string, or all of that but a last byte 0, which is read behind it
+pub record Spells (E : Edition) (k w : List ℕ) : Type 0 where
+  pub rest : List ℕ
+  pub whole : E .walked k ≡ w ++ rest
+  pub last : (rest ≡ []) ⊎ (rest ≡ 0 ∷ [])

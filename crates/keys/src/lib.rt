@@ -16,6 +16,9 @@ const LONGEST: usize = 112;
 
 const LONGEST_SECOND: usize = 255;
 
+// the most bytes of a walked string
+pub const LONGEST_WORD: usize = 512;
+
 // the refusals of a key, by document 01's numbers
 pub const BAD_KEY_LENGTH: usize = 3;
 
