@@ -9,5 +9,5 @@ pub fn erase_only(f: &mut [u8])
     ensures { λ _. ⌜ ((k : List ℕ) → OnlyAt (now (f .entry)) k → OnlyStep (now (f .entry)) k (now (f .exit))) ⌝ }
 {
     let slots = Header::slot_capacity(f);
-    blank::lay_out(f, slots);
+    blank::lay_out(f, slots, Header::FIRST_EDITION);
 }
