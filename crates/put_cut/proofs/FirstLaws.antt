@@ -11,7 +11,7 @@ use Rattle.model.specs.Edition.{edition1}
 use Rattle.model.specs.Tree.{Art, Change, chain, prefixes, asPrefix, extentOf, fork, newKey, putTree}
 use Rattle.model.specs.State.{State}
 use Rattle.model.specs.Item.{Item, body, cover, sum}
-use Rattle.model.specs.Frame.{Lay, slotOf, IsNode, art, View, Heap, Stands, Begins}
+use Rattle.model.specs.Frame.{Lay, Tree, slotOf, IsNode, art, View, Heap, Stands, Begins}
 use Rattle.model.specs.Frame.Lay.{node}
 use Rattle.model.proofs.ItemLaws.{sum-cons}
 use Rattle.model.proofs.StringLaws.{clash}
@@ -50,8 +50,8 @@ use Rattle.put_cut.specs.Cut.{AtPart, NoneBefore}
 use Rattle.put_cut.specs.After.{ownRow, Dropped, FirstDropped, Drops}
 use Rattle.put_cut.proofs.RunLists.{no-bytes, unwound-long, tip-not-leaf, since-rows, since-changed}
 use Rattle.put_cut.proofs.ModelLaws.{madeOf, made-first}
-use Rattle.put_cut.proofs.SpotLaws.{takes-of, took-of, run-leaves, fork-leaves, xs, text, below, old, own, w0, root-at, opened, parts, old-run, old-many, cut, left, all-cut, word, shares, old-put, past-is, upto-is, prefix-room, bytes-differ, forked-as, forks-of}
-use Rattle.put_cut.proofs.OneLaws.{few-bodies, first-accounts, first-stays}
+use Rattle.put_cut.proofs.SpotLaws.{takes-of, took-of, run-leaves, fork-leaves, xs, text, below, old, own, w0, root-at, opened, parts, old-run, old-many, cut, left, all-cut, word, shares, old-put, past-is, upto-is, few-bodies, prefix-room, bytes-differ, forked-as, forks-of}
+use Rattle.put_cut.proofs.CutLaws.{first-accounts, first-stays}
 
 -- the spare body as a row of one
 own-long : (n o j : ℕ) → j ≤ 1 → length (ownRow n o j) ≡ j
@@ -170,6 +170,9 @@ module _ {f k v : List ℕ} {p : Spot} (N : NoneBefore f k v p) where
             ap length no-front,
             length-append (cut A .w) (cut A .c ∷ left A),
           )
+
+      rest-tree : {s : State} (w : Stands edition1 f s) → Tree edition1 f2 ((path ++ cut A .w) ++ cut A .c ∷ []) (rest w)
+      rest-tree w = subst (λ y. Tree edition1 f2 (y ++ cut A .c ∷ []) (rest w)) (sym (append-nil path) ∙ ap (λ y. path ++ y) (sym no-front)) (forest-first edition1 f2 (path ++ cut A .c ∷ []) (rest w) [] (ready w .trees) .0)
 
       rest-art : {s : State} (w : Stands edition1 f s) → art (rest w) ≡ asPrefix (left A) (art (tipOf (below A)))
       rest-art w =
@@ -303,8 +306,8 @@ module _ {f k v : List ℕ} {p : Spot} (N : NoneBefore f k v p) where
                     place = taken h1 Leaf .nums .B;
                     dies = λ a. refl;
                     since = since-count (since w) C5;
-                    accounts = first-accounts A (N .before) (rest w) (string w) (dropped w .tip) j (dropped w .few) fewer (taken-bs w) tt w;
-                    stays = first-stays A (N .before) (rest w) (string w) (dropped w .tip) m (place4 w) (new w) j (dropped w .few) fewer (dropped w .run);
+                    accounts = first-accounts A (N .before) j (dropped w .few) fewer (taken-bs w) tt w;
+                    stays = first-stays A (N .before) f2 (rest w) (string w) (dropped w .tip) (rest-tree w) m (place4 w) (new w) j (dropped w .few) fewer (dropped w .run);
                     last = λ c. clash (cc);
                     look = fork-look k d m (place4 w) (cut A .b) (new w) (cut A .c) (rest w) byte (cut A .apart) ∙ leaf-look edition1 (G .leaf) (placeFrom h1 (listOf h1 Leaf)) (taken h1 Leaf .nums .B) k v (d + 1);
                     fromB = λ z. from-two (standsView w) k v (w .heap .lists .eight);

@@ -1,4 +1,5 @@
 pub mod RunLists
+pub mod ShiftLaws
 pub mod GatherLaws
 pub mod UpLaws
 pub mod DropLaws
@@ -6,6 +7,6 @@ pub mod DownLaws
 pub mod SplitLaws
 pub mod ModelLaws
 pub mod SpotLaws
-pub mod OneLaws
+pub mod CutLaws
 pub mod FirstLaws
 pub mod WithinLaws

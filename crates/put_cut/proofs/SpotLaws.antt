@@ -18,7 +18,7 @@ use Rattle.model.specs.Frame.{Lay, slotOf, IsNode, Below, art, items, View, Hea
 use Rattle.model.specs.Frame.Lay.{prefix, node}
 use Rattle.model.proofs.StringLaws.{shared-whole, Meets, whole, part, ends, meets}
 use Rattle.model.proofs.PutLaws.{drop-past}
-use Rattle.model.proofs.WellLaws.{Inside, inside-left, not-inside}
+use Rattle.model.proofs.WellLaws.{Inside, inside-left, inside-short, not-inside}
 use Rattle.model.proofs.Edition1.{lawful1}
 use Rattle.model.proofs.ChainLaws.{as-some}
 use Rattle.model.proofs.StandsGood.{below-inside}
@@ -42,7 +42,7 @@ use Rattle.put_split.specs.Parts.{Forks, Forked}
 use Rattle.put_split.proofs.ForkLaws.{forkKids, fork-sum}
 use Rattle.put_split.proofs.PartedLaws.{byte-here}
 use Rattle.put_cut.specs.Cut.{AtPart}
-use Rattle.put_cut.proofs.RunLists.{run-below}
+use Rattle.put_cut.proofs.RunLists.{run-below, run-inside}
 use Rattle.put_cut.proofs.ModelLaws.{madeOf, put-parts, shares-is, length-is}
 
 -- ---- what a take asks and leaves
@@ -110,6 +110,12 @@ module _ {f k v : List ℕ} {p : Spot} (A : AtPart f k v p) where
   old-art =
       run-art edition1 f (pathOf xs) old (forest-first edition1 f (pathOf xs) old [] (opened w0 .0 .trees) .0) tt .0
       ∙ as-some (bytesOf old) (art (tipOf below)) (omega (arith, length-append text (bytesOf below), parts w0 .1 .some))
+
+  -- no more bodies than a row has
+  pub few-bodies : length (bodiesOf below) < 5
+  few-bodies =
+      let I = run-inside lawful1 f (w0 .bytes) (pathOf xs) old (forest-first edition1 f (pathOf xs) old [] (opened w0 .0 .trees) .0) tt in
+      omega (arith, old-many, inside-short lawful1 (pathOf xs ++ bytesOf old) I, lawful1 .fields .words, length-append (pathOf xs) (bytesOf old))
 
   -- ---- where the strings part
 

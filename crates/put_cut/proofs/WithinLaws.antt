@@ -12,7 +12,7 @@ use Rattle.model.specs.Tree.{Art, Change, chain, prefixes, asPrefix, extentOf, 
 use Rattle.model.specs.State.{State}
 use Rattle.model.specs.Item.{Item, body, cover, leafy, sum}
 use Rattle.model.specs.Body.{PrefixAt}
-use Rattle.model.specs.Frame.{Lay, slotOf, IsNode, art, View, Heap, tree, Stands}
+use Rattle.model.specs.Frame.{Lay, Tree, slotOf, IsNode, art, View, Heap, tree, Stands}
 use Rattle.model.specs.Frame.Lay.{prefix, node}
 use Rattle.model.proofs.ItemLaws.{sum-cons}
 use Rattle.moves.specs.Moved.{Only}
@@ -37,7 +37,7 @@ use Rattle.leaf_new.specs.Put.{PutStep}
 use Rattle.leaf_new.proofs.LeafLaws.{counts-of}
 use Rattle.leaf_new.proofs.DoneLaws.{any-room, change-is, room-is, Edited, put-done}
 use Rattle.prefix_body.specs.Prefix.{Longer}
-use Rattle.chain.specs.Row.{rowItems, bodiesOf, bytesOf, tipOf}
+use Rattle.chain.specs.Row.{rowItems, bodiesOf, bytesOf, tipOf, unwound}
 use Rattle.chain.proofs.RowLaws.{through, row-bodies, leafy-not}
 use Rattle.chain.proofs.TakeLaws.{room-past}
 use Rattle.chain.proofs.ReadLaws.{tree-stood}
@@ -51,8 +51,8 @@ use Rattle.put_cut.specs.Cut.{AtPart, SomeBefore}
 use Rattle.put_cut.specs.After.{lacking, Splitting, Split, SplitOff, Splits}
 use Rattle.put_cut.proofs.RunLists.{unwound-long, tip-not-leaf, sum-row, since-rows}
 use Rattle.put_cut.proofs.ModelLaws.{made-within, here-left}
-use Rattle.put_cut.proofs.SpotLaws.{takes-of, took-of, run-leaves, fork-leaves, xs, text, below, old, own, w0, root-at, opened, parts, old-run, old-many, cut, left, all-cut, word, shares, old-put, past-is, upto-is, before-is, prefix-room, bytes-differ, forked-as, forks-of}
-use Rattle.put_cut.proofs.OneLaws.{few-bodies, within-accounts, within-stays, within-last}
+use Rattle.put_cut.proofs.SpotLaws.{takes-of, took-of, run-leaves, fork-leaves, xs, text, below, old, own, w0, root-at, opened, parts, old-run, old-many, cut, left, all-cut, word, shares, old-put, past-is, upto-is, before-is, few-bodies, prefix-room, bytes-differ, forked-as, forks-of}
+use Rattle.put_cut.proofs.CutLaws.{within-accounts, within-stays, within-last}
 
 module _ {f k v : List ℕ} {p : Spot} (N : SomeBefore f k v p) where
   abbrev A : AtPart f k v p
@@ -161,6 +161,9 @@ module _ {f k v : List ℕ} {p : Spot} (N : SomeBefore f k v p) where
       rest-node : {s : State} (w : Stands edition1 f s) → IsNode (tipOf (rest w))
       rest-node w = subst IsNode (sym (split w .tip)) (old-run A .0)
 
+      rest-tree : {s : State} (w : Stands edition1 f s) → Tree edition1 f2 low (rest w)
+      rest-tree w = forest-first edition1 f2 low (rest w) [] (ready w .trees) .0
+
       rest-art : {s : State} (w : Stands edition1 f s) → art (rest w) ≡ asPrefix (left A) (art (tipOf (below A)))
       rest-art w =
           run-art edition1 f2 low (rest w) (forest-first edition1 f2 low (rest w) [] (ready w .trees) .0) (tip-not-leaf (rest w) (rest-node w)) .0
@@ -264,8 +267,8 @@ module _ {f k v : List ℕ} {p : Spot} (N : SomeBefore f k v p) where
                 dies = λ a. refl;
                 since = since-count (since w) C4;
                 accounts = within-accounts A (N .before) (withinChange .takes ++ []) (taken-bs w) (row-bodies (split w .new) (b4 w ∷ []) tt) w;
-                stays = within-stays A (N .before) _ m (place4 w) (new w) (rest w) (string w) (split w .tip);
-                last = λ c. within-last A (N .before) m (place4 w) (new w) (rest w) (string w) (split w .tip);
+                stays = within-stays A (N .before) f2 (rest w) (unwound (split w .new) []) (string w) (split w .tip) (rest-tree w) (split w .run) m (place4 w) (G .leaf) (placeFrom (view2 w) (listOf (view2 w) Leaf)) (taken (view2 w) Leaf .nums .B) v _;
+                last = λ c. within-last A (N .before) f2 (rest w) (unwound (split w .new) []) (string w) (split w .tip) (rest-tree w) (split w .run) m (place4 w) (G .leaf) (placeFrom (view2 w) (listOf (view2 w) Leaf)) (taken (view2 w) Leaf .nums .B) v;
                 look = through edition1 k (cut A .w) (cut A .b ∷ cut A .s) d n o (knot w) (here-left k path (word A) (cut A))
                     ∙ fork-look k (d + length (cut A .w)) m (place4 w) (cut A .b) (new w) (cut A .c) (rest w) (byte-here k path (word A) (cut A)) (cut A .apart)
                     ∙ leaf-look edition1 (G .leaf) (placeFrom (view2 w) (listOf (view2 w) Leaf)) (taken (view2 w) Leaf .nums .B) k v (d + length (cut A .w) + 1);
