@@ -2,10 +2,11 @@
 -- as the entry says. Assumes nothing.
 use Prim.Native.Nat.{ℕ, _+_, _-_, _≤_}
 use mathlib.Core.Path.{_≡_, refl, sym, ap, _∙_}
-use mathlib.Core.List.{List, [], _∷_, _++_, append-nil}
+use mathlib.Core.List.{List, [], _∷_, _++_, append-nil, head-eq-of-cons-eq, tail-eq-of-cons-eq}
 use mathlib.Core.Option.{some}
 use native.Mathlib.Omega.{arith}
 use lib.ListN.{length, take, drop, length-append, length-take, length-drop, List·getD-append}
+use borrow.Author.Tests.{eq-eqb}
 use lib.Seq.{ext-getD, getD-take, getD-drop, getD-append-add}
 use Rattle.layout.specs.Number.{le}
 use Rattle.layout.specs.Place.{entryAt, leafExtent, leafKey, prefixLength, prefixBytes}
@@ -16,7 +17,7 @@ use Rattle.model.specs.Edition.{Edition, Lawful, Legal}
 use Rattle.model.specs.Item.{Item, body, extent, sum, Same}
 use Rattle.model.specs.Body.{Text, lookKid}
 use Rattle.model.specs.Tree.{extentOf}
-use Rattle.model.specs.Frame.{Lay, LayKids, Root, tree, slotOf, artKids, items, itemsAll, pairs, Entry, Tree, RootAt, rootItems, Numbers, viewOf, Heap}
+use Rattle.model.specs.Frame.{Lay, LayKids, Root, tree, slotOf, artKids, items, itemsAll, pairs, Entry, Begins, Tree, RootAt, rootItems, Numbers, viewOf, Heap}
 use Rattle.model.specs.Frame.Lay.{leaf, prefix, node}
 use Rattle.model.proofs.StandsGood.{below-inside, tree-well}
 use Rattle.model.proofs.WellLaws.{Inside, inside-short, not-inside, node-inside}
@@ -78,6 +79,14 @@ suits-leaf [] s o e k v S = tt
 suits-leaf (under s' o' p ∷ xs) s o e k v S = absurd S
 suits-leaf (among s' o' kind ls b j rs ∷ xs) s o e k v S = tt
 
+-- two strings that begin with a path share it
+begun-shared : (path r w : List ℕ) → Begins w path → length path ≤ shared (path ++ r) w
+begun-shared [] r w h = omega arith
+begun-shared (x ∷ path) r [] h = absurd (omega (arith, ap length h))
+begun-shared (x ∷ path) r (y ∷ w) h =
+    let z = begun-shared path r w (tail-eq-of-cons-eq h) in
+    rw (eq-eqb x y (sym (head-eq-of-cons-eq h))) (omega arith)
+
 -- a legal walked string goes on from where it does not end
 goes-on : {E : Edition} (L : Lawful E) {k path : List ℕ} → Legal E k → Inside E path → (rest : List ℕ) → E .walked k ≡ path ++ rest → (b : ℕ) × (after : List ℕ) × (rest ≡ b ∷ after)
 goes-on L {k} {path} l I [] e = not-inside L k path l I (e ∙ append-nil path)
@@ -128,8 +137,8 @@ module _ (E : Edition) where
         let Y = rw (G .way .slotIs) at (seated .entry) in
         (sym (Y .kindIs) ∙ sym p, sym (Y .placeIs) ∙ sym q)
 
-    pub leaf-here : Legal E k → Counted E k s (G .lay) (G .way .sub) → (o : ℕ) → 1 ≡ highOf f (s .here .slot) → o ≡ placeOf f (s .here .slot) → AtLeaf E f k s o
-    leaf-here K C o p q = go (G .way .sub) refl
+    pub leaf-here : Lawful E → Legal E k → Counted E k s (G .lay) (G .way .sub) → (o : ℕ) → 1 ≡ highOf f (s .here .slot) → o ≡ placeOf f (s .here .slot) → AtLeaf E f k s o
+    leaf-here L K C o p q = go (G .way .sub) refl
       where
         go : (t : Lay) → G .way .sub ≡ t → AtLeaf E f k s o
         go (leaf s' o' e k' v') z =
@@ -138,8 +147,8 @@ module _ (E : Edition) where
             let c : s' ≡ s .here .slot = rw z at (G .way .slotIs) in
             let r : placeIn (leaf s' o' e k' v') + 16 ≤ length f = rw z at (seated .fits) in
             let T : Tree E f (pathOf (G .way .steps)) (leaf s' o' e k' v') = rw z at (hole .2) in
-            let L = leaf-parts E f (pathOf (G .way .steps)) s' o' e k' v' T .1 in
-            record { legal = K; going = G; count = C; extent = e; key = k'; value = v'; is = z ∙ cc; room = omega arith; at = rw (sym d) L; free = suits-leaf (G .way .steps) s' o' e k' v' (rw z at (hole .1)) }
+            let Y = leaf-parts E f (pathOf (G .way .steps)) s' o' e k' v' T .1 in
+            record { lawful = L; legal = K; going = G; count = C; extent = e; key = k'; value = v'; is = z ∙ cc; room = omega arith; at = rw (sym d) Y; free = suits-leaf (G .way .steps) s' o' e k' v' (rw z at (hole .1)) }
         go (prefix s' o' b l) z = absurd (let e : 2 ≡ 1 = rw z at (same-entry 1 o p q .0) in omega arith)
         go (node s' o' kind ks) z =
             let e : kind ≡ 1 = rw z at (same-entry 1 o p q .0) in
@@ -233,8 +242,17 @@ module _ (E : Edition) where
 
   -- a key's walked string shares at least the path with that of a Leaf below it
   pub leaf-shares : {f k : List ℕ} {s : Spot} {o : ℕ} (A : AtLeaf E f k s o) → s .depth ≤ shared (E .walked k) (E .walked (A .key))
-  leaf-shares A = ?
+  leaf-shares {f} {k} {s} A =
+      let W = A .going .way in
+      let n = W .deep in
+      rw (W .leads .word) (omega (arith, begun-shared (pathOf (W .steps)) (W .rest) (E .walked (A .key)) (A .at .begins)))
 
   -- as many bytes of a Prefix are shared with what is read as with the walked string
   pub prefix-shares : {f k w : List ℕ} {s : Spot} {o : ℕ} (A : AtPrefix E f k w s o) → shared (A .bytes) (drop (s .depth) w) ≡ shared (A .bytes) (drop (s .depth) (E .walked k))
-  prefix-shares A = ?
+  prefix-shares {f} {k} {w} {s} {o} A =
+      let G = A .going in
+      let path = pathOf (G .way .steps) in
+      let T : Tree E f path (prefix (s .here .slot) o (A .bytes) (A .below)) = rw (A .is) at (hole G .2) in
+      let P = prefix-parts E f path (s .here .slot) o (A .bytes) (A .below) T in
+      let I = below-inside (A .lawful) f (path ++ A .bytes) (A .bytes) (A .below) (G .stands .bytes) (P .2) (P .3) in
+      spells-shared (A .lawful) (A .sought .legal) (A .sought .spells) path (G .way .rest) (A .bytes) (s .depth) (G .way .leads .word) (G .way .deep) I

@@ -239,6 +239,7 @@ module _ (E : Edition) where
     pub count : Counted k s (going .lay) (going .way .sub)
 
   pub record AtLeaf (f k : List ℕ) (s : Spot) (o : ℕ) : Type 0 where
+    pub lawful : Lawful E
     pub legal : Legal E k
     pub going : Going f k s
     pub count : Counted k s (going .lay) (going .way .sub)

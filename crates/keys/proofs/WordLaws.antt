@@ -1,12 +1,12 @@
 -- What a descent by a key reads in the place of the walked string: the same bytes, and as many of them shared with a string that leads on
 -- inside a tree. Assumes nothing.
-use Prim.Native.Nat.{ℕ, zero, suc, _+_, _<_, _≤_}
+use Prim.Native.Nat.{ℕ, zero, suc, _-_, _≤_}
 use mathlib.Core.Path.{_≡_, refl, _∙_, ap, sym}
 use mathlib.Core.List.{List, [], _∷_, _++_, append-assoc, append-nil}
 use mathlib.Core.Logic.{_⊎_, inl, inr, ⊎-elim}
 use native.Mathlib.Omega.{arith}
 use native.Mathlib.Decide.{ℕ-discrete, decLe}
-use lib.ListN.{length, take, drop, getD, length-append}
+use lib.ListN.{length, take, drop, getD, length-append, length-take}
 use lib.Seq.{drop-at, drop-append-le}
 use borrow.Author.Tests.{eq-eqb, ne-eqb}
 use Rattle.model.specs.Strings.{shared}
@@ -17,8 +17,14 @@ use Rattle.keys.proofs.KeyLaws.{of-other, drop-past}
 
 -- ---- words that are read
 
-pub spells-walked : {E : Edition} {k g : List ℕ} {n : ℕ} → Spelt (E .walked k) g n → Spells E k (take n g)
-spells-walked {E} {k} S = record { rest = []; whole = sym (append-nil _ ∙ S .text); last = inl refl }
+-- the part from 0 to n of the slice that it is written to
+pub spells-walked : (E : Edition) (k g : List ℕ) (n : ℕ) → Spelt (E .walked k) g n → Spells E k (take (n - 0) g)
+spells-walked E k g n S =
+    let e : n - 0 ≡ n = omega arith in
+    rw e (record { rest = []; whole = sym (append-nil (take n g) ∙ S .text); last = inl refl })
+
+pub spelt-within : {w g : List ℕ} {n : ℕ} → Spelt w g n → n ≤ length g
+spelt-within {w} {g} {n} S = omega (arith, S .long, ap length (S .text), length-take n g)
 
 -- edition 1 lends the key itself
 pub spells-key : (n : ℕ) (k : List ℕ) → (n ≡ 2 → ⊥) → Spells (editionOf n) k k
