@@ -5,9 +5,9 @@ use mathlib.Core.Path.{_≡_, refl, sym, ap, _∙_}
 use mathlib.Core.List.{List, [], _∷_, _++_, append-nil, head-eq-of-cons-eq, tail-eq-of-cons-eq}
 use mathlib.Core.Option.{some}
 use native.Mathlib.Omega.{arith}
-use lib.ListN.{length, take, drop, length-append, length-take, length-drop, List·getD-append}
+use lib.ListN.{length, take, drop, length-append, List·getD-append}
 use borrow.Author.Tests.{eq-eqb}
-use lib.Seq.{ext-getD, getD-take, getD-drop, getD-append-add}
+use lib.Seq.{getD-append-add}
 use Rattle.layout.specs.Number.{le}
 use Rattle.layout.specs.Place.{entryAt, leafExtent, leafKey, prefixLength, prefixBytes}
 use Rattle.layout.specs.Kind.{Leaf, Prefix, bodySize}

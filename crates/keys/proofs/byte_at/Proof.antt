@@ -1,5 +1,4 @@
 -- `byte_at` by the edition. Assumes nothing.
-use native.Mathlib.Omega.{arith}
 use Rattle.keys.proofs.KeyLaws.{byte-two, byte-other}
 use borrow.Author.Needs.{needs}
 use Rattle.keys.proofs.byte_at.Statement.{statement}

@@ -1,9 +1,8 @@
 -- `byte_escaped`: the byte sought stands in what is left, as far on as was not passed. Assumes nothing.
 use Rattle.keys.proofs.EscapeLaws.{Passed, passed-none, passed-more, passed-first, passed-second, passed-end}
-use Prim.Native.Nat.{ℕ, _+_, _-_, _*_, _<_, _≤_}
-use mathlib.Core.Path.{_≡_}
+use Prim.Native.Nat.{_-_}
 use native.Mathlib.Omega.{arith}
-use lib.ListN.{length, getD}
+use lib.ListN.{length}
 use borrow.Author.Needs.{needs}
 use Rattle.keys.proofs.byte_escaped.Statement.{statement}
 use Rattle.keys.proofs.byte_escaped.Tie as tie

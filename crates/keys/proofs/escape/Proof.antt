@@ -1,6 +1,6 @@
 -- `escape` writes the walked string of edition 2: of the key the bytes passed are written. Assumes nothing.
 use Rattle.keys.proofs.EscapeLaws.{Begun, begun-none, begun-more, begun-end, begun-room}
-use Prim.Native.Nat.{ℕ, _+_, _-_, _*_, _<_, _≤_}
+use Prim.Native.Nat.{_-_}
 use mathlib.Core.Path.{_≡_, refl}
 use native.Mathlib.Omega.{arith}
 use lib.ListN.{length, length-set}

@@ -1,9 +1,8 @@
 -- `shared_escaped`: the bytes counted and those that what is left shares are all that is shared. Assumes nothing.
 use Rattle.keys.proofs.EscapeLaws.{Common, common-none, common-more, common-part, common-right, common-left, common-both}
-use Prim.Native.Nat.{ℕ, _+_, _-_, _*_, _<_, _≤_}
-use mathlib.Core.Path.{_≡_}
+use Prim.Native.Nat.{_-_}
 use native.Mathlib.Omega.{arith}
-use lib.ListN.{length, getD}
+use lib.ListN.{length}
 use borrow.Author.Needs.{needs}
 use Rattle.keys.proofs.shared_escaped.Statement.{statement}
 use Rattle.keys.proofs.shared_escaped.Tie as tie
