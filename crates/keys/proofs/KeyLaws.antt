@@ -19,7 +19,8 @@ use Rattle.moves.specs.Pasted.{Pasted}
 use Rattle.keys.specs.Word.{Spelt}
 use Rattle.keys.proofs.EscapeLaws.{one-set}
 use Rattle.model.proofs.StringLaws.{eqb-cases}
-use Rattle.model.proofs.Edition1.{zero-free, free-zero, positive-at, at-positive, walked-at}
+use Rattle.model.proofs.Edition2.{key-passes2}
+use Rattle.model.proofs.Edition1.{key-passes, zero-free, free-zero, positive-at, at-positive, walked-at}
 
 -- ---- the walked string
 
@@ -52,6 +53,10 @@ of-two n e = rw (eq-eqb n 2 e) refl
 pub of-other : (n : ℕ) → (n ≡ 2 → ⊥) → editionOf n ≡ edition1
 unfolding editionOf
 of-other n e = rw (ne-eqb n 2 e) refl
+
+-- a key that is not refused has a byte
+pub key-some : (n : ℕ) (k : List ℕ) → editionOf n .keyFault k ≡ 0 → 1 ≤ length k
+key-some n k h = eqb-cases n 2 (λ t e. key-passes2 k (rw (of-two n e) at h) .some) (λ t e. key-passes k (rw (of-other n e) at h) .some)
 
 -- the refusals
 module _ (k : List ℕ) (n : ℕ) where

@@ -1,5 +1,5 @@
 -- Put at a spot of a good frame: what an edit counts on, and what it leaves.
-use Prim.Native.Nat.{ℕ}
+use Prim.Native.Nat.{ℕ, _≤_}
 use mathlib.Core.Path.{_≡_}
 use mathlib.Core.List.{List, _++_}
 use mathlib.Core.Bool.{true}
@@ -20,6 +20,7 @@ module _ (E : Edition) where
     pub st : State
     pub stands : Stands E f st
     pub legal : Legal E k
+    pub some : 1 ≤ length k
     pub legalValue : LegalValue v
     pub room : state.room st (putChange E st k v) ≡ true
 
