@@ -6,3 +6,4 @@ pub mod RunLaws
 pub mod FillLaws
 pub mod PushLaws
 pub mod DownLaws
+pub mod AlongLaws
