@@ -9,13 +9,13 @@ use native.Mathlib.Omega.{arith}
 use native.Mathlib.Decide.{decLe}
 use lib.ListN.{length, take, length-append}
 use lib.Seq.{take-append-seam}
-use Rattle.layout.specs.Kind.{Leaf, Prefix}
+use Rattle.layout.specs.Kind.{Prefix}
 use Rattle.model.specs.Edition.{Edition}
 use Rattle.model.specs.Frame.{Lay, Below, Tree}
 use Rattle.model.specs.Frame.Lay.{leaf, prefix, node}
 use Rattle.model.specs.Mark.{Mark, mark, marks, is, like, slotIs, common, count, In, Live}
 use Rattle.model.specs.Touch.{among}
-use Rattle.model.proofs.MarkLaws.{prefix-marks, is-same, is-common, is-gone, counts-like, common-way, only, weight-in}
+use Rattle.model.proofs.MarkLaws.{prefix-marks, is-same, is-common, is-gone, counts-like, common-way, weight-in}
 use Rattle.model.proofs.ShiftLaws.{slot-weighs}
 use Rattle.between.specs.Lead.{NotLeaf}
 use Rattle.between.proofs.TreeLaws.{prefix-parts}
