@@ -1,7 +1,6 @@
 -- `replace` meets its contract: each need is one law of ReplaceLaws. Assumes nothing.
 use native.Mathlib.Omega.{arith}
 use borrow.Author.Needs.{needs}
-use lib.ListN.{length}
 use Rattle.put_replace.proofs.ReplaceLaws.{body-room, lengths, paste-ok, ends-same, extend-ok, write-ok, retire-ok, ends-other}
 use Rattle.put_replace.proofs.replace.Statement.{statement}
 use Rattle.put_replace.proofs.replace.Tie as tie
