@@ -2,6 +2,7 @@
 use mathlib.Core.Path.{_≡_, sym}
 use native.Mathlib.Omega.{arith}
 use lib.ListN.{length}
+use Rattle.model.specs.Edition.{editionOf}
 use Rattle.model.proofs.Edition2.{lawfulOf}
 use Rattle.pieces.proofs.DecideLaws.{passed, refuted}
 use Rattle.store.proofs.FormatLaws.{refused, formatted}
@@ -36,7 +37,7 @@ returns-3 c =
     let tests = c .before .before .before .before .before in
     let start = tests .before .before .before .before in
     let e : length (start .args .frame .now) ≡ start .args .length = omega arith in
-    formatted _ _ _ _ _ e (passed (tests .before .limits-hold .ensures) (tests .if2 .left)) (c .before .before .lay-out .ensures _ (sym (c .before .before .before .number-of .ensures)))
+    formatted _ _ _ _ _ e (passed (tests .before .limits-hold .ensures) (tests .if2 .left)) (c .before .before .lay-out .ensures (editionOf (start .args .edition)) (sym (c .before .before .before .number-of .ensures)))
 
 pub format-spec : {M : Type 1} → statement M
 format-spec =
