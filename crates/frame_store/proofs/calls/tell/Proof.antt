@@ -2,8 +2,8 @@
 use native.Mathlib.Omega.{arith}
 use Rattle.frame_store.proofs.LookUpLaws.{three-told, none-told}
 use borrow.Author.Needs.{needs}
-use Rattle.frame_store.proofs.tell.Statement.{statement}
-use Rattle.frame_store.proofs.tell.Tie as tie
+use Rattle.frame_store.proofs.calls.tell.Statement.{statement}
+use Rattle.frame_store.proofs.calls.tell.Tie as tie
 
 slice-write-found : tie.Need-slice-write-found
 slice-write-found c = search needs

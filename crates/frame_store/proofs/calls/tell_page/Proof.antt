@@ -2,8 +2,8 @@
 use native.Mathlib.Omega.{arith}
 use Rattle.frame_store.proofs.ListLaws.{two-told, two-untold}
 use borrow.Author.Needs.{needs}
-use Rattle.frame_store.proofs.tell_page.Statement.{statement}
-use Rattle.frame_store.proofs.tell_page.Tie as tie
+use Rattle.frame_store.proofs.calls.tell_page.Statement.{statement}
+use Rattle.frame_store.proofs.calls.tell_page.Tie as tie
 
 slice-write-page : tie.Need-slice-write-page
 slice-write-page c = search needs

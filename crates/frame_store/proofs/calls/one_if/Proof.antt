@@ -1,8 +1,8 @@
 -- By the test. Assumes nothing.
 use mathlib.Core.Path.{sym, ap}
 use Rattle.answers.specs.Number.{oneIf}
-use Rattle.frame_store.proofs.one_if.Statement.{statement}
-use Rattle.frame_store.proofs.one_if.Tie as tie
+use Rattle.frame_store.proofs.calls.one_if.Statement.{statement}
+use Rattle.frame_store.proofs.calls.one_if.Tie as tie
 
 returns : tie.Need-returns
 returns c = sym (ap oneIf (c .if1 .taken))
