@@ -10,7 +10,7 @@ use lib.Dec.{ltb, eqb}
 use borrow.Author.Tests.{ne-eqb, lt-ltb, le-ltb}
 use Rattle.layout.specs.Kind.{Leaf, Prefix, Node4}
 use Rattle.model.specs.Strings.{pick, shared, Parted}
-use Rattle.model.specs.Edition.{edition1}
+use Rattle.model.specs.Edition.{Edition}
 use Rattle.model.specs.Tree.{chain, prefixes}
 use Rattle.model.specs.State.{State}
 use Rattle.model.specs.Item.{Item, sum}
@@ -38,7 +38,7 @@ use Rattle.put_split.proofs.ForkLaws.{forkKids, fork-marks}
 use Rattle.put_cut.proofs.RunLists.{no-bytes, run-marks}
 use Rattle.put_cut.proofs.ShiftLaws.{run-stays, full-above, SlotOf, slot-left, run-or-tip, slot-live, run-last}
 use Rattle.put_cut.proofs.ModelLaws.{shares-is, length-is, path-is}
-use Rattle.put_cut.proofs.SpotLaws.{xs, text, below, old, own, w0, opened, parts, old-sum, cut, left, word, shares}
+use Rattle.put_cut.proofs.SpotLaws.{xs, text, below, old, own, w0, opened, parts, old-sum, cut, left, spelt, shares}
 
 -- ---- a run, as the step's lists name it
 
@@ -54,7 +54,7 @@ chain-in (node s o kind ks) ss = tt
 
 -- ---- what is touched, by which parts are non-empty
 
-module _ (k path : List ℕ) {r p : List ℕ} (e : edition1 .walked k ≡ path ++ r) (Q : Parted r p) (v : List ℕ) (n o h : ℕ) (l : Lay) where
+module _ (E : Edition) (k path : List ℕ) {r p : List ℕ} (e : E .walked k ≡ path ++ r) (Q : Parted r p) (v : List ℕ) (n o h : ℕ) (l : Lay) where
   -- the lists of a cut after q bytes
   abbrev cutLists : Touch → ℕ → Touch
   cutLists deep q =
@@ -62,44 +62,44 @@ module _ (k path : List ℕ) {r p : List ℕ} (e : edition1 .walked k ≡ path +
       let none = pick (ltb (chain (m - 1)) (chain m)) (touch (chainSlots l ++ holder h) (n ∷ [])) (touch (n ∷ chainSlots l ++ holder h) []) in
       pick (eqb q (length p)) deep (pick (eqb q 0) none (touch (n ∷ chainSlots l) []))
 
-  touched : (q : ℕ) → length (Q .w) ≡ q → touchPut edition1 (prefix n o p l) h (length path) k v ≡ cutLists (touchPut edition1 l n (length path + length p) k v) q
-  touched q eq = ap (cutLists (touchPut edition1 l n (length path + length p) k v)) (shares-is k path e Q ∙ eq)
+  touched : (q : ℕ) → length (Q .w) ≡ q → touchPut E (prefix n o p l) h (length path) k v ≡ cutLists (touchPut E l n (length path + length p) k v) q
+  touched q eq = ap (cutLists (touchPut E l n (length path + length p) k v)) (shares-is E k path e Q ∙ eq)
 
   module _ (ew : length (Q .w) ≡ 0) where
     all-long : length p + chainLong l ≡ suc (length (Q .t ++ bytesOf l))
-    all-long = omega (arith, length-is k path e Q, chain-long l, length-append (Q .t) (bytesOf l))
+    all-long = omega (arith, length-is E k path e Q, chain-long l, length-append (Q .t) (bytesOf l))
 
-    touch-none : chain (length (Q .t ++ bytesOf l)) + 1 ≡ chain (suc (length (Q .t ++ bytesOf l))) → touchPut edition1 (prefix n o p l) h (length path) k v ≡ touch (chainSlots l ++ holder h) (n ∷ [])
+    touch-none : chain (length (Q .t ++ bytesOf l)) + 1 ≡ chain (suc (length (Q .t ++ bytesOf l))) → touchPut E (prefix n o p l) h (length path) k v ≡ touch (chainSlots l ++ holder h) (n ∷ [])
     touch-none fewer =
-        let z = length-is k path e Q in
+        let z = length-is E k path e Q in
         let m = length p + chainLong l in
         let a = all-long in
         touched 0 ew ∙ rw (ne-eqb 0 (length p) (λ y. omega arith), lt-ltb (chain (m - 1)) (chain m) (omega arith)) refl
 
-    touch-after : chain (length (Q .t ++ bytesOf l)) + 0 ≡ chain (suc (length (Q .t ++ bytesOf l))) → touchPut edition1 (prefix n o p l) h (length path) k v ≡ touch (n ∷ chainSlots l ++ holder h) []
+    touch-after : chain (length (Q .t ++ bytesOf l)) + 0 ≡ chain (suc (length (Q .t ++ bytesOf l))) → touchPut E (prefix n o p l) h (length path) k v ≡ touch (n ∷ chainSlots l ++ holder h) []
     touch-after same =
-        let z = length-is k path e Q in
+        let z = length-is E k path e Q in
         let m = length p + chainLong l in
         let a = all-long in
         touched 0 ew ∙ rw (ne-eqb 0 (length p) (λ y. omega arith), le-ltb (chain (m - 1)) (chain m) (omega arith)) refl
 
-  touch-within : 1 ≤ length (Q .w) → touchPut edition1 (prefix n o p l) h (length path) k v ≡ touch (n ∷ chainSlots l) []
+  touch-within : 1 ≤ length (Q .w) → touchPut E (prefix n o p l) h (length path) k v ≡ touch (n ∷ chainSlots l) []
   touch-within ew =
       let q = length (Q .w) in
-      let z = length-is k path e Q in
+      let z = length-is E k path e Q in
       touched q refl ∙ rw (ne-eqb q (length p) (λ y. omega arith), ne-eqb q 0 (λ y. omega arith)) refl
 
 -- ---- at the spot
 
-module _ {f k v : List ℕ} {p : Spot} (A : AtPart f k v p) where
+module _ {E : Edition} {f k word v : List ℕ} {p : Spot} (A : AtPart E f k word v p) where
   abbrev told : Touch
-  told = touchPut edition1 (old A) (holderOf (xs A)) (length (pathOf (xs A))) k v
+  told = touchPut E (old A) (holderOf (xs A)) (length (pathOf (xs A))) k v
 
   abbrev low : List ℕ
   low = (pathOf (xs A) ++ cut A .w) ++ cut A .c ∷ []
 
   low-is : pathOf (xs A) ++ text A ≡ low ++ cut A .t
-  low-is = path-is k (pathOf (xs A)) (word A) (cut A)
+  low-is = path-is E k (pathOf (xs A)) (spelt A) (cut A)
 
   low-long : length low ≡ length (pathOf (xs A)) + p .shared + 1
   low-long = omega (arith, length-append (pathOf (xs A) ++ cut A .w) (cut A .c ∷ []), length-append (pathOf (xs A)) (cut A .w), shares A)
@@ -108,14 +108,14 @@ module _ {f k v : List ℕ} {p : Spot} (A : AtPart f k v p) where
   strings : (lay : Lay) → bytesOf lay ≡ left A → (pathOf (xs A) ++ text A) ++ bytesOf (below A) ≡ low ++ bytesOf lay
   strings lay string = ap (λ y. y ++ bytesOf (below A)) low-is ∙ append-assoc low (cut A .t) (bytesOf (below A)) ∙ ap (λ y. low ++ y) (sym string)
 
-  old-tree : Tree edition1 f (pathOf (xs A)) (old A)
-  old-tree = forest-first edition1 f (pathOf (xs A)) (old A) [] (opened A (w0 A) .0 .trees) .0
+  old-tree : Tree E f (pathOf (xs A)) (old A)
+  old-tree = forest-first E f (pathOf (xs A)) (old A) [] (opened A (w0 A) .0 .trees) .0
 
-  below-tree : Tree edition1 f (pathOf (xs A) ++ text A) (below A)
-  below-tree = forest-first edition1 f (pathOf (xs A) ++ text A) (below A) [] (parts A (w0 A) .0 .trees) .0
+  below-tree : Tree E f (pathOf (xs A) ++ text A) (below A)
+  below-tree = forest-first E f (pathOf (xs A) ++ text A) (below A) [] (parts A (w0 A) .0 .trees) .0
 
   -- the bodies of the run, and the one that names it
-  module _ {s : State} (w : Stands edition1 f s) where
+  module _ {s : State} (w : Stands E f s) where
     run-some : (z : Item → ℕ) → sum z (rowItems (bodiesOf (old A)) []) + sum z (holderItems (xs A)) ≤ sum z (rootItems (w .root))
     run-some z = omega (arith, run-sum z (old A), prefix-sum z (p .here .slot) (p .here .place) (text A) (below A), holder-sum z (xs A), old-sum A w z)
 
@@ -129,10 +129,10 @@ module _ {f k v : List ℕ} {p : Spot} (A : AtPart f k v p) where
 
   -- ---- what is below the Prefix has a run of the bytes that are left
 
-  module _ (g : List ℕ) (lay : Lay) (more : List (ℕ × ℕ)) (string : bytesOf lay ≡ left A) (tip : tipOf lay ≡ tipOf (below A)) (T : Tree edition1 g low lay) where
+  module _ (g : List ℕ) (lay : Lay) (more : List (ℕ × ℕ)) (string : bytesOf lay ≡ left A) (tip : tipOf lay ≡ tipOf (below A)) (T : Tree E g low lay) where
     below-stays : _≡_ {A = List (ℕ × ℕ)} (bodiesOf lay) (bodiesOf (below A) ++ more) → (x : Mark) → count (is x) (marks (pathOf (xs A) ++ text A) (below A)) ≤ count (like x) (marks low lay)
     below-stays run x =
-        run-stays edition1 f g (pathOf (xs A) ++ text A) low (below A) lay more below-tree T run (strings lay string) tip
+        run-stays E f g (pathOf (xs A) ++ text A) low (below A) lay more below-tree T run (strings lay string) tip
         (λ h.
         let full = full-above (text A) (below A) (parts A (w0 A) .2) h in
         let l = length-append (pathOf (xs A)) (text A) in
@@ -157,12 +157,12 @@ module _ {f k v : List ℕ} {p : Spot} (A : AtPart f k v p) where
     no-front = sym (shares A) ∙ none
 
     told-after : chain (length (left A)) + 0 ≡ chain (suc (length (left A))) → told ≡ touch (p .here .slot ∷ chainSlots (below A) ++ holder (holderOf (xs A))) []
-    told-after same = touch-after k (pathOf (xs A)) (word A) (cut A) v (p .here .slot) (p .here .place) (holderOf (xs A)) (below A) no-front same
+    told-after same = touch-after E k (pathOf (xs A)) (spelt A) (cut A) v (p .here .slot) (p .here .place) (holderOf (xs A)) (below A) no-front same
 
     told-none : chain (length (left A)) + 1 ≡ chain (suc (length (left A))) → told ≡ touch (chainSlots (below A) ++ holder (holderOf (xs A))) (p .here .slot ∷ [])
-    told-none fewer = touch-none k (pathOf (xs A)) (word A) (cut A) v (p .here .slot) (p .here .place) (holderOf (xs A)) (below A) no-front fewer
+    told-none fewer = touch-none E k (pathOf (xs A)) (spelt A) (cut A) v (p .here .slot) (p .here .place) (holderOf (xs A)) (below A) no-front fewer
 
-    pub first-accounts : (j : ℕ) → j ≤ 1 → chain (length (left A)) + j ≡ chain (suc (length (left A))) → (bs : List Item) → Bodies bs → {s : State} (w : Stands edition1 f s)
+    pub first-accounts : (j : ℕ) → j ≤ 1 → chain (length (left A)) + j ≡ chain (suc (length (left A))) → (bs : List Item) → Bodies bs → {s : State} (w : Stands E f s)
         → Accounts (w .root) told (Leaf ∷ Node4 ∷ prefixes j) bs (holderItems (xs A) ++ rowItems (bodiesOf (old A)) []) (rowItems (ownRow (p .here .slot) (p .here .place) j) [])
     first-accounts zero most e bs B w =
         subst (λ (t : Touch). Accounts (w .root) t (Leaf ∷ Node4 ∷ []) bs (holderItems (xs A) ++ rowItems (bodiesOf (old A)) []) []) (sym (told-after e))
@@ -180,7 +180,7 @@ module _ {f k v : List ℕ} {p : Spot} (A : AtPart f k v p) where
     first-accounts (suc (suc j)) most e bs B w = absurd (omega arith)
 
     -- the Node4 above, whatever its other child
-    module _ (g : List ℕ) (lay : Lay) (string : bytesOf lay ≡ left A) (tip : tipOf lay ≡ tipOf (below A)) (T : Tree edition1 g low lay) (m place : ℕ) (new : Lay) where
+    module _ (g : List ℕ) (lay : Lay) (string : bytesOf lay ≡ left A) (tip : tipOf lay ≡ tipOf (below A)) (T : Tree E g low lay) (m place : ℕ) (new : Lay) where
       abbrev knot : Lay
       knot = node m place Node4 (forkKids (cut A .b) new (cut A .c) lay)
 
@@ -200,7 +200,7 @@ module _ {f k v : List ℕ} {p : Spot} (A : AtPart f k v p) where
                 omega (
                   arith,
                   knot-marks (like x),
-                  run-stays edition1 f g (pathOf (xs A)) low (old A) lay [] old-tree T (run ∙ sym (append-nil (bodiesOf (old A)))) all tip (λ i. (omega arith, omega arith)) x,
+                  run-stays E f g (pathOf (xs A)) low (old A) lay [] old-tree T (run ∙ sym (append-nil (bodiesOf (old A)))) all tip (λ i. (omega arith, omega arith)) x,
                 );
           }
       first-stays (suc zero) most e run =
@@ -226,10 +226,10 @@ module _ {f k v : List ℕ} {p : Spot} (A : AtPart f k v p) where
     front : 1 ≤ length (cut A .w)
     front = omega (arith, shares A)
 
-    pub within-accounts : (kinds : List ℕ) (bs : List Item) → Bodies bs → {s : State} (w : Stands edition1 f s) → Accounts (w .root) told kinds bs (rowItems (bodiesOf (old A)) []) []
+    pub within-accounts : (kinds : List ℕ) (bs : List Item) → Bodies bs → {s : State} (w : Stands E f s) → Accounts (w .root) told kinds bs (rowItems (bodiesOf (old A)) []) []
     within-accounts kinds bs B w =
         subst (λ (t : Touch). Accounts (w .root) t kinds bs (rowItems (bodiesOf (old A)) []) [])
-        (sym (touch-within k (pathOf (xs A)) (word A) (cut A) v (p .here .slot) (p .here .place) (holderOf (xs A)) (below A) front))
+        (sym (touch-within E k (pathOf (xs A)) (spelt A) (cut A) v (p .here .slot) (p .here .place) (holderOf (xs A)) (below A) front))
         (record {
           takes = B;
           frees = λ s. refl;
@@ -240,7 +240,7 @@ module _ {f k v : List ℕ} {p : Spot} (A : AtPart f k v p) where
         })
 
     -- above a Node4 with the new Leaf and the run of what is left
-    module _ (g : List ℕ) (lay : Lay) (more : List (ℕ × ℕ)) (string : bytesOf lay ≡ left A) (tip : tipOf lay ≡ tipOf (below A)) (T : Tree edition1 g low lay)
+    module _ (g : List ℕ) (lay : Lay) (more : List (ℕ × ℕ)) (string : bytesOf lay ≡ left A) (tip : tipOf lay ≡ tipOf (below A)) (T : Tree E g low lay)
         (run : _≡_ {A = List (ℕ × ℕ)} (bodiesOf lay) (bodiesOf (below A) ++ more)) (m place n' o' e' : ℕ) (v' : List ℕ) where
       abbrev new : Lay
       new = leaf n' o' e' k v'
@@ -323,7 +323,7 @@ module _ {f k v : List ℕ} {p : Spot} (A : AtPart f k v p) where
                   weigh (mark m Node4 (path ++ cut A .w) (path ++ cut A .w)),
                   weigh (mark n' Leaf k k),
                 ) in
-                run-last edition1 g x y ek low lay (bodiesOf (below A)) more T run (λ s. omega (arith, once s, crown-marks (slotIs s))) ix iy hx'
+                run-last E g x y ek low lay (bodiesOf (below A)) more T run (λ s. omega (arith, once s, crown-marks (slotIs s))) ix iy hx'
                 (λ z. fresh (omega (arith, live (y .slot), slot-live (path ++ text A) (below A) (y .slot) z))))
                 (λ h. absurd (moved (omega (arith, crown-marks (is i), tip-stays g lay more string tip T i h))))
                 (run-or-tip (path ++ text A) (below A) i (omega arith))

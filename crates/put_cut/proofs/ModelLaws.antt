@@ -10,7 +10,7 @@ use borrow.Author.Tests.{ne-eqb}
 use Rattle.layout.specs.Place.{prefixMost}
 use Rattle.layout.specs.Kind.{Node4}
 use Rattle.model.specs.Strings.{shared, Parted}
-use Rattle.model.specs.Edition.{edition1}
+use Rattle.model.specs.Edition.{Edition}
 use Rattle.model.specs.Tree.{Art, Change, chain, prefixes, asPrefix, fork, newKey, putTree}
 use Rattle.model.proofs.StringLaws.{shared-at}
 use Rattle.model.proofs.PutLaws.{drop-past}
@@ -57,27 +57,27 @@ made-within k v b c a w t i some less e =
 
 -- ---- a key and a shared beginning
 
-module _ (k path : List ℕ) {r p : List ℕ} (e : edition1 .walked k ≡ path ++ r) (Q : Parted r p) where
-  rest-is : drop (length path) (edition1 .walked k) ≡ r
+module _ (E : Edition) (k path : List ℕ) {r p : List ℕ} (e : E .walked k ≡ path ++ r) (Q : Parted r p) where
+  rest-is : drop (length path) (E .walked k) ≡ r
   rest-is = ap (drop (length path)) e ∙ drop-append-seam path r
 
-  pub shares-is : shared p (drop (length path) (edition1 .walked k)) ≡ length (Q .w)
+  pub shares-is : shared p (drop (length path) (E .walked k)) ≡ length (Q .w)
   shares-is = ap (shared p) (rest-is ∙ Q .left) ∙ ap (λ x. shared x (Q .w ++ Q .b ∷ Q .s)) (Q .right) ∙ shared-at (Q .w) (Q .c) (Q .t) (Q .b) (Q .s) (λ q. Q .apart (sym q))
 
   pub length-is : length p ≡ length (Q .w) + 1 + length (Q .t)
   length-is = ap length (Q .right) ∙ length-append (Q .w) (Q .c ∷ Q .t) ∙ omega arith
 
-  pub here-left : drop (length path) (edition1 .walked k) ≡ Q .w ++ Q .b ∷ Q .s
+  pub here-left : drop (length path) (E .walked k) ≡ Q .w ++ Q .b ∷ Q .s
   here-left = rest-is ∙ Q .left
 
   -- the path to what is below
   pub path-is : path ++ p ≡ ((path ++ Q .w) ++ Q .c ∷ []) ++ Q .t
   path-is = ap (λ x. path ++ x) (Q .right) ∙ sym (append-assoc path (Q .w) (Q .c ∷ Q .t)) ∙ sym (append-assoc (path ++ Q .w) (Q .c ∷ []) (Q .t))
 
-  parts-here : shared p (drop (length path) (edition1 .walked k)) ≡ length p → ⊥
+  parts-here : shared p (drop (length path) (E .walked k)) ≡ length p → ⊥
   parts-here q = omega (arith, q, shares-is, length-is)
 
-  pub put-parts : (v : List ℕ) (a : Art) → putTree edition1 (Art.prefix p a) (length path) k v ≡ madeOf k v (Q .b) (Q .c) a (Q .w) (Q .t)
+  pub put-parts : (v : List ℕ) (a : Art) → putTree E (Art.prefix p a) (length path) k v ≡ madeOf k v (Q .b) (Q .c) a (Q .w) (Q .t)
   put-parts v a =
-      rw (ne-eqb (shared p (drop (length path) (edition1 .walked k))) (length p) parts-here)
+      rw (ne-eqb (shared p (drop (length path) (E .walked k))) (length p) parts-here)
       (ap (cutAt k v p a) here-left ∙ ap (λ x. cutAt k v x a (Q .w ++ Q .b ∷ Q .s)) (Q .right) ∙ cut-at k v a (Q .w) (Q .b) (Q .s) (Q .c) (Q .t) (Q .apart))

@@ -9,7 +9,7 @@ use Rattle.layout.specs.Number.{byteAt}
 use Rattle.layout.specs.Place.{prefixBytes}
 use Rattle.layout.specs.Kind.{Leaf, Prefix, Node4, Kind}
 use Rattle.model.specs.Strings.{shared, Parted}
-use Rattle.model.specs.Edition.{edition1}
+use Rattle.model.specs.Edition.{Edition}
 use Rattle.model.specs.Tree.{Art, Change, chain, extentOf, newKey, putTree}
 use Rattle.model.specs.State.{State}
 use Rattle.model.specs.Item.{Item, body, leafy, sum}
@@ -19,7 +19,6 @@ use Rattle.model.specs.Frame.Lay.{prefix, node}
 use Rattle.model.proofs.StringLaws.{shared-whole, Meets, whole, part, ends, meets}
 use Rattle.model.proofs.PutLaws.{drop-past}
 use Rattle.model.proofs.WellLaws.{Inside, inside-left, inside-short, not-inside}
-use Rattle.model.proofs.Edition1.{lawful1}
 use Rattle.model.proofs.ChainLaws.{as-some}
 use Rattle.model.proofs.StandsGood.{below-inside}
 use Rattle.room.specs.View.{listOf, placeFrom, taken, Roomy}
@@ -33,6 +32,7 @@ use Rattle.between.proofs.TreeLaws.{prefix-sum}
 use Rattle.between.proofs.HoleLaws.{plug-sum}
 use Rattle.between.proofs.WorkLaws.{standsView, stands-sum, work-of, work-open, forest-first, open-prefix, leafy-leaf}
 use Rattle.between.proofs.LeadLaws.{leads-rest}
+use Rattle.keys.proofs.WordLaws.{spells-at}
 use Rattle.descent.specs.declared.spot.Spot.{Spot}
 use Rattle.leaf_new.proofs.DoneLaws.{any-root}
 use Rattle.chain.specs.Row.{rowItems, bodiesOf, bytesOf, tipOf}
@@ -66,7 +66,7 @@ fork-leaves h k v n m o b c u =
 
 -- ---- at the spot
 
-module _ {f k v : List ℕ} {p : Spot} (A : AtPart f k v p) where
+module _ {E : Edition} {f k word v : List ℕ} {p : Spot} (A : AtPart E f k word v p) where
   abbrev pub xs : List Step
   xs = A .put .way .steps
 
@@ -82,20 +82,20 @@ module _ {f k v : List ℕ} {p : Spot} (A : AtPart f k v p) where
   abbrev pub own : Item
   own = body (p .here .slot) Prefix (p .here .place)
 
-  abbrev pub w0 : Stands edition1 f (A .put .ready .st)
+  abbrev pub w0 : Stands E f (A .put .ready .st)
   w0 = A .put .ready .stands
 
-  pub root-at : {s : State} (w : Stands edition1 f s) → w .root ≡ tree (plug xs old)
+  pub root-at : {s : State} (w : Stands E f s) → w .root ≡ tree (plug xs old)
   root-at {s} w = any-root (A .put) s w ∙ ap (λ (t : Lay). tree (plug xs t)) (A .part .is)
 
-  pub opened : {s : State} (w : Stands edition1 f s) → Work edition1 f (standsView w) xs (p .here .slot) ((pathOf xs, old) ∷ []) [] × Suits xs old
+  pub opened : {s : State} (w : Stands E f s) → Work E f (standsView w) xs (p .here .slot) ((pathOf xs, old) ∷ []) [] × Suits xs old
   opened w = work-open xs old [] (work-of w (plug xs old) (root-at w)) refl
 
-  pub parts : {s : State} (w : Stands edition1 f s) → Work edition1 f (standsView w) xs (p .here .slot) ((pathOf xs ++ text, below) ∷ []) (own ∷ []) × PrefixAt f (p .here .place) text (slotOf below) × Below text below
+  pub parts : {s : State} (w : Stands E f s) → Work E f (standsView w) xs (p .here .slot) ((pathOf xs ++ text, below) ∷ []) (own ∷ []) × PrefixAt f (p .here .place) text (slotOf below) × Below text below
   parts w = open-prefix (pathOf xs) [] [] (p .here .slot) (p .here .place) text below (opened w .0)
 
   -- all that the tree owns
-  pub old-sum : {s : State} (w : Stands edition1 f s) (z : Item → ℕ) → sum z (rootItems (w .root)) ≡ sum z (stepsItems xs) + (z own + sum z (items below))
+  pub old-sum : {s : State} (w : Stands E f s) (z : Item → ℕ) → sum z (rootItems (w .root)) ≡ sum z (stepsItems xs) + (z own + sum z (items below))
   old-sum w z = omega (arith, stands-sum w (plug xs old) (root-at w) z, plug-sum z xs old, prefix-sum z (p .here .slot) (p .here .place) text below)
 
   -- ---- the shared beginning from there on: its bytes, its bodies, and what stands below
@@ -104,27 +104,27 @@ module _ {f k v : List ℕ} {p : Spot} (A : AtPart f k v p) where
   old-run = run-below (pathOf xs ++ text) text below (parts w0 .0) (parts w0 .2)
 
   pub old-many : suc (length (bodiesOf below)) ≡ chain (length (bytesOf old))
-  old-many = run-chained edition1 f (pathOf xs) old (forest-first edition1 f (pathOf xs) old [] (opened w0 .0 .trees) .0)
+  old-many = run-chained E f (pathOf xs) old (forest-first E f (pathOf xs) old [] (opened w0 .0 .trees) .0)
 
   pub old-art : art old ≡ Art.prefix (bytesOf old) (art (tipOf below))
   old-art =
-      run-art edition1 f (pathOf xs) old (forest-first edition1 f (pathOf xs) old [] (opened w0 .0 .trees) .0) tt .0
+      run-art E f (pathOf xs) old (forest-first E f (pathOf xs) old [] (opened w0 .0 .trees) .0) tt .0
       ∙ as-some (bytesOf old) (art (tipOf below)) (omega (arith, length-append text (bytesOf below), parts w0 .1 .some))
 
   -- no more bodies than a row has
   pub few-bodies : length (bodiesOf below) < 5
   few-bodies =
-      let I = run-inside lawful1 f (w0 .bytes) (pathOf xs) old (forest-first edition1 f (pathOf xs) old [] (opened w0 .0 .trees) .0) tt in
-      omega (arith, old-many, inside-short lawful1 (pathOf xs ++ bytesOf old) I, lawful1 .fields .words, length-append (pathOf xs) (bytesOf old))
+      let I = run-inside (A .put .ready .lawful) f (w0 .bytes) (pathOf xs) old (forest-first E f (pathOf xs) old [] (opened w0 .0 .trees) .0) tt in
+      omega (arith, old-many, inside-short (A .put .ready .lawful) (pathOf xs ++ bytesOf old) I, (A .put .ready .lawful) .fields .words, length-append (pathOf xs) (bytesOf old))
 
   -- ---- where the strings part
 
   rest-shared : p .shared ≡ shared text (A .put .way .rest)
-  rest-shared = A .part .shares ∙ ap (λ d. shared text (drop d (edition1 .walked k))) (A .put .way .deep) ∙ ap (shared text) (leads-rest (A .put .way .leads))
+  rest-shared = A .part .shares ∙ ap (λ d. shared text (drop d (E .walked k))) (A .put .way .deep) ∙ ap (shared text) (leads-rest (A .put .way .leads))
 
   -- a legal walked string goes on from the Prefix
-  inside : Inside edition1 (pathOf xs ++ text)
-  inside = below-inside lawful1 f (pathOf xs ++ text) text below (w0 .bytes) (parts w0 .2) (forest-first edition1 f (pathOf xs ++ text) below [] (parts w0 .0 .trees) .0)
+  inside : Inside E (pathOf xs ++ text)
+  inside = below-inside (A .put .ready .lawful) f (pathOf xs ++ text) text below (w0 .bytes) (parts w0 .2) (forest-first E f (pathOf xs ++ text) below [] (parts w0 .0 .trees) .0)
 
   pub cut : Parted (A .put .way .rest) text
   cut = go (meets text (A .put .way .rest))
@@ -134,7 +134,7 @@ module _ {f k v : List ℕ} {p : Spot} (A : AtPart f k v p) where
       go (part w b s c t e e' n) = record { w = w; b = b; s = s; c = c; t = t; left = e; right = e'; apart = n }
       go (ends c t e) =
           let q : pathOf xs ++ text ≡ (pathOf xs ++ A .put .way .rest) ++ c ∷ t = ap (λ x. pathOf xs ++ x) e ∙ sym (append-assoc (pathOf xs) (A .put .way .rest) (c ∷ t)) in
-          not-inside lawful1 k (pathOf xs ++ A .put .way .rest) (A .put .ready .legal) (inside-left (pathOf xs ++ A .put .way .rest) (c ∷ t) (subst (Inside edition1) q inside)) (A .put .way .leads .word)
+          not-inside (A .put .ready .lawful) k (pathOf xs ++ A .put .way .rest) (A .put .ready .legal) (inside-left (pathOf xs ++ A .put .way .rest) (c ∷ t) (subst (Inside E) q inside)) (A .put .way .leads .word)
 
   -- what is left of the whole
   abbrev pub left : List ℕ
@@ -143,18 +143,18 @@ module _ {f k v : List ℕ} {p : Spot} (A : AtPart f k v p) where
   abbrev pub all-cut : Parted (A .put .way .rest) (bytesOf old)
   all-cut = record { w = cut .w; b = cut .b; s = cut .s; c = cut .c; t = left; left = cut .left; right = ap (λ y. y ++ bytesOf below) (cut .right) ∙ append-assoc (cut .w) (cut .c ∷ cut .t) (bytesOf below); apart = cut .apart }
 
-  pub word : edition1 .walked k ≡ pathOf xs ++ A .put .way .rest
-  word = A .put .way .leads .word
+  pub spelt : E .walked k ≡ pathOf xs ++ A .put .way .rest
+  spelt = A .put .way .leads .word
 
   pub shares : p .shared ≡ length (cut .w)
-  shares = A .part .shares ∙ ap (λ d. shared text (drop d (edition1 .walked k))) (A .put .way .deep) ∙ shares-is k (pathOf xs) word cut
+  shares = A .part .shares ∙ ap (λ d. shared text (drop d (E .walked k))) (A .put .way .deep) ∙ shares-is E k (pathOf xs) spelt cut
 
   pub tail-is : p .shared + 1 + length (cut .t) ≡ length text
-  tail-is = omega (arith, shares, length-is k (pathOf xs) word cut)
+  tail-is = omega (arith, shares, length-is E k (pathOf xs) spelt cut)
 
   -- what put makes of it
-  pub old-put : putTree edition1 (art old) (length (pathOf xs)) k v ≡ madeOf k v (cut .b) (cut .c) (art (tipOf below)) (cut .w) left
-  old-put = ap (λ x. putTree edition1 x (length (pathOf xs)) k v) old-art ∙ put-parts k (pathOf xs) word all-cut v (art (tipOf below))
+  pub old-put : putTree E (art old) (length (pathOf xs)) k v ≡ madeOf k v (cut .b) (cut .c) (art (tipOf below)) (cut .w) left
+  old-put = ap (λ x. putTree E x (length (pathOf xs)) k v) old-art ∙ put-parts E k (pathOf xs) spelt all-cut v (art (tipOf below))
 
   -- the parts as strings
   pub past-is : (q : ℕ) → q ≡ p .shared + 1 → drop q text ≡ cut .t
@@ -173,22 +173,25 @@ module _ {f k v : List ℕ} {p : Spot} (A : AtPart f k v p) where
   pub prefix-room : (p .here .place + 128 ≤ length f) × (p .shared < 112)
   prefix-room = let P = parts w0 .1 in (P .room, omega (arith, P .most, A .part .less))
 
+  pub word-low : p .depth + p .shared < 512
+  word-low = omega (arith, A .part .short, A .part .less, A .put .ready .lawful .fields .words)
+
   -- the key's byte and the Prefix's
-  module _ {d q c : ℕ} (ed : d ≡ p .depth + p .shared) (eq : q ≡ p .shared) (ec : c ≡ byteAt f (p .here .place + prefixBytes + q)) where
-    new-byte : getD (edition1 .walked k) d 0 ≡ cut .b
-    new-byte = ap (λ i. getD (edition1 .walked k) i 0) (omega (arith, A .put .way .deep, shares)) ∙ byte-here k (pathOf xs) word cut
+  module _ {d q b c : ℕ} (ed : d ≡ p .depth + p .shared) (eq : q ≡ p .shared) (eb : b ≡ getD word d 0) (ec : c ≡ byteAt f (p .here .place + prefixBytes + q)) where
+    new-byte : b ≡ cut .b
+    new-byte = eb ∙ spells-at (A .spells) d ∙ ap (λ i. getD (E .walked k) i 0) (omega (arith, A .put .way .deep, shares)) ∙ byte-here E k (pathOf xs) spelt cut
 
     old-byte : c ≡ cut .c
     old-byte =
         ec ∙ ap (λ i. byteAt f (p .here .place + prefixBytes + i)) eq ∙ parts w0 .1 .text (p .shared) (A .part .less) ∙ ap (λ x. getD x (p .shared) 0) (cut .right)
         ∙ ap (λ i. getD (cut .w ++ cut .c ∷ cut .t) i 0) shares ∙ getD-append-seam (cut .w) (cut .c) (cut .t) 0
 
-    pub bytes-differ : getD (edition1 .walked k) d 0 ≡ c → ⊥
+    pub bytes-differ : b ≡ c → ⊥
     bytes-differ z = cut .apart (sym new-byte ∙ z ∙ old-byte)
 
-    pub forked-as : {g h : List ℕ} {m y : ℕ} → Forked g h k v m (getD (edition1 .walked k) d 0) c y → Forked g h k v m (cut .b) (cut .c) y
+    pub forked-as : {g h : List ℕ} {m y : ℕ} → Forked g h k v m b c y → Forked g h k v m (cut .b) (cut .c) y
     forked-as {g} {h} {m} {y} F = subst (λ x. Forked g h k v m (cut .b) x y) old-byte (subst (λ x. Forked g h k v m x c y) new-byte F)
 
   -- what `fork` asks of the work
-  pub forks-of : {f1 : List ℕ} {h : View} {ys : List Step} {s m o : ℕ} {ts : List (List ℕ × Lay)} {loose : List Item} → Work edition1 f1 h ys s ts (body m Node4 o ∷ loose) → RoomFor h (Leaf ∷ []) (extentOf k v) → Forks f1 k v m
-  forks-of W R = record { view = _; steps = _; top = _; trees = _; loose = _; place = _; work = W; room = R; legal = A .put .ready .legal .passes; short = A .put .ready .legalValue .passes }
+  pub forks-of : {f1 : List ℕ} {h : View} {ys : List Step} {s m o : ℕ} {ts : List (List ℕ × Lay)} {loose : List Item} → Work E f1 h ys s ts (body m Node4 o ∷ loose) → RoomFor h (Leaf ∷ []) (extentOf k v) → Forks f1 k v m
+  forks-of W R = record { edition = E; lawful = A .put .ready .lawful; view = _; steps = _; top = _; trees = _; loose = _; place = _; work = W; room = R; legal = A .put .ready .legal; short = A .put .ready .legalValue .passes }

@@ -6,26 +6,30 @@ use borrow.Author.Needs.{needs}
 use Rattle.put_cut.proofs.cut_first.Statement.{statement}
 use Rattle.put_cut.proofs.cut_first.Tie as tie
 
+at-requires : tie.Need-at-requires
+at-requires c κs = search needs
+
 byte-requires : tie.Need-byte-requires
-byte-requires c κs = first-room (c .before .before .before .before .before .pre)
+byte-requires c κs = first-room (c .before .before .before .before .before .before .before .pre .holds)
 
 take-requires : tie.Need-take-requires
-take-requires c κs = first-takes (c .before .before .before .before .before .before .before .pre)
+take-requires c κs = first-takes (c .before .before .before .before .before .before .before .before .before .pre .holds)
 
 drop-first-requires : tie.Need-drop-first-requires
 drop-first-requires c κs =
     let took = c .before .before .before in
     let byte = took .before .before in
-    let start = byte .before .before .before .before .before .before in
-    first-drops (start .pre) (took .take .ensures)
+    let start = byte .before .before .before .before .before .before .before .before in
+    first-drops (start .pre .holds) (took .take .ensures)
 
 fork-requires : tie.Need-fork-requires
 fork-requires c κs =
     let dropped = c .before .before .before in
     let took = dropped .before .before .before .before in
     let byte = took .before .before in
-    let start = byte .before .before .before .before .before .before in
-    first-forks (start .pre) (took .take .ensures) (dropped .drop-first .ensures) refl (byte .byte .ensures)
+    let word = byte .before .before in
+    let start = word .before .before .before .before .before .before in
+    first-forks (start .pre .holds) (took .take .ensures) (dropped .drop-first .ensures) (word .at .ensures) (byte .byte .ensures)
 
 relink-requires : tie.Need-relink-requires
 relink-requires c κs =
@@ -33,9 +37,10 @@ relink-requires c κs =
     let dropped = forked .before .before .before .before in
     let took = dropped .before .before .before .before in
     let byte = took .before .before in
-    let start = byte .before .before .before .before .before .before in
-    let F = first-forked (start .pre) refl (byte .byte .ensures) (forked .fork .ensures) in
-    first-relinks (start .pre) (took .take .ensures) (dropped .drop-first .ensures) F
+    let word = byte .before .before in
+    let start = word .before .before .before .before .before .before in
+    let F = first-forked (start .pre .holds) (word .at .ensures) (byte .byte .ensures) (forked .fork .ensures) in
+    first-relinks (start .pre .holds) (took .take .ensures) (dropped .drop-first .ensures) F
 
 slice-aggregate-free-row : tie.Need-slice-aggregate-free-row
 slice-aggregate-free-row c = search needs
@@ -47,9 +52,10 @@ free-row-requires c κs =
     let dropped = forked .before .before .before .before in
     let took = dropped .before .before .before .before in
     let byte = took .before .before in
-    let start = byte .before .before .before .before .before .before in
-    let F = first-forked (start .pre) refl (byte .byte .ensures) (forked .fork .ensures) in
-    first-frees (start .pre) (took .take .ensures) (dropped .drop-first .ensures) F (linked .relink .ensures) _ refl refl
+    let word = byte .before .before in
+    let start = word .before .before .before .before .before .before in
+    let F = first-forked (start .pre .holds) (word .at .ensures) (byte .byte .ensures) (forked .fork .ensures) in
+    first-frees (start .pre .holds) (took .take .ensures) (dropped .drop-first .ensures) F (linked .relink .ensures) _ refl refl
 
 count-record-requires : tie.Need-count-record-requires
 count-record-requires c κs =
@@ -59,9 +65,10 @@ count-record-requires c κs =
     let dropped = forked .before .before .before .before in
     let took = dropped .before .before .before .before in
     let byte = took .before .before in
-    let start = byte .before .before .before .before .before .before in
-    let F = first-forked (start .pre) refl (byte .byte .ensures) (forked .fork .ensures) in
-    first-counts (start .pre) (took .take .ensures) (dropped .drop-first .ensures) F (linked .relink .ensures) _ refl (freed .free-row .ensures)
+    let word = byte .before .before in
+    let start = word .before .before .before .before .before .before in
+    let F = first-forked (start .pre .holds) (word .at .ensures) (byte .byte .ensures) (forked .fork .ensures) in
+    first-counts (start .pre .holds) (took .take .ensures) (dropped .drop-first .ensures) F (linked .relink .ensures) _ refl (freed .free-row .ensures)
 
 same-length : tie.Need-same-length
 same-length c = search needs
@@ -75,14 +82,15 @@ returns c =
     let dropped = forked .before .before .before .before in
     let took = dropped .before .before .before .before in
     let byte = took .before .before in
-    let start = byte .before .before .before .before .before .before in
-    let F = first-forked (start .pre) refl (byte .byte .ensures) (forked .fork .ensures) in
-    first-put (start .pre) (took .take .ensures) (dropped .drop-first .ensures) F (linked .relink .ensures) _ refl (freed .free-row .ensures) (counted .count-record .ensures) (λ a. omega (arith, c .slice-known7 .given a))
+    let word = byte .before .before in
+    λ E N. first-put N (took .take .ensures) (dropped .drop-first .ensures) (first-forked N (word .at .ensures) (byte .byte .ensures) (forked .fork .ensures)) (linked .relink .ensures) _ refl (freed .free-row .ensures) (counted .count-record .ensures)
+    (λ a. omega (arith, c .slice-known7 .given a))
 
 pub cut-first-spec : {M : Type 1} → statement M
 cut-first-spec =
     tie.close
     (tie.spec
+    at-requires
     byte-requires
     take-requires
     drop-first-requires
