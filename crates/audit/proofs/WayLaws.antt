@@ -5,12 +5,13 @@ use mathlib.Core.Path.{_≡_, refl, sym, ap, _∙_}
 use mathlib.Core.List.{List, [], _∷_, _++_, append-nil}
 use mathlib.Core.Bool.{true, false}
 use native.Mathlib.Omega.{arith}
-use lib.ListN.{length, getD, set, take, drop}
+use lib.ListN.{length, getD, set, take, drop, length-set}
 use lib.Seq.{take-take, take-set-le, drop-length, getD-set-same, getD-set-other, getD-take}
 use Rattle.layout.specs.Kind.{Inner, bodySize, most}
 use Rattle.layout.specs.Kind.Inner.{node4, node16, node48, node256}
 use Rattle.layout.specs.Entry.{placeOf, highOf}
 use Rattle.layout.proofs.KindLaws.{size-least, range-inner}
+use Rattle.model.specs.Edition.{Edition}
 use Rattle.model.specs.Item.{Item, body, sum}
 use Rattle.model.specs.Body.{InnerAt, byteIn, childIn}
 use Rattle.model.specs.Frame.{LayKids, Entry, pairs, itemsAll, Places, Trees}
@@ -34,8 +35,8 @@ use Rattle.audit.proofs.WalkLaws.{entry-made, path-byte, run-split, run
 -- ---- what is left
 
 -- the children from `next` on of the node at a place
-abbrev pub Rest : List ℕ → List ℕ → ℕ → ℕ → List (ℕ × ℕ) → ℕ → List Item → Type 0
-Rest f path place kind kids next = RunItems f path place kind (drop next kids)
+abbrev pub Rest : Edition → List ℕ → List ℕ → ℕ → ℕ → List (ℕ × ℕ) → ℕ → List Item → Type 0
+Rest Ed f path place kind kids next = RunItems Ed f path place kind (drop next kids)
 
 -- a node that waits, until those before `next` are counted
 pub record Way : Type 0 where
@@ -47,9 +48,9 @@ pub record Way : Type 0 where
   pub path : List ℕ
   pub kids : List (ℕ × ℕ)
 
-unfoldable pub Waiting : List ℕ → List Way → List Item → Type 0
-Waiting f [] xs = xs ≡ []
-Waiting f (w ∷ ws) xs = Row (Rest f (w .path) (w .place) (w .kind) (w .kids) (w .next)) (Waiting f ws) xs
+unfoldable pub Waiting : Edition → List ℕ → List Way → List Item → Type 0
+Waiting Ed f [] xs = xs ≡ []
+Waiting Ed f (w ∷ ws) xs = Row (Rest Ed f (w .path) (w .place) (w .kind) (w .kids) (w .next)) (Waiting Ed f ws) xs
 
 -- ---- what the arrays hold of the nodes that wait
 
@@ -59,7 +60,6 @@ pub record Noted (f : List ℕ) (u b : ℕ) (path slots depths turns : List ℕ)
   pub first : 1 ≤ w .slot
   pub last : w .slot ≤ u
   pub room : w .place + bodySize (w .kind) ≤ b
-  pub short : w .depth ≤ 112
   pub slotIs : getD slots k 0 ≡ w .slot
   pub depthIs : getD depths k 0 ≡ w .depth
   pub nextIs : getD turns k 0 + 1 ≡ w .next
@@ -99,7 +99,6 @@ module _ (f : List ℕ) (u b : ℕ) (path slots depths turns : List ℕ) where
         first = N .first;
         last = N .last;
         room = N .room;
-        short = N .short;
         slotIs = N .slotIs;
         depthIs = N .depthIs;
         nextIs = N .nextIs;
@@ -132,7 +131,6 @@ module _ (f : List ℕ) (u b : ℕ) (path slots depths turns : List ℕ) where
         first = N .first;
         last = N .last;
         room = N .room;
-        short = N .short;
         slotIs = getD-set-other slots k j x 0 far ∙ N .slotIs;
         depthIs = getD-set-other depths k j y 0 far ∙ N .depthIs;
         nextIs = rw et (N .nextIs);
@@ -173,15 +171,15 @@ few-kids {f} {o} {kind} {ks} I N =
     go node256 = omega arith
 
 -- a tree has a body
-pub tree-more : {f path : List ℕ} {s d u b : ℕ} {m : List ℕ} {t : Sums} {m' : List ℕ} {t' : Sums} → Told (TreeItems f path s) (TreeItems f path s) f d u b m t m' t' → t' .good ≡ true → (t .slots < t' .slots) × (t' .slots ≤ u)
+pub tree-more : {Ed : Edition} {f path : List ℕ} {s d u b : ℕ} {m : List ℕ} {t : Sums} {m' : List ℕ} {t' : Sums} → Told (TreeItems Ed f path s) (TreeItems Ed f path s) f d u b m t m' t' → t' .good ≡ true → (t .slots < t' .slots) × (t' .slots ≤ u)
 unfolding isBody
-tree-more {f} {path} {s} T g =
+tree-more {Ed} {f} {path} {s} T g =
     let K = T .holds g in
     let w = tree-first (K .are) in
     let e = ap (sum isBody) (w .1) in
     (omega (arith, K .grown .slots, e, sum-cons isBody (body s (highOf f s) (placeOf f s)) (w .0)), K .tally .slots)
 
-pub record Walking (G : List Item → Type 0) (f : List ℕ) (d u b : ℕ) (m₀ : List ℕ) (t₀ : Sums) (m path slots depths turns : List ℕ) (waiting : ℕ) (t : Sums) (slot place kind depth n i from : ℕ) : Type 0 where
+pub record Walking (Ed : Edition) (G : List Item → Type 0) (f : List ℕ) (d u b : ℕ) (m₀ : List ℕ) (t₀ : Sums) (m path slots depths turns : List ℕ) (waiting : ℕ) (t : Sums) (slot place kind depth n i from : ℕ) : Type 0 where
   pub kids : List (ℕ × ℕ)
   pub ways : List Way
   pub node : InnerAt f place kind kids
@@ -189,7 +187,7 @@ pub record Walking (G : List Item → Type 0) (f : List ℕ) (d u b : ℕ) (m₀
   pub first : 1 ≤ slot
   pub last : slot ≤ u
   pub room : place + bodySize kind ≤ b
-  pub short : depth ≤ 112
+  pub short : depth < length path
   pub tally : Tally u 0 t
   pub count : n ≡ length kids
   pub few : length kids ≤ 256
@@ -198,10 +196,10 @@ pub record Walking (G : List Item → Type 0) (f : List ℕ) (d u b : ℕ) (m₀
   pub low : from ≤ 256
   pub height : waiting ≡ length ways
   pub noted : AllNoted f u b path slots depths turns depth ways
-  pub leads : Leads (Row (Rest f (take depth path) place kind kids i) (Waiting f ways)) (Row (Rest f (take depth path) place kind kids i) (Waiting f ways)) G G f d u b m t m₀ t₀
+  pub leads : Leads (Row (Rest Ed f (take depth path) place kind kids i) (Waiting Ed f ways)) (Row (Rest Ed f (take depth path) place kind kids i) (Waiting Ed f ways)) G G f d u b m t m₀ t₀
 
 -- the same where the walk arrives at a slot
-pub record Coming (G : List Item → Type 0) (f : List ℕ) (d u b : ℕ) (m₀ : List ℕ) (t₀ : Sums) (m path slots depths turns : List ℕ) (waiting : ℕ) (t : Sums) (slot place kind depth : ℕ) : Type 0 where
+pub record Coming (Ed : Edition) (G : List Item → Type 0) (f : List ℕ) (d u b : ℕ) (m₀ : List ℕ) (t₀ : Sums) (m path slots depths turns : List ℕ) (waiting : ℕ) (t : Sums) (slot place kind depth : ℕ) : Type 0 where
   pub ways : List Way
   pub kindIs : kind ≡ highOf f slot
   pub placeIs : place ≡ placeOf f slot
@@ -209,34 +207,34 @@ pub record Coming (G : List Item → Type 0) (f : List ℕ) (d u b : ℕ) (m₀ 
   pub first : 1 ≤ slot
   pub last : slot ≤ u
   pub other : kind ≡ 1 → ⊥
-  pub short : depth ≤ 113
+  pub short : depth ≤ length path
   pub tally : Tally u 0 t
   pub height : waiting ≡ length ways
   pub noted : AllNoted f u b path slots depths turns depth ways
-  pub leads : Leads (Row (TreeItems f (take depth path) slot) (Waiting f ways)) (Row (TreeItems f (take depth path) slot) (Waiting f ways)) G G f d u b m t m₀ t₀
+  pub leads : Leads (Row (TreeItems Ed f (take depth path) slot) (Waiting Ed f ways)) (Row (TreeItems Ed f (take depth path) slot) (Waiting Ed f ways)) G G f d u b m t m₀ t₀
 
 -- ---- the first child, and those after it
 
-module _ {f path : List ℕ} {o kind i c s next : ℕ} {q : List ℕ} (kids : List (ℕ × ℕ)) (below : i < length kids) (ec : c ≡ byteIn kids i) (es : s ≡ childIn kids i) (eq : q ≡ path ++ c ∷ []) (en : next ≡ i + 1) where
-  rest-first : (zs : List Item) → Rest f path o kind kids i zs → Row (TreeItems f q s) (Rest f path o kind kids next) zs
+module _ {Ed : Edition} {f path : List ℕ} {o kind i c s next : ℕ} {q : List ℕ} (kids : List (ℕ × ℕ)) (below : i < length kids) (ec : c ≡ byteIn kids i) (es : s ≡ childIn kids i) (eq : q ≡ path ++ c ∷ []) (en : next ≡ i + 1) where
+  rest-first : (zs : List Item) → Rest Ed f path o kind kids i zs → Row (TreeItems Ed f q s) (Rest Ed f path o kind kids next) zs
   rest-first zs R =
       let z : next ≡ suc i = omega arith in
       let w = run-split f path o kind (c, s) (drop (suc i) kids) zs (rw (kids-next kids i c s below ec es) at R) in
       record { first = w .0; rest = w .2; head = rw eq (w .1); tail = rw z (w .3); are = w .4 }
 
-  rest-join : (zs : List Item) → Row (TreeItems f q s) (Rest f path o kind kids next) zs → Rest f path o kind kids i zs
+  rest-join : (zs : List Item) → Row (TreeItems Ed f q s) (Rest Ed f path o kind kids next) zs → Rest Ed f path o kind kids i zs
   rest-join zs r =
       let z : next ≡ suc i = omega arith in
       let J = run-join f path o kind (c, s) (drop (suc i) kids) (r .first) (r .rest) (rw eq at (r .head)) (rw z at (r .tail)) in
       rw (r .are, kids-next kids i c s below ec es) J
 
-rest-none : {f path : List ℕ} {o kind i : ℕ} (kids : List (ℕ × ℕ)) → i ≡ length kids → Rest f path o kind kids i []
+rest-none : {Ed : Edition} {f path : List ℕ} {o kind i : ℕ} (kids : List (ℕ × ℕ)) → i ≡ length kids → Rest Ed f path o kind kids i []
 unfolding Trees Places pairs itemsAll
 rest-none kids e = record { kids = nil; trees = tt; pairsAre = sym (ap (λ (n : ℕ). drop n kids) e ∙ drop-length kids); places = tt; are = refl }
 
-rest-end : {f path : List ℕ} {o kind i : ℕ} (kids : List (ℕ × ℕ)) → i ≡ length kids → (zs : List Item) → Rest f path o kind kids i zs → zs ≡ []
+rest-end : {Ed : Edition} {f path : List ℕ} {o kind i : ℕ} (kids : List (ℕ × ℕ)) → i ≡ length kids → (zs : List Item) → Rest Ed f path o kind kids i zs → zs ≡ []
 unfolding pairs itemsAll
-rest-end {f} {path} {o} {kind} {i} kids e zs R = go (R .kids) (R .pairsAre ∙ ap (λ (n : ℕ). drop n kids) e ∙ drop-length kids) (R .are)
+rest-end {Ed} {f} {path} {o} {kind} {i} kids e zs R = go (R .kids) (R .pairsAre ∙ ap (λ (n : ℕ). drop n kids) e ∙ drop-length kids) (R .are)
   where
     go : (k : LayKids) → pairs k ≡ [] → itemsAll k ≡ zs → zs ≡ []
     go nil p a = sym a
@@ -245,8 +243,8 @@ rest-end {f} {path} {o} {kind} {i} kids e zs R = go (R .kids) (R .pairsAre ∙ a
 -- ---- turns of the loop
 
 -- the walk starts
-pub walk-start : {f : List ℕ} {d u b s place kind : ℕ} {m : List ℕ} {t : Sums} (path slots depths turns : List ℕ) → kind ≡ highOf f s → place ≡ placeOf f s → place < 1048576 → 1 ≤ s → s ≤ u → (kind ≡ 1 → ⊥) → Tally u 0 t
-    → Coming (TreeItems f [] s) f d u b m t m path slots depths turns 0 t s place kind 0
+pub walk-start : {Ed : Edition} {f : List ℕ} {d u b s place kind : ℕ} {m : List ℕ} {t : Sums} (path slots depths turns : List ℕ) → kind ≡ highOf f s → place ≡ placeOf f s → place < 1048576 → 1 ≤ s → s ≤ u → (kind ≡ 1 → ⊥) → Tally u 0 t
+    → Coming Ed (TreeItems Ed f [] s) f d u b m t m path slots depths turns 0 t s place kind 0
 unfolding AllNoted Waiting
 walk-start path slots depths turns ek eo small a z n y =
     record {
@@ -264,40 +262,37 @@ walk-start path slots depths turns ek eo small a z n y =
       leads = λ m'' r T. opens-told (opens-as (λ xs r. rw (r .are, r .tail, append-nil (r .first)) (r .head)) (λ xs R. record { first = xs; rest = []; head = R; tail = refl; are = sym (append-nil xs) })) T;
     }
 
-module _ {G : List Item → Type 0} {f : List ℕ} {d u b : ℕ} {m₀ : List ℕ} {t₀ : Sums} {m path slots depths turns : List ℕ} {waiting : ℕ} {t : Sums} {slot place kind depth : ℕ}
-    (C : Coming G f d u b m₀ t₀ m path slots depths turns waiting t slot place kind depth) where
+module _ {Ed : Edition} {G : List Item → Type 0} {f : List ℕ} {d u b : ℕ} {m₀ : List ℕ} {t₀ : Sums} {m path slots depths turns : List ℕ} {waiting : ℕ} {t : Sums} {slot place kind depth : ℕ}
+    (C : Coming Ed G f d u b m₀ t₀ m path slots depths turns waiting t slot place kind depth) where
   pub come-entry : Entry f slot kind place
   come-entry = entry-made (C .kindIs) (C .placeIs)
 
   -- the slot is refused, and so is all
-  pub come-refused : {m' : List ℕ} {r : Sums} → r .good ≡ false → Fails (TreeItems f (take depth path) slot) d u b m t → Told G G f d u b m₀ t₀ m' r
+  pub come-refused : {m' : List ℕ} {r : Sums} → r .good ≡ false → Fails (TreeItems Ed f (take depth path) slot) d u b m t → Told G G f d u b m₀ t₀ m' r
   come-refused {m'} {r} q h = C .leads m' r (told-no q (row-fails h))
 
   -- it was a Prefix
   pub come-prefix : {now m' : List ℕ} {k : walk.Inner} → Kept depth path now → PrefixLeads f (take depth path) depth slot d u b m t now m' k
-      → Coming G f d u b m₀ t₀ m' now slots depths turns waiting (k .sums) (k .slot) (k .place) (k .kind) (k .depth)
+      → Coming Ed G f d u b m₀ t₀ m' now slots depths turns waiting (k .sums) (k .slot) (k .place) (k .kind) (k .depth)
   come-prefix {now} {m'} {k} K L =
-      let I = L .slot in
-      let low = I .low in
-      let e = L .kindIs in
       record {
         ways = C .ways;
-        kindIs = e;
+        kindIs = L .kindIs;
         placeIs = L .placeIs;
         small = L .small;
-        first = I .first;
-        last = I .last;
-        other = λ q. omega arith;
+        first = L .first;
+        last = L .last;
+        other = L .other;
         short = let h = L .short in omega arith;
         tally = L .tally;
         height = C .height;
         noted = noted-deeper f u b now slots depths turns depth (k .depth) (C .ways) (L .deeper) (noted-path f u b path slots depths turns now depth (C .ways) (K .same) (C .noted));
-        leads = λ m'' r T. C .leads m'' r (opens-told (row-opens (L .opens)) T);
+        leads = λ m'' r T. C .leads m'' r (opens-told (row-opens (L .opens Ed)) T);
       }
 
   -- it was an inner node
-  pub come-node : {m' : List ℕ} {k : Sums} {n : ℕ} → NodeOpened f depth kind place d u b m t m' k → ((ks : List (ℕ × ℕ)) → InnerAt f place kind ks → n ≡ length ks)
-      → Walking G f d u b m₀ t₀ m' path slots depths turns waiting k slot place kind depth n 0 0
+  pub come-node : {m' : List ℕ} {k : Sums} {n : ℕ} → NodeOpened f (length path) depth kind place d u b m t m' k → ((ks : List (ℕ × ℕ)) → InnerAt f place kind ks → n ≡ length ks)
+      → Walking Ed G f d u b m₀ t₀ m' path slots depths turns waiting k slot place kind depth n 0 0
   come-node N count =
       let I = N .node in
       record {
@@ -317,13 +312,13 @@ module _ {G : List Item → Type 0} {f : List ℕ} {d u b : ℕ} {m₀ : List �
         low = omega arith;
         height = C .height;
         noted = C .noted;
-        leads = λ m'' r T. C .leads m'' r (opens-told (row-opens (N .of (take depth path) slot come-entry (C .first) (C .last))) T);
+        leads = λ m'' r T. C .leads m'' r (opens-told (row-opens (N .of Ed (take depth path) slot come-entry (C .first) (C .last))) T);
       }
 
-module _ {G : List Item → Type 0} {f : List ℕ} {d u b : ℕ} {m₀ : List ℕ} {t₀ : Sums} {m path slots depths turns : List ℕ} {waiting : ℕ} {t : Sums} {slot place kind depth n i from : ℕ}
-    (W : Walking G f d u b m₀ t₀ m path slots depths turns waiting t slot place kind depth n i from) where
+module _ {Ed : Edition} {G : List Item → Type 0} {f : List ℕ} {d u b : ℕ} {m₀ : List ℕ} {t₀ : Sums} {m path slots depths turns : List ℕ} {waiting : ℕ} {t : Sums} {slot place kind depth n i from : ℕ}
+    (W : Walking Ed G f d u b m₀ t₀ m path slots depths turns waiting t slot place kind depth n i from) where
   -- there is a place in the arrays
-  pub walk-room : waiting ≤ 112
+  pub walk-room : waiting < length path
   walk-room = let h = W .height in let l = noted-few f u b path slots depths turns depth (W .ways) (W .noted) in let k = W .short in omega arith
 
   -- all is counted
@@ -331,14 +326,14 @@ module _ {G : List Item → Type 0} {f : List ℕ} {d u b : ℕ} {m₀ : List �
   unfolding Waiting
   walk-end h e = go (W .ways) (W .height ∙ refl) (W .leads)
     where
-      go : (ws : List Way) → waiting ≡ length ws → Leads (Row (Rest f (take depth path) place kind (W .kids) i) (Waiting f ws)) (Row (Rest f (take depth path) place kind (W .kids) i) (Waiting f ws)) G G f d u b m t m₀ t₀ → Told G G f d u b m₀ t₀ m t
+      go : (ws : List Way) → waiting ≡ length ws → Leads (Row (Rest Ed f (take depth path) place kind (W .kids) i) (Waiting Ed f ws)) (Row (Rest Ed f (take depth path) place kind (W .kids) i) (Waiting Ed f ws)) G G f d u b m t m₀ t₀ → Told G G f d u b m₀ t₀ m t
       go (w ∷ ws) p L = absurd (omega arith)
       go [] p L =
           let a = W .inside in
           let c = W .count in
           L m t (told-yes (W .tally .good) (record { items = []; are = record { first = []; rest = []; head = rest-none {i = i} (W .kids) (omega arith); tail = refl; are = refl }; grown = grown-none; sited = tt; tally = W .tally }))
 
-  module _ {c k : ℕ} (below : i < n) (ec : c ≡ byteIn (W .kids) i) (ek : k ≡ childIn (W .kids) i) (long : length path ≡ 113) where
+  module _ {c k : ℕ} (below : i < n) (ec : c ≡ byteIn (W .kids) i) (ek : k ≡ childIn (W .kids) i) where
     child-below : i < length (W .kids)
     child-below = let e = W .count in omega arith
 
@@ -347,15 +342,15 @@ module _ {G : List Item → Type 0} {f : List ℕ} {d u b : ℕ} {m₀ : List �
     child-path = let h = W .short in path-byte path c {depth = depth} {p = path} (omega arith) (record { same = refl })
 
     -- the child is refused, and so is all
-    pub walk-refused : {m' : List ℕ} {r : Sums} → r .good ≡ false → Fails (TreeItems f (take (depth + 1) (set path depth c)) k) d u b m t → Told G G f d u b m₀ t₀ m' r
+    pub walk-refused : {m' : List ℕ} {r : Sums} → r .good ≡ false → Fails (TreeItems Ed f (take (depth + 1) (set path depth c)) k) d u b m t → Told G G f d u b m₀ t₀ m' r
     walk-refused {m'} {r} q h =
         W .leads m' r
         (told-no q
         (row-fails (λ is B zs R Y. row-fails h is B zs (rest-first (W .kids) child-below ec ek child-path refl zs R) Y)))
 
     -- it was a Leaf
-    pub walk-leaf : {m' : List ℕ} {t' : Sums} {next to : ℕ} → Told (TreeItems f (take (depth + 1) (set path depth c)) k) (TreeItems f (take (depth + 1) (set path depth c)) k) f d u b m t m' t' → t' .good ≡ true → next ≡ i + 1 → to ≡ c + 1 → c < 256
-        → Walking G f d u b m₀ t₀ m' (set path depth c) slots depths turns waiting t' slot place kind depth n next to
+    pub walk-leaf : {m' : List ℕ} {t' : Sums} {next to : ℕ} → Told (TreeItems Ed f (take (depth + 1) (set path depth c)) k) (TreeItems Ed f (take (depth + 1) (set path depth c)) k) f d u b m t m' t' → t' .good ≡ true → next ≡ i + 1 → to ≡ c + 1 → c < 256
+        → Walking Ed G f d u b m₀ t₀ m' (set path depth c) slots depths turns waiting t' slot place kind depth n next to
     walk-leaf {m'} {t'} {next} {to} T g en et hc =
         let e = W .count in
         let same : take depth (set path depth c) ≡ take depth path = take-set-le depth path depth c (omega arith) in
@@ -367,7 +362,7 @@ module _ {G : List Item → Type 0} {f : List ℕ} {d u b : ℕ} {m₀ : List �
           first = W .first;
           last = W .last;
           room = W .room;
-          short = W .short;
+          short = let h = W .short in simp length-set h;
           tally = T .holds g .tally;
           count = e;
           few = W .few;
@@ -380,8 +375,8 @@ module _ {G : List Item → Type 0} {f : List ℕ} {d u b : ℕ} {m₀ : List �
         }
 
     -- the walk goes down, and the node waits
-    pub walk-down : {high at next deep : ℕ} → c < 256 → length slots ≡ 113 → length depths ≡ 113 → length turns ≡ 113 → high ≡ highOf f k → at ≡ placeOf f k → at < 1048576 → 1 ≤ k → k ≤ u → (high ≡ 1 → ⊥) → next ≡ waiting + 1 → deep ≡ depth + 1
-        → Coming G f d u b m₀ t₀ m (set path depth c) (set slots waiting slot) (set depths waiting depth) (set turns waiting i) next t k at high deep
+    pub walk-down : {high at next deep : ℕ} → c < 256 → length slots ≡ length path → length depths ≡ length path → length turns ≡ length path → high ≡ highOf f k → at ≡ placeOf f k → at < 1048576 → 1 ≤ k → k ≤ u → (high ≡ 1 → ⊥) → next ≡ waiting + 1 → deep ≡ depth + 1
+        → Coming Ed G f d u b m₀ t₀ m (set path depth c) (set slots waiting slot) (set depths waiting depth) (set turns waiting i) next t k at high deep
     unfolding AllNoted Waiting
     walk-down {high} {at} {next} {deep} hb ls ld lt ek' eo small one last other en edeep =
         let hs = W .short in
@@ -401,7 +396,6 @@ module _ {G : List Item → Type 0} {f : List ℕ} {d u b : ℕ} {m₀ : List �
           first = W .first;
           last = W .last;
           room = W .room;
-          short = hs;
           slotIs = es;
           depthIs = ed;
           nextIs = rw et;
@@ -419,7 +413,7 @@ module _ {G : List Item → Type 0} {f : List ℕ} {d u b : ℕ} {m₀ : List �
           first = one;
           last = last;
           other = other;
-          short = omega arith;
+          short = simp length-set (omega arith);
           tally = W .tally;
           height = omega arith;
           noted = (N, omega arith, noted-kept f u b now slots depths turns waiting slot depth i depth (W .ways) (omega arith) (noted-path f u b path slots depths turns now depth (W .ways) same (W .noted)));
@@ -445,13 +439,13 @@ module _ {G : List Item → Type 0} {f : List ℕ} {d u b : ℕ} {m₀ : List �
   -- after the last child the walk goes back to the node that waits
   pub walk-back : {top deep turn high at count to : ℕ} → n ≤ i → waiting ≡ top + 1 → deep ≡ getD depths top 0 → turn ≡ getD turns top 0 + 1 → to ≡ getD path deep 0 + 1 → high ≡ highOf f (getD slots top 0) → at ≡ placeOf f (getD slots top 0)
       → ((kind : ℕ) (ks : List (ℕ × ℕ)) → InnerAt f at kind ks → count ≡ length ks)
-      → (deep < depth) × Walking G f d u b m₀ t₀ m path slots depths turns top t (getD slots top 0) at high deep count turn to
+      → (deep < depth) × Walking Ed G f d u b m₀ t₀ m path slots depths turns top t (getD slots top 0) at high deep count turn to
   unfolding AllNoted Waiting
   walk-back {top} {deep} {turn} {high} {at} {count} {to} done ew hd ht ho hh ha hc = go (W .ways) (W .height) (W .noted) (W .leads)
     where
       go : (ws : List Way) → waiting ≡ length ws → AllNoted f u b path slots depths turns depth ws
-          → Leads (Row (Rest f (take depth path) place kind (W .kids) i) (Waiting f ws)) (Row (Rest f (take depth path) place kind (W .kids) i) (Waiting f ws)) G G f d u b m t m₀ t₀
-          → (deep < depth) × Walking G f d u b m₀ t₀ m path slots depths turns top t (getD slots top 0) at high deep count turn to
+          → Leads (Row (Rest Ed f (take depth path) place kind (W .kids) i) (Waiting Ed f ws)) (Row (Rest Ed f (take depth path) place kind (W .kids) i) (Waiting Ed f ws)) G G f d u b m t m₀ t₀
+          → (deep < depth) × Walking Ed G f d u b m₀ t₀ m path slots depths turns top t (getD slots top 0) at high deep count turn to
       go [] p A L = absurd (omega arith)
       go (w ∷ ws) p A L =
           let N = A .0 in
@@ -468,7 +462,7 @@ module _ {G : List Item → Type 0} {f : List ℕ} {d u b : ℕ} {m₀ : List �
           let node : InnerAt f at high (w .kids) = rw (ea, eh) (N .node) in
           let count' = hc high (w .kids) node in
           let inside = N .inside in
-          let short = N .short in
+          let short = W .short in
           let a = W .inside in
           let z = W .count in
           let E : Entry f (getD slots top 0) high at = record { kindIs = sym hh; placeIs = sym ha } in
@@ -492,7 +486,7 @@ module _ {G : List Item → Type 0} {f : List ℕ} {d u b : ℕ} {m₀ : List �
               height = e;
               noted = rw ed (A .2);
               leads = λ m'' r T.
-                  let T' : Told (Row (Rest f (w .path) (w .place) (w .kind) (w .kids) (w .next)) (Waiting f ws)) (Row (Rest f (w .path) (w .place) (w .kind) (w .kids) (w .next)) (Waiting f ws)) f d u b m t m'' r = rw (ep, ea, eh, en) at T in
+                  let T' : Told (Row (Rest Ed f (w .path) (w .place) (w .kind) (w .kids) (w .next)) (Waiting Ed f ws)) (Row (Rest Ed f (w .path) (w .place) (w .kind) (w .kids) (w .next)) (Waiting Ed f ws)) f d u b m t m'' r = rw (ep, ea, eh, en) at T in
                   L m'' r
                   (opens-told
                   (opens-as (λ xs x. record { first = []; rest = xs; head = rest-none {i = i} (W .kids) (omega arith); tail = x; are = refl })

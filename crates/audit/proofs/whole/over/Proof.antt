@@ -2,6 +2,7 @@
 use mathlib.Core.Path.{refl}
 use native.Mathlib.Omega.{arith}
 use borrow.Author.Tests.{not-true, not-false}
+use Rattle.model.specs.Edition.{editionOf}
 use Rattle.pieces.proofs.DecideLaws.{denied, refuted, passed}
 use Rattle.audit.proofs.RuleLaws.{rule-before}
 use Rattle.audit.proofs.WholeLaws.{ground-of, limits-of, sweep-ok, whole-root, whole-unclean, whole-lists, whole-open, whole-good}
@@ -38,7 +39,7 @@ returns c =
     let d = b .before .before in
     let z = d .before .before .before in
     let p = z .pre in
-    denied (λ G. whole-root (p .0) (d .data-start .ensures .0) (b .before .slots-given .ensures .0) (b .next-byte .ensures .0) (R .before .root .ensures .0) (p .2) (refl, refl, refl) (R .root2 .ensures) (not-true _ (c .if1 .taken)) (rule-before (z .args .wiped) G))
+    denied (λ G. whole-root (p .0) (d .data-start .ensures .0) (b .before .slots-given .ensures .0) (b .next-byte .ensures .0) (R .before .root .ensures .0) (p .2) (refl, refl, refl) (R .root2 .ensures) (not-true _ (c .if1 .taken)) (rule-before (z .args .wiped) (editionOf (z .args .edition)) G))
 
 unmarked-requires : tie.Need-unmarked-requires
 unmarked-requires c κs =
@@ -84,7 +85,7 @@ returns-3 c =
     let d = b .before .before in
     let z = d .before .before .before in
     let p = z .pre in
-    denied (λ G. whole-lists (p .0) (d .data-start .ensures .0) (b .before .slots-given .ensures .0) (b .next-byte .ensures .0) (R .before .root .ensures .0) (p .2) (refl, refl, refl) (R .root2 .ensures .holds (not-false _ (U .before .before .if1 .left))) (L .lists .ensures) (not-true _ (c .if3 .taken)) (rule-before (z .args .wiped) G))
+    denied (λ G. whole-lists (p .0) (d .data-start .ensures .0) (b .before .slots-given .ensures .0) (b .next-byte .ensures .0) (R .before .root .ensures .0) (p .2) (refl, refl, refl) (R .root2 .ensures .holds (not-false _ (U .before .before .if1 .left))) (L .lists .ensures) (not-true _ (c .if3 .taken)) (rule-before (z .args .wiped) (editionOf (z .args .edition)) G))
 
 closes-requires : tie.Need-closes-requires
 closes-requires c κs =
@@ -112,7 +113,7 @@ returns-4 c =
     let C = c .closes .ensures in
     record {
       holds = λ e. whole-good (p .0) (d .data-start .ensures .0) (b .before .slots-given .ensures .0) (b .next-byte .ensures .0) (R .before .root .ensures .0) (p .2) (refl, refl, refl) K J (z .args .wiped) (passed (U .unmarked .ensures) (L .before .before .if2 .left)) (C .holds e);
-      fails = λ e G. whole-open (p .0) (d .data-start .ensures .0) (b .before .slots-given .ensures .0) (b .next-byte .ensures .0) (R .before .root .ensures .0) (p .2) (refl, refl, refl) K J (C .fails e) (rule-before (z .args .wiped) G);
+      fails = λ e G. whole-open (p .0) (d .data-start .ensures .0) (b .before .slots-given .ensures .0) (b .next-byte .ensures .0) (R .before .root .ensures .0) (p .2) (refl, refl, refl) K J (C .fails e) (rule-before (z .args .wiped) (editionOf (z .args .edition)) G);
     }
 
 pub over-spec : {M : Type 1} → statement M

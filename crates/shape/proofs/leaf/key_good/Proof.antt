@@ -1,48 +1,42 @@
--- `key_good` decides that a key is clean and begins with the path, with LeafLaws at each exit. Assumes nothing.
+-- `key_good` is the test of the edition. Assumes nothing.
+use Rattle.shape.proofs.LeafLaws.{under-other, under-part}
 use borrow.Author.Needs.{needs}
-use Rattle.shape.proofs.LeafLaws.{key-end, key-follows, key-here}
-use Rattle.pieces.proofs.DecideLaws.{denied, refuted, passed, handed}
 use Rattle.shape.proofs.leaf.key_good.Statement.{statement}
 use Rattle.shape.proofs.leaf.key_good.Tie as tie
 
-ends-requires : tie.Need-ends-requires
-ends-requires c κs = search needs
+add-spelt-good : tie.Need-add-spelt-good
+add-spelt-good c = search needs
+
+sub-spelt-good : tie.Need-sub-spelt-good
+sub-spelt-good c = search needs
+
+part-spelt-good-start : tie.Need-part-spelt-good-start
+part-spelt-good-start c = search needs
+
+part-spelt-good-end : tie.Need-part-spelt-good-end
+part-spelt-good-end c = search needs
+
+spelt-good-requires : tie.Need-spelt-good-requires
+spelt-good-requires c κs = search needs
 
 returns : tie.Need-returns
-returns c = let a = c .before .before .before .before .args in
-    denied (λ K. refuted (c .before .ends .ensures) (c .if1 .taken) (key-end (a .f .now) (a .e) (a .k) (a .path .now) (a .depth) K))
+returns c = under-part (c .before .before .before .before .before .args .f .now) (c .before .before .before .before .before .args .e) (c .before .before .before .before .before .args .k) (c .spelt-good .ensures)
 
-lesser-requires : tie.Need-lesser-requires
-lesser-requires c κs = search needs
-
-same-requires : tie.Need-same-requires
-same-requires c κs = search needs
+plain-good-requires : tie.Need-plain-good-requires
+plain-good-requires c κs = search needs
 
 returns-2 : tie.Need-returns-2
-returns-2 c = let l = c .before .before in
-    let a = l .before .before .before .before .before .args in
-    denied (λ K. refuted (c .before .same .ensures) (c .if2 .taken) (key-follows (a .f .now) (a .e) (a .k) (a .path .now) (a .depth) (l .lesser .result) (l .lesser .ensures .0) (l .lesser .ensures .1) K))
-
-add-no-zero : tie.Need-add-no-zero
-add-no-zero c = search needs
-
-no-zero-requires : tie.Need-no-zero-requires
-no-zero-requires c κs = search needs
-
-returns-3 : tie.Need-returns-3
-returns-3 c = let l = c .before .before .before in
-    let a = l .before .before .before .before .before .args in
-    handed (c .no-zero .ensures) (key-here (a .f .now) (a .e) (a .k) (a .path .now) (a .depth) (l .lesser .result) (l .lesser .ensures .2) (passed (l .before .before .ends .ensures) (l .before .if1 .left)) (passed (c .before .before .same .ensures) (c .before .if2 .left))) (λ K. K .clean)
+returns-2 c = under-other (c .before .before .before .before .args .edition) (c .before .if1 .left) (c .plain-good .ensures)
 
 pub key-good-spec : {M : Type 1} → statement M
 key-good-spec =
     tie.close
     (tie.spec
-    ends-requires
+    add-spelt-good
+    sub-spelt-good
+    part-spelt-good-start
+    part-spelt-good-end
+    spelt-good-requires
     returns
-    lesser-requires
-    same-requires
-    returns-2
-    add-no-zero
-    no-zero-requires
-    returns-3)
+    plain-good-requires
+    returns-2)
