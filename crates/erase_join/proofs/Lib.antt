@@ -1,7 +1,7 @@
 pub mod DropLaws
 pub mod SiteLaws
 pub mod JoinLaws
-pub mod OneLaws
+pub mod RunLaws
 pub mod UpLaws
 pub mod OverLaws
 pub mod PairLaws
