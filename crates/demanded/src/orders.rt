@@ -116,7 +116,13 @@ pub struct Packs {
 }
 
 // "Two good frames of equal length and slot capacity pack to the same bytes exactly when they hold the same records."
-pub fn pack_both(first: &[u8], first_out: &mut [u8], second: &[u8], second_out: &mut [u8], edition: usize) -> Packs
+pub fn pack_both(
+    first: &[u8],
+    first_out: &mut [u8],
+    second: &[u8],
+    second_out: &mut [u8],
+    edition: usize,
+) -> Packs
     ensures { λ r. ⌜ PackedBoth (editionOf edition) (now (first .entry)) (now («first_out» .entry)) (now (second .entry)) (now («second_out» .entry)) r (now («first_out» .exit)) (now («second_out» .exit)) ⌝ }
 {
     let one = answers::pack_number(pack(first, first_out, edition));

@@ -22,7 +22,14 @@ pub struct InImage {
 }
 
 // Format, put, look-up.
-pub fn in_new(frame: &mut [u8], length: usize, capacity: usize, key: &[u8], value: &[u8], edition: usize) -> InNew
+pub fn in_new(
+    frame: &mut [u8],
+    length: usize,
+    capacity: usize,
+    key: &[u8],
+    value: &[u8],
+    edition: usize,
+) -> InNew
     ensures { λ r. ⌜ ReadInNew (editionOf edition) (now (frame .entry)) length capacity (now (key .entry)) (now (value .entry)) r (now (frame .exit)) ⌝ }
 {
     let formatted = answers::format_number(format(frame, length, capacity, edition));
@@ -36,7 +43,13 @@ pub fn in_new(frame: &mut [u8], length: usize, capacity: usize, key: &[u8], valu
 }
 
 // Put or replace, pack, look-up in the image.
-pub fn in_image(frame: &mut [u8], out: &mut [u8], key: &[u8], value: &[u8], edition: usize) -> InImage
+pub fn in_image(
+    frame: &mut [u8],
+    out: &mut [u8],
+    key: &[u8],
+    value: &[u8],
+    edition: usize,
+) -> InImage
     ensures { λ r. ⌜ ReadInImage (editionOf edition) (now (frame .entry)) (now (out .entry)) (now (key .entry)) (now (value .entry)) r (now (frame .exit)) (now (out .exit)) ⌝ }
 {
     let given = answers::put_or_replace_number(put_or_replace(frame, key, value, edition));
