@@ -1,8 +1,8 @@
 -- The ends of packing: refused by the check, refused for the output's length, done. Assumes nothing.
 use Prim.Native.Nat.{ℕ, _≤_}
-use mathlib.Core.Path.{_≡_, refl, ap, _∙_}
+use mathlib.Core.Path.{_≡_, refl, ap, subst, _∙_}
 use mathlib.Core.List.{List}
-use mathlib.Core.Bool.{Bool, true, false}
+use mathlib.Core.Bool.{Bool, true}
 use native.Mathlib.Omega.{arith}
 use native.Mathlib.Decide.{ℕ-discrete}
 use lib.ListN.{length}
@@ -13,13 +13,13 @@ use Rattle.model.specs.Records.{recordsOf}
 use Rattle.model.specs.State.{State}
 use Rattle.model.specs.Image.{image}
 use Rattle.model.specs.Frame.{Root, RootAt, Good}
-use Rattle.model.specs.Promise.{Told, CheckPromise, PackingPromise}
+use Rattle.model.specs.Promise.{Told, CheckPromise, PackingPromise, PackPromise}
 use Rattle.model.proofs.Edition2.{lawfulOf}
 use Rattle.model.proofs.StringLaws.{clash}
 use Rattle.model.proofs.UniqueLaws.{stands-unique}
 use Rattle.model.proofs.StandsGood.{stands-heads}
-use Rattle.audit.specs.Audit.{earlier, byRule}
-use Rattle.audit.proofs.RuleLaws.{root-now}
+use Rattle.audit.specs.Audit.{ruled, byRule}
+use Rattle.audit.proofs.RuleLaws.{root-as, of-rule, rule-now}
 use Rattle.pack.specs.Image.{Known, Imaged}
 
 -- G is a rule by which a frame of edition E is good: the same number and the same trees
@@ -29,8 +29,8 @@ pub record RuleOf (G E : Edition) : Type 0 where
   pub number : G .number ≡ E .number
   pub trees : (f : List ℕ) (r : Root) → RootAt G f r → RootAt E f r
 
-lawful-earlier : {E : Edition} → Lawful E → Lawful (earlier E)
-lawful-earlier {E} L =
+lawful-ruled : (wiped : Bool) {E : Edition} → Lawful E → Lawful (ruled wiped E)
+lawful-ruled wiped {E} L =
     record {
       bytes = λ k h. L .bytes k (legal h);
       short = λ k h. L .short k (legal h);
@@ -39,12 +39,15 @@ lawful-earlier {E} L =
       fields = record { number = L .fields .number; keys = λ k h. L .fields .keys k (legal h); words = L .fields .words };
     }
   where
-    legal : {k : List ℕ} → Legal (earlier E) k → Legal E k
+    legal : {k : List ℕ} → Legal (ruled wiped E) k → Legal E k
     legal h = record { passes = h .passes; bytes = h .bytes }
 
-pub rule-of : (n : ℕ) (wiped : Bool) → RuleOf (byRule n wiped) (editionOf n)
-rule-of n true = record { ruled = lawfulOf n; lawful = lawfulOf n; number = refl; trees = λ f r T. T }
-rule-of n false = record { ruled = lawful-earlier (lawfulOf n); lawful = lawfulOf n; number = refl; trees = root-now (editionOf n) }
+pub rule-either : (n : ℕ) (wiped : Bool) → RuleOf (byRule n wiped) (editionOf n)
+rule-either n wiped = record { ruled = lawful-ruled wiped (lawfulOf n); lawful = lawfulOf n; number = refl; trees = λ f. root-as (of-rule wiped (editionOf n)) f }
+
+-- by the rule in force
+pub packed-now : (n : ℕ) {f o : List ℕ} {m : ℕ} {o' : List ℕ} → PackingPromise (byRule n true) (editionOf n) f o m o' → PackPromise (editionOf n) f o m o'
+packed-now n {f} {o} {m} {o'} P = subst (λ (G : Edition). PackingPromise G (editionOf n) f o m o') (rule-now n) P
 
 -- ---- the check refuses
 
