@@ -1,30 +1,51 @@
 -- A Leaf's key against a bound: its bytes, and the 0 behind them. Assumes nothing.
-use Prim.Native.Nat.{ℕ, _+_, _<_, _≤_}
+use Prim.Native.Nat.{ℕ, _+_, _-_, _<_, _≤_}
 use native.Mathlib.Omega.{arith}
 use mathlib.Core.Path.{_≡_, sym, _∙_}
 use mathlib.Core.List.{List, [], _∷_}
-use mathlib.Core.Bool.{false}
-use lib.ListN.{length, take, drop, getD, length-append, length-take, length-drop, List·getD-append, drop-of-length-le}
-use lib.Seq.{ext-getD, getD-take, getD-drop, drop-cons}
+use mathlib.Core.Bool.{Bool, false}
+use lib.ListN.{length, take, drop, getD, length-append, List·getD-append, drop-of-length-le}
+use lib.Seq.{drop-cons}
 use lib.Dec.{leb, ltb, eqb, lit≤}
 use borrow.Author.Tests.{le-leb, le-ltb, eq-eqb, ne-eqb}
 use Rattle.layout.specs.Number.{le}
 use Rattle.layout.specs.Place.{leafExtent, leafKey}
 use Rattle.model.specs.Strings.{pick}
-use Rattle.model.specs.Edition.{edition1}
+use Rattle.model.specs.Edition.{Edition, edition1, editionOf, Legal}
 use Rattle.model.specs.Body.{Text, LeafAt}
 use Rattle.model.proofs.StringLaws.{bool-cases, eqb-cases, leb-cases}
+use Rattle.keys.specs.Word.{Spelt}
+use Rattle.keys.proofs.KeyLaws.{text-part, of-other}
 use Rattle.listing.specs.Seek.{weigh, reach}
 use Rattle.listing.proofs.SeekLaws.{weigh-append}
 
--- a part of the frame that is a text
-pub text-part : (f : List ℕ) (o : ℕ) (p : List ℕ) → o + length p ≤ length f → Text f o p → take (length p) (drop o f) ≡ p
-text-part f o p h T =
-    let n : length (take (length p) (drop o f)) ≡ length p = simp (length-take, length-drop) (omega arith) in
-    ext-getD 0 (take (length p) (drop o f)) p n (λ i l. getD-take (length p) (drop o f) i 0 (omega arith) ∙ getD-drop o f i 0 ∙ T i (omega arith))
+-- a Leaf's key in its extent
+pub key-there : {f : List ℕ} {o e : ℕ} {k v : List ℕ} → LeafAt f o e k v → Text f e k
+key-there {f} {o} {e} {k} {v} A i h = A .text i (omega (arith, length-append k v)) ∙ List·getD-append k v 0 i h
 
 key-text : {f : List ℕ} {o e : ℕ} {k v : List ℕ} → LeafAt f o e k v → take (length k) (drop e f) ≡ k
-key-text {f} {o} {e} {k} {v} A = let r = A .room in text-part f e k (omega arith) (λ i h. A .text i (omega (arith, length-append k v)) ∙ List·getD-append k v 0 i h)
+key-text {f} {o} {e} {k} {v} A = let r = A .room in text-part f e k (omega arith) (key-there A)
+
+-- ---- written out
+
+-- the key as a part of the frame
+module _ {f : List ℕ} {o e : ℕ} {k v : List ℕ} (A : LeafAt f o e k v) {n from : ℕ} (ef : from ≡ le 4 f (o + leafExtent)) (en : n ≡ le 2 f (o + leafKey)) where
+  part-key : take (from + n - from) (drop from f) ≡ k
+  part-key = let z : from + n - from ≡ n = omega arith in rw (z, ef ∙ A .extent, en ∙ A .keyLength) (key-text A)
+
+  pub leaf-legal : {E : Edition} → Legal E k → Legal E (take (from + n - from) (drop from f))
+  leaf-legal h = rw part-key h
+
+  pub leaf-spelt : (E : Edition) (text : List ℕ) (tail : ℕ) {r : Bool} → r ≡ reach E text tail (take (from + n - from) (drop from f)) → r ≡ reach E text tail k
+  leaf-spelt E text tail h = rw part-key at h
+
+pub spelt-reach : (E : Edition) (key : List ℕ) {g : List ℕ} {n w : ℕ} (text : List ℕ) (tail : ℕ) → Spelt (E .walked key) g n → w ≡ weigh (drop 0 text) tail (take n (drop 0 g)) → leb 1 w ≡ reach E text tail key
+spelt-reach E key text tail S ew = rw (ew, S .text)
+
+pub leaf-other : (n : ℕ) (text : List ℕ) (tail : ℕ) (k : List ℕ) {r : Bool} → (n ≡ 2 → ⊥) → r ≡ reach edition1 text tail k → r ≡ reach (editionOf n) text tail k
+leaf-other n text tail k h e = rw (of-other n h) e
+
+-- ---- byte by byte, and the 0 behind them
 
 pub weigh-most : (g : List ℕ) (t : ℕ) (p : List ℕ) → weigh g t p ≤ 2
 weigh-most g t [] = lit≤ tt

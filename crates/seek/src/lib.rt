@@ -13,7 +13,7 @@ ghost use Rattle.inner.specs.Inner.{NodeSome};
 ghost use Rattle.seek.specs.Sub.{Sub, FirstAt};
 ghost use mathlib.Core.List.{List};
 ghost use mathlib.Core.Option.{Option};
-ghost use Rattle.model.specs.Edition.{edition1};
+ghost use Rattle.model.specs.Edition.{Edition, editionOf, Legal, SomeEdition};
 ghost use Rattle.model.specs.Body.{LeafAt};
 ghost use Rattle.listing.specs.Seek.{Leafy, weigh, reach};
 ghost use Rattle.seek.specs.Seek.{SoughtAt, Nearer, Fallback, Falls, LeafSome, Is};
@@ -42,8 +42,8 @@ const NO_BYTE: usize = 256;
 
 // The first Leaf, in byte order, of the tree at a slot to which `depth` bytes lead: down the lowest children. The place of its body.
 pub fn first(f: &[u8], slot: usize, depth: usize) -> usize
-    requires { ⌜ Sub (now f) slot depth × (depth ≤ edition1 .longest) ⌝ }
-    ensures { λ r. ⌜ FirstAt (now (f .entry)) slot r ⌝ }
+    requires { ⌜ SomeEdition (λ E. Sub E (now f) slot depth) ⌝ }
+    ensures { λ r. ⌜ ((E : Edition) → Sub E (now (f .entry)) slot depth → FirstAt E (now (f .entry)) slot r) ⌝ }
 {
     let mut s = slot;
     let mut d = depth;
@@ -104,7 +104,7 @@ pub fn weigh_bytes(f: &[u8], at: usize, n: usize, text: &[u8], d: usize, tail: u
 
 // The first child of a node from byte b on, as what a seek falls back on.
 fn nearer(f: &[u8], o: usize, kind: usize, b: usize, d: usize, old: Spare) -> Spare
-    requires { ⌜ NodeSome (now f) o kind × (b ≤ 256) × (d ≤ edition1 .longest) ⌝ }
+    requires { ⌜ NodeSome (now f) o kind × (b ≤ 256) × (d ≤ 512) ⌝ }
     ensures { λ r. ⌜ Nearer (now (f .entry)) o kind b d old r ⌝ }
 {
     let k = visit::next_child(f, o, kind, b);
@@ -119,8 +119,8 @@ fn nearer(f: &[u8], o: usize, kind: usize, b: usize, d: usize, old: Spare) -> Sp
 
 // The first Leaf of what the seek falls back on.
 fn fall_back(f: &[u8], spare: Spare) -> Sought
-    requires { ⌜ Falls (now f) spare ⌝ }
-    ensures { λ r. ⌜ ((o : Option Leafy) → Fallback (now (f .entry)) spare o → Is o r) ⌝ }
+    requires { ⌜ SomeEdition (λ E. Falls E (now f) spare) ⌝ }
+    ensures { λ r. ⌜ ((E : Edition) (o : Option Leafy) → Fallback E (now (f .entry)) spare o → Is o r) ⌝ }
 {
     if spare.slot == 0 {
         return Sought {
@@ -132,13 +132,26 @@ fn fall_back(f: &[u8], spare: Spare) -> Sought
     Sought { found: true, place }
 }
 
-// The key of the Leaf at a place is at or above the bound.
-fn leaf_reaches(f: &[u8], place: usize, text: &[u8], tail: usize) -> bool
-    requires { ⌜ LeafSome (now f) place ⌝ }
-    ensures { λ r. ⌜ ((e : ℕ) (k v : List ℕ) → LeafAt (now (f .entry)) place e k v → r ≡ reach edition1 (now (text .entry)) tail k) ⌝ }
+// A legal key is at or above the bound: its walked string, written out.
+fn spelt_reaches(key: &[u8], text: &[u8], tail: usize, edition: usize) -> bool
+    requires { ⌜ Legal (editionOf edition) (now key) ⌝ }
+    ensures { λ r. ⌜ r ≡ reach (editionOf edition) (now (text .entry)) tail (now (key .entry)) ⌝ }
+{
+    let mut word: [u8; keys::LONGEST_WORD] = [0; keys::LONGEST_WORD];
+    let n = keys::walk(key, &mut word, edition);
+    OPEN <= weigh_bytes(&word, 0, n, text, 0, tail)
+}
+
+// The key of the Leaf at a place is at or above the bound. In edition 1 its walked string is the key and then a byte 0.
+fn leaf_reaches(f: &[u8], place: usize, text: &[u8], tail: usize, edition: usize) -> bool
+    requires { ⌜ LeafSome (editionOf edition) (now f) place ⌝ }
+    ensures { λ r. ⌜ ((e : ℕ) (k v : List ℕ) → LeafAt (now (f .entry)) place e k v → r ≡ reach (editionOf edition) (now (text .entry)) tail k) ⌝ }
 {
     let from = Leaf::extent(f, place);
     let n = Leaf::key_length(f, place);
+    if edition == keys::SECOND {
+        return spelt_reaches(&f[from..from + n], text, tail, edition);
+    }
     let w = weigh_bytes(f, from, n, text, 0, tail);
     if w != OPEN {
         return w == ABOVE;
@@ -150,9 +163,9 @@ fn leaf_reaches(f: &[u8], place: usize, text: &[u8], tail: usize) -> bool
 }
 
 // The first Leaf, in byte order, whose walked string is at or above the bound `text` and then `tail`, of the tree at slot `root`.
-pub fn seek(f: &[u8], root: usize, text: &[u8], tail: usize) -> Sought
-    requires { ⌜ Sub (now f) root 0 × (tail ≤ 256) ⌝ }
-    ensures { λ r. ⌜ SoughtAt (now (f .entry)) (now (text .entry)) tail root r ⌝ }
+pub fn seek(f: &[u8], root: usize, text: &[u8], tail: usize, edition: usize) -> Sought
+    requires { ⌜ Sub (editionOf edition) (now f) root 0 × (tail ≤ 256) ⌝ }
+    ensures { λ r. ⌜ SoughtAt (editionOf edition) (now (f .entry)) (now (text .entry)) tail root r ⌝ }
 {
     let mut s = root;
     let mut d = 0;
@@ -160,7 +173,7 @@ pub fn seek(f: &[u8], root: usize, text: &[u8], tail: usize) -> Sought
     loop {
         let e = Entry::read(f, s);
         if e.high == Kind::LEAF {
-            if leaf_reaches(f, e.place, text, tail) {
+            if leaf_reaches(f, e.place, text, tail, edition) {
                 return Sought {
                     found: true,
                     place: e.place,

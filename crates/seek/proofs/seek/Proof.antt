@@ -4,6 +4,7 @@ use mathlib.Core.Path.{sym, _∙_}
 use native.Mathlib.Omega.{arith}
 use native.Mathlib.Numerals.{add-one}
 use lib.ListN.{getD}
+use Rattle.model.specs.Edition.{editionOf}
 use Rattle.model.specs.Frame.{pairs}
 use Rattle.seek.specs.Seek.{Seeking, Nearer}
 use Rattle.seek.proofs.DownLaws.{sub-slot}
@@ -12,10 +13,10 @@ use Rattle.seek.proofs.seek.Statement.{statement}
 use Rattle.seek.proofs.seek.Tie as tie
 
 abbrev Inv-loop : tie.InvT-loop
-Inv-loop f root text tail s₀ d₀ spare₀ s d spare = Seeking f text tail root s d spare
+Inv-loop f root text tail edition s₀ d₀ spare₀ s d spare = Seeking (editionOf edition) f text tail root s d spare
 
 abbrev μ-loop : tie.MeasureT-loop
-μ-loop f root text tail s₀ d₀ spare₀ s d spare = 113 - d
+μ-loop f root text tail edition s₀ d₀ spare₀ s d spare = 512 - d
 
 loop-holds : tie.Need-loop-holds Inv-loop μ-loop
 loop-holds c = start _ _ (c .before .before .pre .0)
@@ -47,7 +48,7 @@ fall-back-requires c κs =
     let l = r .before .loop in
     let K = l .inv in
     let q = sym (r .read .ensures .1) in
-    spare-falls K
+    record { edition = _; holds = spare-falls K }
 
 returns-2 : tie.Need-returns-2 Inv-loop μ-loop
 returns-2 c =
@@ -56,7 +57,7 @@ returns-2 c =
     let K = l .inv in
     let q = sym (r .read .ensures .1) in
     let h = sym (r .read .ensures .0) ∙ c .before .before .before .if1 .taken in
-    leaf-miss K h q (λ e k v A. sym (c .before .if2 .left) ∙ c .before .before .leaf-reaches .ensures e k v A) (c .fall-back .ensures (K .spare) (K .falls))
+    leaf-miss K h q (λ e k v A. sym (c .before .if2 .left) ∙ c .before .before .leaf-reaches .ensures e k v A) (c .fall-back .ensures _ (K .spare) (K .falls))
 
 length-requires : tie.Need-length-requires Inv-loop μ-loop
 length-requires c κs =
@@ -92,7 +93,7 @@ fall-back-requires-2 c κs =
     let l = r .before .loop in
     let K = l .inv in
     let q = sym (r .read .ensures .1) in
-    record { leafy = _; fallback = this-falls K }
+    record { edition = _; holds = record { leafy = _; fallback = this-falls K } }
 
 returns-3 : tie.Need-returns-3 Inv-loop μ-loop
 returns-3 c =
@@ -101,7 +102,7 @@ returns-3 c =
     let K = l .inv in
     let q = sym (r .read .ensures .1) in
     let h = sym (r .read .ensures .0) ∙ c .before .before .before .before .before .if3 .taken in
-    prefix-above K h q (c .before .before .before .before .length .ensures .0) (c .before .before .weigh-bytes .ensures) (c .before .if4 .taken) (c .fall-back2 .ensures _ (this-falls K))
+    prefix-above K h q (c .before .before .before .before .length .ensures .0) (c .before .before .weigh-bytes .ensures) (c .before .if4 .taken) (c .fall-back2 .ensures _ _ (this-falls K))
 
 fall-back-requires-3 : tie.Need-fall-back-requires-3 Inv-loop μ-loop
 fall-back-requires-3 c κs =
@@ -109,7 +110,7 @@ fall-back-requires-3 c κs =
     let l = r .before .loop in
     let K = l .inv in
     let q = sym (r .read .ensures .1) in
-    spare-falls K
+    record { edition = _; holds = spare-falls K }
 
 returns-4 : tie.Need-returns-4 Inv-loop μ-loop
 returns-4 c =
@@ -118,7 +119,7 @@ returns-4 c =
     let K = l .inv in
     let q = sym (r .read .ensures .1) in
     let h = sym (r .read .ensures .0) ∙ c .before .before .before .before .before .before .if3 .taken in
-    prefix-below K h q (c .before .before .before .before .before .length .ensures .0) (c .before .before .before .weigh-bytes .ensures) (c .before .if5 .taken) (c .fall-back3 .ensures (K .spare) (K .falls))
+    prefix-below K h q (c .before .before .before .before .before .length .ensures .0) (c .before .before .before .weigh-bytes .ensures) (c .before .if5 .taken) (c .fall-back3 .ensures _ (K .spare) (K .falls))
 
 child-requires : tie.Need-child-requires Inv-loop μ-loop
 child-requires c κs =
@@ -166,7 +167,7 @@ nearer-requires c κs =
     let x = c .before .before .before .if1 .left in
     let y = c .before .if3 .left in
     let k = r .read .ensures .0 in
-    let m = K .short in (record { kids = pairs (at-node K k x y q .kids); node = at-node K k x y q .inner }, c .before .before .before .before .before .before .before .before .before .pre .1, omega arith)
+    let m = K .sub .short in let w = K .sub .lawful .fields .words in (record { kids = pairs (at-node K k x y q .kids); node = at-node K k x y q .inner }, c .before .before .before .before .before .before .before .before .before .pre .1, omega arith)
 
 fall-back-requires-4 : tie.Need-fall-back-requires-4 Inv-loop μ-loop
 fall-back-requires-4 c κs =
@@ -177,7 +178,7 @@ fall-back-requires-4 c κs =
     let x = c .before .before .before .before .if1 .left in
     let y = c .before .before .if3 .left in
     let k = r .read .ensures .0 in
-    record { leafy = _; fallback = nearer-falls K k x y q _ (c .nearer .ensures) }
+    record { edition = _; holds = record { leafy = _; fallback = nearer-falls K k x y q _ (c .nearer .ensures) } }
 
 returns-5 : tie.Need-returns-5 Inv-loop μ-loop
 returns-5 c =
@@ -188,7 +189,7 @@ returns-5 c =
     let x = c .before .before .before .before .before .if1 .left in
     let y = c .before .before .before .if3 .left in
     let k = r .read .ensures .0 in
-    node-end K k x y q (omega (arith, c .before .before .if6 .taken)) (c .fall-back4 .ensures _ (nearer-falls K k x y q _ (c .before .nearer .ensures)))
+    node-end K k x y q (omega (arith, c .before .before .if6 .taken)) (c .fall-back4 .ensures _ _ (nearer-falls K k x y q _ (c .before .nearer .ensures)))
 
 shared-slice-read-b : tie.Need-shared-slice-read-b Inv-loop μ-loop
 shared-slice-read-b c = omega (arith, c .before .if6 .left)
@@ -208,7 +209,7 @@ nearer-requires-2 c κs =
     let x = c .before .before .before .before .if1 .left in
     let y = c .before .before .if3 .left in
     let k = r .read .ensures .0 in
-    let m = K .short in (record { kids = pairs (at-node K k x y q .kids); node = at-node K k x y q .inner }, omega (arith, c .shared-slice-known3 .given (l .d)), omega arith)
+    let m = K .sub .short in let w = K .sub .lawful .fields .words in (record { kids = pairs (at-node K k x y q .kids); node = at-node K k x y q .inner }, omega (arith, c .shared-slice-known3 .given (l .d)), omega arith)
 
 seat-requires : tie.Need-seat-requires Inv-loop μ-loop
 seat-requires c κs =
@@ -230,7 +231,7 @@ fall-back-requires-5 c κs =
     let x = c .before .before .before .before .before .before .before .before .if1 .left in
     let y = c .before .before .before .before .before .before .if3 .left in
     let k = r .read .ensures .0 in
-    record { leafy = _; fallback = nearer-falls K k x y q _ (c .before .before .before .nearer2 .ensures) }
+    record { edition = _; holds = record { leafy = _; fallback = nearer-falls K k x y q _ (c .before .before .before .nearer2 .ensures) } }
 
 returns-6 : tie.Need-returns-6 Inv-loop μ-loop
 returns-6 c =
@@ -242,7 +243,7 @@ returns-6 c =
     let y = c .before .before .before .before .before .before .before .if3 .left in
     let k = r .read .ensures .0 in
     let d = l .d in let N : Nearer _ _ _ (suc (getD (r .before .before .before .before .args .text .now) d 0)) _ _ _ = rw add-one at (c .before .before .before .before .nearer2 .ensures) in
-    node-miss K k x y q (omega (arith, c .before .before .before .before .before .before .if6 .left)) (λ ks A. c .before .before .before .seat .ensures ks A .0) (c .before .if7 .taken) (c .fall-back5 .ensures _ (nearer-falls K k x y q _ N))
+    node-miss K k x y q (omega (arith, c .before .before .before .before .before .before .if6 .left)) (λ ks A. c .before .before .before .seat .ensures ks A .0) (c .before .if7 .taken) (c .fall-back5 .ensures _ _ (nearer-falls K k x y q _ N))
 
 add-d-2 : tie.Need-add-d-2 Inv-loop μ-loop
 add-d-2 c =
@@ -253,7 +254,7 @@ add-d-2 c =
     let x = c .before .before .before .before .before .before .before .before .if1 .left in
     let y = c .before .before .before .before .before .before .if3 .left in
     let k = r .read .ensures .0 in
-    let m = at-node K k x y q .short in omega arith
+    let m = at-node K k x y q .short in let w = K .sub .lawful .fields .words in omega arith
 
 loop-less-2 : tie.Need-loop-less-2 Inv-loop μ-loop
 loop-less-2 c =
@@ -264,7 +265,7 @@ loop-less-2 c =
     let x = c .before .before .before .before .before .before .before .before .if1 .left in
     let y = c .before .before .before .before .before .before .if3 .left in
     let k = r .read .ensures .0 in
-    let m = at-node K k x y q .short in omega arith
+    let m = at-node K k x y q .short in let w = K .sub .lawful .fields .words in omega arith
 
 loop-again-2 : tie.Need-loop-again-2 Inv-loop μ-loop
 loop-again-2 c =
