@@ -4,4 +4,5 @@ pub mod JoinLaws
 pub mod RunLaws
 pub mod UpLaws
 pub mod OverLaws
+pub mod NeedLaws
 pub mod PairLaws

@@ -141,7 +141,7 @@ module _ {E : Edition} {f k : List ℕ} {s : State} (w : Stands E f s) {l : Lone
   art-is : art t ≡ Art.prefix (bytesOf t) (art (pairOf P))
   art-is = run-art E f (pathOf xs) t run-tree not-leaf .0 ∙ as-some (bytesOf t) (art (tipOf t)) bytes-some ∙ ap (λ (z : Lay). Art.prefix (bytesOf t) (art z)) tip-is
 
-  leaf-change : {k' v' : List ℕ} → art u ≡ Art.leaf k' v' → eraseChange E (art (plug (ys ++ xs) (pairOf P))) k ≡ leaves (art (plug xs u)) [] (prefixes (length (rows ys)) ++ Node4 ∷ Leaf ∷ []) (extentOf k (P .value))
+  pub leaf-change : {k' v' : List ℕ} → art u ≡ Art.leaf k' v' → eraseChange E (art (plug (ys ++ xs) (pairOf P))) k ≡ leaves (art (plug xs u)) [] (prefixes (length (rows ys)) ++ Node4 ∷ Leaf ∷ []) (extentOf k (P .value))
   unfolding artIn artStep
   leaf-change {k'} {v'} e =
       let m = extentOf k (P .value) in
@@ -279,6 +279,20 @@ module _ {E : Edition} {f k : List ℕ} {s : State} (w : Stands E f s) {l : Lone
       × PrefixAt f (a .place) p (l .node) × Suits xs (prefix (a .slot) (a .place) p (blank (l .node)))
   opened-above = work-above (a .slot) (a .place) p xs ((pathOf (ups a p xs) ++ l .byte ∷ [], u) ∷ beside P) (site-open w P)
 
+  -- what the model makes of it
+  pub over-change : (t : Lay) → art t ≡ asPrefix ((p ++ l .byte ∷ []) ++ bytesOf u) (art (tipOf u)) → (frees : List ℕ) → underPrefix p (l .byte) (art u) (lost l u (extentOf k (P .value))) ≡ leaves (art t) [] frees (extentOf k (P .value))
+      → eraseChange E (art (plug (ups a p xs) (pairOf P))) k ≡ leaves (art (plug xs t)) [] frees (extentOf k (P .value))
+  over-change t et frees e =
+      let m = extentOf k (P .value) in
+      let above = prefix (a .slot) (a .place) p (pairOf P) in
+      let q = (p ++ l .byte ∷ []) ++ bytesOf u in
+      let el : art t ≡ Art.prefix q (art (tipOf u)) = et ∙ as-some q (art (tipOf u)) (omega (arith, length-append p (l .byte ∷ []), length-append (p ++ l .byte ∷ []) (bytesOf u))) in
+      let H = hangs-in E f xs above (stands-tree w (plug xs above) (P .whole ∙ ap tree (plug-under (a .slot) (a .place) p xs (pairOf P)))) in
+      let H' = subst (HangsIn xs) (sym el) (hangs-over xs (art above) (Art.prefix q (art (tipOf u))) (λ r x. x) H) in
+      ap (λ (z : Art). eraseChange E z k) (art-plug (ups a p xs) (pairOf P))
+      ∙ plug-under-lone (P .leads) (art (pairOf P)) (l .byte) (art u) (art t) (lost l u m) refl H H' (site-change P) refl (ap (λ (c : Change Left). c .now) e)
+      ∙ ap (withNow (kept (artIn xs (art t)))) e ∙ ap (λ (z : Art). leaves z [] frees m) (sym (art-plug xs t))
+
 module _ {E : Edition} {f k : List ℕ} {s : State} (w : Stands E f s) {l : Lone} (a : Body) (p : List ℕ) (xs : List Step) (u : Lay) (i : NotLeaf u) (P : Site E k (w .root) (ups a p xs) l u) (room : le 2 f (a .place + prefixLength) < prefixMost) where
   loose : Work E f (standsView w) xs (a .slot) ((pathOf (ups a p xs) ++ l .byte ∷ [], u) ∷ beside P) (body (a .slot) Prefix (a .place) ∷ nodeBody P)
   loose = opened-above w a p xs P .0
@@ -413,7 +427,7 @@ module _ {E : Edition} {f k : List ℕ} {s : State} (w : Stands E f s) {l : Lone
             kinds = [];
             frees = frees;
             freed = prefixes n ++ [];
-            change = over-change (Y .lay) (filled-art Y (omega (arith, more))) frees (over-leaves l u (Y .lay) (extentOf k (P .value)) (C .0) (C .1) p n (at .some) short (filled-art Y (omega (arith, more))) (child-many w P) (filled-many Y));
+            change = over-change w a p xs P (Y .lay) (filled-art Y (omega (arith, more))) frees (over-leaves l u (Y .lay) (extentOf k (P .value)) (C .0) (C .1) p n (at .some) short (filled-art Y (omega (arith, more))) (child-many w P) (filled-many Y));
             view = Y .view;
             work = work-close xs (Y .lay) (beside P) (Y .work) (sym (Y .slot)) (suits-any xs (prefix (a .slot) (a .place) p (blank (l .node))) (Y .lay) (Y .hangs) (opened-above w a p xs P .2));
             booked = Y .booked (standsView w) [] [] 0 0 (w .nums .R) (booked-none (standsView w) (w .heap .lists .eight));
@@ -443,16 +457,3 @@ module _ {E : Edition} {f k : List ℕ} {s : State} (w : Stands E f s) {l : Lone
         where
           lay-not-leaf : (t : Lay) → ((q : List ℕ) → length q ≡ 112 → Below q t) → NotLeaf t
           lay-not-leaf t h = below-not-leaf (replicate 112 0) t (h (replicate 112 0) refl)
-
-          over-change : (t : Lay) → art t ≡ asPrefix ((p ++ l .byte ∷ []) ++ bytesOf u) (art (tipOf u)) → (frees : List ℕ) → underPrefix p (l .byte) (art u) (lost l u (extentOf k (P .value))) ≡ leaves (art t) [] frees (extentOf k (P .value))
-              → eraseChange E (art (plug (ups a p xs) (pairOf P))) k ≡ leaves (art (plug xs t)) [] frees (extentOf k (P .value))
-          over-change t et frees e =
-              let m = extentOf k (P .value) in
-              let above = prefix (a .slot) (a .place) p (pairOf P) in
-              let q = (p ++ l .byte ∷ []) ++ bytesOf u in
-              let el : art t ≡ Art.prefix q (art (tipOf u)) = et ∙ as-some q (art (tipOf u)) (omega (arith, more, length-append (p ++ l .byte ∷ []) (bytesOf u))) in
-              let H = hangs-in E f xs above (stands-tree w (plug xs above) (P .whole ∙ ap tree (plug-under (a .slot) (a .place) p xs (pairOf P)))) in
-              let H' = subst (HangsIn xs) (sym el) (hangs-over xs (art above) (Art.prefix q (art (tipOf u))) (λ r x. x) H) in
-              ap (λ (z : Art). eraseChange E z k) (art-plug (ups a p xs) (pairOf P))
-              ∙ plug-under-lone (P .leads) (art (pairOf P)) (l .byte) (art u) (art t) (lost l u m) refl H H' (site-change P) refl (ap (λ (c : Change Left). c .now) e)
-              ∙ ap (withNow (kept (artIn xs (art t)))) e ∙ ap (λ (z : Art). leaves z [] frees m) (sym (art-plug xs t))

@@ -107,7 +107,7 @@ suits-free (under s o p ∷ xs) t n = absurd n
 suits-free (hole.among s o kind ls b j rs ∷ xs) t n = tt
 
 module _ {E : Edition} {f k : List ℕ} {s : State} (w : Stands E f s) {xs : List Step} {l : Lone} {u : Lay} (P : Site E k (w .root) xs l u) where
-  lone-change : NotUnder xs → (t : Lay) (takes frees : List ℕ) → loneChild (l .byte) (art u) (lost l u (extentOf k (P .value))) ≡ leaves (art t) takes frees (extentOf k (P .value))
+  pub lone-change : NotUnder xs → (t : Lay) (takes frees : List ℕ) → loneChild (l .byte) (art u) (lost l u (extentOf k (P .value))) ≡ leaves (art t) takes frees (extentOf k (P .value))
       → eraseChange E (art (plug xs (pairOf P))) k ≡ leaves (art (plug xs t)) takes frees (extentOf k (P .value))
   lone-change free t takes frees e =
       let m = extentOf k (P .value) in
@@ -201,7 +201,7 @@ up-raised (hole.among s' o kind ls b j rs ∷ xs) s g u h n I = held-raised s' s
 
 -- the model's erase
 module _ {E : Edition} {f k : List ℕ} {s : State} (w : Stands E f s) {l : Lone} (u lay : Lay) (i : NotLeaf u) (is : art lay ≡ Art.prefix (l .byte ∷ bytesOf u) (art (tipOf u))) where
-  run-change : (xs : List Step) → Full xs → (P : Site E k (w .root) xs l u) → eraseChange E (art (plug xs (pairOf P))) k ≡ leaves (art (plug xs lay)) (prefixes (lacks u)) (Node4 ∷ Leaf ∷ []) (extentOf k (P .value))
+  pub run-change : (xs : List Step) → Full xs → (P : Site E k (w .root) xs l u) → eraseChange E (art (plug xs (pairOf P))) k ≡ leaves (art (plug xs lay)) (prefixes (lacks u)) (Node4 ∷ Leaf ∷ []) (extentOf k (P .value))
   run-change [] h P = let R = child-run w P i in lone-change w P tt lay (prefixes (lacks u)) (Node4 ∷ Leaf ∷ []) (up-leaves l u lay (extentOf k (P .value)) (R .0) (R .1) is)
   run-change (hole.among s' o kind ls b j rs ∷ xs) h P = let R = child-run w P i in lone-change w P tt lay (prefixes (lacks u)) (Node4 ∷ Leaf ∷ []) (up-leaves l u lay (extentOf k (P .value)) (R .0) (R .1) is)
   run-change (under s' o p ∷ xs) h P =

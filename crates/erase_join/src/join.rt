@@ -51,7 +51,7 @@ fn read(f: &[u8], key: &[u8], spot: Spot) -> Lone
 }
 
 // How many bytes more the Prefix above has room for; none if there is none.
-fn spare(f: &[u8], above: Body) -> usize
+pub fn spare(f: &[u8], above: Body) -> usize
     requires { ⌜ Above (now f) above ⌝ }
     ensures { λ r. ⌜ HasRoom (now (f .entry)) above r ⌝ }
 {
