@@ -9,7 +9,7 @@ use Rattle.layout.specs.Place.{entryAt, prefixLength, prefixChild}
 use Rattle.layout.specs.Kind.{Prefix}
 use Rattle.layout.specs.Entry.{placeOf, highOf}
 use Rattle.model.specs.Edition.{Edition, Lawful}
-use Rattle.model.specs.Item.{Item, body}
+use Rattle.model.specs.Item.{body}
 use Rattle.model.specs.Body.{PrefixAt}
 use Rattle.model.specs.Frame.{Lay, slotOf, IsNode, Below, Tree, View}
 use Rattle.model.specs.Frame.Lay.{leaf, prefix, node}
