@@ -4,7 +4,7 @@
 
 use crate::compare::Calls;
 use crate::layout::number::{ABSENT, DONE, LENGTHS, PRESENT, REPLACED};
-use crate::layout::INFO_NUMBERS;
+use crate::layout::{Edition, INFO_NUMBERS};
 use crate::names::{Asked, Page};
 use crate::store::Found;
 use frame_store::{check, Erase, Frame, Info, Put, Refusal, Replace, View};
@@ -16,6 +16,10 @@ fn number(answer: Result<u32, Refusal>) -> u32 {
 }
 
 impl Calls for Bindings {
+    fn edition(&self) -> Edition {
+        Edition::One
+    }
+
     /// The bindings take all the bytes that they are lent: no other F can be
     /// asked of them, and it would be refused.
     fn format(&self, frame: &mut [u8], f: usize, n: usize) -> u32 {

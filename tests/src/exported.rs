@@ -5,7 +5,7 @@
 
 use crate::compare::Calls;
 use crate::layout::number::{ABSENT, DONE};
-use crate::layout::INFO_NUMBERS;
+use crate::layout::{Edition, INFO_NUMBERS};
 use crate::names::{Asked, Page};
 use crate::store::Found;
 use frame_store as _;
@@ -84,6 +84,10 @@ pub struct Exported;
 
 // Every part is passed with its own length, and lives through the call.
 impl Calls for Exported {
+    fn edition(&self) -> Edition {
+        Edition::One
+    }
+
     fn format(&self, frame: &mut [u8], f: usize, n: usize) -> u32 {
         unsafe { c::frame_format(frame.as_mut_ptr(), frame.len(), f, n) }
     }

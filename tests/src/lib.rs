@@ -11,6 +11,7 @@ pub use frame_rules::{check, layout};
 pub mod batch;
 pub mod batches;
 pub mod bindings;
+pub mod chains;
 pub mod compare;
 pub mod crafted;
 pub mod damage;

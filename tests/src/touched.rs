@@ -7,6 +7,9 @@
 //! is taken, the places of fresh bodies and of the extent between the old B
 //! and the new, the links of a list that is touched, and what padding holds.
 //! Bytes that are freed change, and are zero after: a rule of the frame says so.
+//! Where a chain of Prefixes is cut or joined, those above stay as they are; it
+//! is free which of the others has which part, and which one goes if there are
+//! fewer then.
 
 use crate::check::Reading;
 use crate::layout::*;
@@ -19,14 +22,16 @@ use std::ops::Range;
 pub struct Touched {
     rewritten: Vec<usize>,
     freed: Vec<usize>,
+    /// So many of those that are rewritten are freed instead.
+    freed_of_chain: usize,
     needed: Vec<Kind>,
     relinked: Option<Link>,
     extents: Vec<Range<usize>>,
 }
 
 /// For a put that is done: the key is new.
-pub fn by_put(before: &[u8], key: &[u8]) -> Touched {
-    let string = walked(key);
+pub fn by_put(edition: Edition, before: &[u8], key: &[u8]) -> Touched {
+    let string = edition.walked(key);
     let steps = store::walk(before, &string);
     let Step { link, slot, kind, depth } = steps[steps.len() - 1];
     let rest = &string[depth..];
@@ -38,29 +43,22 @@ pub fn by_put(before: &[u8], key: &[u8]) -> Touched {
             ..Touched::default()
         },
         Kind::Leaf => {
-            let share_bytes = store::leaf_walked(before, slot)[depth] == rest[0];
-            let needed = if share_bytes {
-                vec![Kind::Leaf, Kind::Node4, Kind::Prefix]
-            } else {
-                vec![Kind::Leaf, Kind::Node4]
-            };
+            let there = store::leaf_walked(edition, before, slot);
+            let needed = parting(prefixes(shared(rest, &there[depth..])));
             Touched { needed, relinked: Some(link), ..Touched::default() }
         }
         Kind::Prefix => {
-            let bytes = store::prefix_bytes(before, slot);
-            let matched = shared(rest, &bytes);
-            let (before_part, after_part) = (matched > 0, matched + 1 < bytes.len());
-            let mut needed = vec![Kind::Leaf, Kind::Node4];
-            if before_part && after_part {
-                needed.push(Kind::Prefix);
-            }
-            let kept = before_part || after_part;
+            let chain = store::chain(before, slot);
+            let matched = shared(rest, &chain.bytes);
+            let (had, after_part) = (chain.slots.len(), chain.bytes.len() - matched - 1);
+            let now = prefixes(matched) + prefixes(after_part);
+            // With only a part before, in one body, that stays where it hangs.
+            let stays = matched > 0 && (had, now) == (1, 1);
             Touched {
-                rewritten: if kept { vec![slot] } else { vec![] },
-                freed: if kept { vec![] } else { vec![slot] },
-                needed,
-                // With only a part before, the old body stays where it hangs.
-                relinked: if before_part && !after_part { None } else { Some(link) },
+                rewritten: chain.slots,
+                freed_of_chain: had.saturating_sub(now),
+                needed: parting(now.saturating_sub(had)),
+                relinked: if stays { None } else { Some(link) },
                 ..Touched::default()
             }
         }
@@ -76,9 +74,20 @@ pub fn by_put(before: &[u8], key: &[u8]) -> Touched {
     }
 }
 
+/// A Leaf, a Node4 and so many Prefixes.
+fn parting(prefixes: usize) -> Vec<Kind> {
+    [&[Kind::Leaf, Kind::Node4][..], &vec![Kind::Prefix; prefixes]].concat()
+}
+
 /// For a replacement that is done: the key is present.
-pub fn by_replace(before: &[u8], reading: &Reading, key: &[u8], value: &[u8]) -> Touched {
-    let steps = store::walk(before, &walked(key));
+pub fn by_replace(
+    edition: Edition,
+    before: &[u8],
+    reading: &Reading,
+    key: &[u8],
+    value: &[u8],
+) -> Touched {
+    let steps = store::walk(before, &edition.walked(key));
     let Step { slot, .. } = steps[steps.len() - 1];
     let same_length = store::leaf_fields(before, slot).value_length == value.len();
     Touched {
@@ -89,9 +98,8 @@ pub fn by_replace(before: &[u8], reading: &Reading, key: &[u8], value: &[u8]) ->
 }
 
 /// For an erase that is not refused, of a key that is present beside others.
-pub fn by_erase(before: &[u8], reading: &Reading, key: &[u8]) -> Touched {
-    let string = walked(key);
-    let steps = store::walk(before, &string);
+pub fn by_erase(edition: Edition, before: &[u8], reading: &Reading, key: &[u8]) -> Touched {
+    let steps = store::walk(before, &edition.walked(key));
     let [above @ .., node, leaf] = &steps[..] else {
         panic!("a Leaf beside others stands under an inner node");
     };
@@ -106,27 +114,13 @@ pub fn by_erase(before: &[u8], reading: &Reading, key: &[u8]) -> Touched {
         .filter(|child| *child != leaf.slot)
         .collect();
     if let [child] = left[..] {
-        let upper = above.last().filter(|step| step.kind == Kind::Prefix);
         touched.freed.push(node.slot);
-        match (reading.live[&child], upper) {
-            (Kind::Leaf, None) => touched.relinked = Some(node.link),
-            (Kind::Leaf, Some(upper)) => {
-                touched.freed.push(upper.slot);
-                touched.relinked = Some(upper.link);
-            }
-            (Kind::Prefix, None) => {
-                touched.rewritten.push(child);
-                touched.relinked = Some(node.link);
-            }
-            (Kind::Prefix, Some(upper)) => {
-                touched.rewritten.push(upper.slot);
-                touched.freed.push(child);
-            }
-            (_, None) => {
-                touched.needed.push(Kind::Prefix);
-                touched.relinked = Some(node.link);
-            }
-            (_, Some(upper)) => touched.rewritten.push(upper.slot),
+        let chain_above = above.iter().rev().take_while(|step| step.kind == Kind::Prefix);
+        if reading.live[&child] == Kind::Leaf {
+            touched.relinked = Some(chain_above.clone().last().unwrap_or(node).link);
+            touched.freed.extend(chain_above.map(|step| step.slot));
+        } else {
+            touched.join(edition, before, chain_above.clone().next(), node, child);
         }
     } else if node.kind.shrink_mark() == Some(left.len()) {
         touched.freed.push(node.slot);
@@ -139,6 +133,37 @@ pub fn by_erase(before: &[u8], reading: &Reading, key: &[u8]) -> Touched {
 }
 
 impl Touched {
+    /// A byte joins the last Prefix above, if there is one, and those below.
+    fn join(
+        &mut self,
+        edition: Edition,
+        before: &[u8],
+        upper: Option<&Step>,
+        node: &Step,
+        child: usize,
+    ) {
+        let lower = store::chain(before, child);
+        let start = upper.map_or(0, |upper| store::prefix_bytes(before, upper.slot).len());
+        let had = usize::from(upper.is_some()) + lower.slots.len();
+        let now = prefixes(start + 1 + lower.bytes.len());
+        self.needed.extend(vec![Kind::Prefix; now.saturating_sub(had)]);
+        match (edition, upper) {
+            // "the lower body then freed": of two that become one, the upper stays.
+            (Edition::One, Some(upper)) => {
+                self.rewritten.push(upper.slot);
+                self.freed.extend(lower.slots);
+            }
+            (_, upper) => {
+                self.rewritten.extend(upper.map(|upper| upper.slot));
+                self.rewritten.extend(lower.slots);
+                self.freed_of_chain = had.saturating_sub(now);
+                // With an inner node below, the one Prefix above stays where it hangs.
+                let stays = upper.is_some() && (had, now) == (1, 1);
+                self.relinked = if stays { None } else { Some(upper.unwrap_or(node).link) };
+            }
+        }
+    }
+
     /// The first way in which the frame after breaks off from what the step
     /// may change, if there is one. Both frames are good.
     pub fn overstepped(
@@ -148,8 +173,13 @@ impl Touched {
     ) -> Option<String> {
         let freed: BTreeSet<usize> =
             was.live.keys().filter(|slot| !is.live.contains_key(slot)).copied().collect();
-        if freed != self.freed.iter().copied().collect() {
-            return Some(format!("slots {freed:?} were freed instead of {:?}", self.freed));
+        let certain: BTreeSet<usize> = self.freed.iter().copied().collect();
+        let of_chain: Vec<usize> = freed.difference(&certain).copied().collect();
+        let in_chain = of_chain.iter().all(|slot| self.rewritten.contains(slot));
+        if !freed.is_superset(&certain) || !in_chain || of_chain.len() != self.freed_of_chain {
+            let besides = format!("{} of {:?}", self.freed_of_chain, self.rewritten);
+            let should = format!("{certain:?} and {besides}");
+            return Some(format!("slots {freed:?} were freed instead of {should}"));
         }
         if let Some(slot) = freed.iter().find(|s| !is.lists[was.live[s].number()].contains(s)) {
             return Some(format!("freed slot {slot} is not on the list of its kind"));
@@ -197,11 +227,12 @@ impl Touched {
             allow(body(*slot, *kind.expect("a taken slot was on a needed list")));
         }
         // A slot keeps its body: only the link or kind in the high bits differs.
-        let kinds_freed = self.freed.iter().map(|slot| was.live[slot]);
+        let of_chain = if self.freed_of_chain > 0 { &self.rewritten[..] } else { &[] };
+        let kinds_freed = self.freed.iter().chain(of_chain).map(|slot| was.live[slot]);
         let kinds: Vec<Kind> = kinds_freed.chain(self.needed.iter().copied()).collect();
         let listed = kinds.iter().flat_map(|kind| &was.lists[kind.number()]);
         let high_bits = (!OFFSET_MASK).to_le_bytes();
-        for slot in listed.chain(&self.freed) {
+        for slot in listed.chain(&self.freed).chain(of_chain) {
             for (place, bits) in (entry_at(*slot)..).zip(high_bits) {
                 may_change[place] |= bits;
             }

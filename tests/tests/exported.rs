@@ -10,7 +10,7 @@ use second_store::run::{all_stages, Effort};
 fn all_stages_agree(calls: &dyn Calls) {
     let effort = Effort::from_environment();
     let tally = all_stages(calls, effort).unwrap_or_else(|told| panic!("{told}"));
-    let missed = tally.never_reached();
+    let missed = tally.never_reached(calls.edition());
     assert!(missed.is_empty(), "{effort:?} never reaches {missed:#?}");
 }
 
@@ -26,7 +26,7 @@ fn bindings_agree() {
 
 #[test]
 fn exported_check_agrees_on_single_bytes() {
-    let frames = history::small_frames();
+    let frames = history::small_frames(Exported.edition());
     let mut comparer = Comparer::new(&Exported);
     history::single_bytes(&mut comparer, &frames).unwrap_or_else(|told| panic!("{told}"));
 }

@@ -7,7 +7,7 @@ use second_store::compare::Calls;
 use second_store::decode;
 use second_store::exported::Exported;
 use second_store::layout::number::{DONE, NO_ROOM, REPLACED};
-use second_store::layout::{data_start, get32, number, Kind, AT_B, AT_N, AT_U};
+use second_store::layout::{data_start, get32, number, Edition, Kind, AT_B, AT_N, AT_U};
 use second_store::random::Random;
 use second_store::slotless::bodies;
 
@@ -124,7 +124,8 @@ fn frames_for_dotted_settings() {
 #[test]
 fn bodies_of_500_settings() {
     let image = packed(&frame_of(65_536, 1_500, &settings()));
-    let state = decode::state(&image, &read(&image).expect("the lengths agree"));
+    let reading = read(Edition::One, &image).expect("the lengths agree");
+    let state = decode::state(Edition::One, &image, &reading);
     let counts = bodies(&state.tree);
     let of = |kind: Kind| (counts[kind.number()], counts[kind.number()] * kind.body_bytes());
     assert_eq!(of(Kind::Leaf), (500, 8_000));

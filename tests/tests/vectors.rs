@@ -7,7 +7,7 @@
 use second_store::batch::laid;
 use second_store::compare::{Calls, Second};
 use second_store::exported::Exported;
-use second_store::layout::{get16, get32, get_entry, AT_B, AT_R, AT_ROOT, AT_U, AT_X};
+use second_store::layout::{get16, get32, get_entry, Edition, AT_B, AT_R, AT_ROOT, AT_U, AT_X};
 use second_store::names::{Asked, Page};
 use second_store::store::Found;
 use second_store::trees::Change;
@@ -346,7 +346,8 @@ fn the_stored_lines_have_the_printed_figures() {
 
 #[test]
 fn the_calls_give_the_stored_lines() {
-    let stores: [(&str, &dyn Calls); 2] = [("the second store", &Second), ("exported", &Exported)];
+    let second = Second(Edition::One);
+    let stores: [(&str, &dyn Calls); 2] = [("the second store", &second), ("exported", &Exported)];
     for (of, calls) in stores {
         let told = told(calls);
         for (at, (told, stored)) in told.lines().zip(STORED.lines()).enumerate() {
