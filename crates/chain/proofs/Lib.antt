@@ -3,6 +3,7 @@ pub mod TakeLaws
 pub mod FreeLaws
 pub mod ReadLaws
 pub mod RunLaws
+pub mod LongLaws
 pub mod FillLaws
 pub mod PushLaws
 pub mod DownLaws

@@ -58,7 +58,8 @@ use Rattle.erase_remove.proofs.RemoveLaws.{booked-none}
 use Rattle.erase_join.specs.declared.lone.Lone.{Lone}
 use Rattle.erase_join.specs.Lone.{IsLeaf, Site, pairOf}
 use Rattle.erase_join.proofs.JoinLaws.{over-leaves}
-use Rattle.erase_join.proofs.RunLaws.{run-few, run-slots, among-later, slotsIn, tail-is, gone-last, along-gone, rows, plug-app, run-not-leaf, run-tip, run-down, run-many, run-path, run-steps, run-gone, run-above, run-some}
+use Rattle.chain.proofs.LongLaws.{run-few}
+use Rattle.erase_join.proofs.RunLaws.{run-slots, among-later, slotsIn, tail-is, gone-last, along-gone, rows, plug-app, run-not-leaf, run-tip, run-down, run-many, run-path, run-steps, run-gone, run-above, run-some}
 use Rattle.erase_join.proofs.SiteLaws.{leaves, lost, nodeBody, beside, pair-open, site-change, site-open, site-left, Mid}
 use Rattle.erase_join.proofs.UpLaws.{leaf-shorter, child-stood, child-run, child-many, child-ranged, child-few, two-in, suits-free}
 

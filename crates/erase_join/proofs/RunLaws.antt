@@ -1,57 +1,35 @@
 -- The run of Prefixes of the child that is left, and the run above the Node4: how long they are, and the lists of their bodies. Assumes nothing.
-use Prim.Native.Nat.{ℕ, suc, _+_, _<_, _≤_}
+use Prim.Native.Nat.{ℕ, suc, _+_, _≤_}
 use mathlib.Core.Path.{_≡_, refl, sym, ap, _∙_}
 use mathlib.Core.List.{List, [], _∷_, _++_, append-assoc}
 use mathlib.Core.Bool.{Bool, true, false}
 use native.Mathlib.Omega.{arith}
-use lib.ListN.{length, length-append}
+use lib.ListN.{length}
 use lib.Dec.{ltb, eqb}
 use borrow.Author.Tests.{lt-ltb, le-ltb}
-use Rattle.layout.specs.Number.{Bytes}
 use Rattle.layout.specs.Kind.{Prefix}
 use Rattle.model.specs.Strings.{pick}
-use Rattle.model.specs.Edition.{Edition, Lawful}
 use Rattle.model.specs.Tree.{chain}
 use Rattle.model.specs.Item.{Item, body, sum}
-use Rattle.model.specs.Frame.{Lay, slotOf, artKids, Tree}
+use Rattle.model.specs.Frame.{Lay, slotOf}
 use Rattle.model.specs.Frame.Lay.{leaf, prefix, node}
 use Rattle.model.specs.Mark.{Mark, marks, is, count}
 use Rattle.model.specs.Touch.{among, chainSlots, chainLong, chainAbove, top, lastOf}
 use Rattle.model.proofs.StringLaws.{clash}
 use Rattle.model.proofs.ItemLaws.{sum-cons}
-use Rattle.model.proofs.WellLaws.{inside-short, node-inside}
-use Rattle.model.proofs.StandsGood.{tree-well}
 use Rattle.model.proofs.MarkLaws.{prefix-marks, is-gone}
 use Rattle.between.specs.Hole.{Step, under, plug, plug1, pathOf, stepsItems, holderOf}
 use Rattle.between.specs.Hole as hole
 use Rattle.between.specs.Lead.{NotUnder, NotLeaf, aboveOf}
 use Rattle.between.specs.Since.{slotsOf, SlotsIn}
-use Rattle.between.proofs.TreeLaws.{sum-none, prefix-parts}
+use Rattle.between.proofs.TreeLaws.{sum-none}
 use Rattle.between.proofs.HoleLaws.{path-under, steps-under}
 use Rattle.between.proofs.OutsideLaws.{among-here, among-there}
 use Rattle.descent.specs.Spot.{Prefixes}
 use Rattle.chain.specs.Row.{rowItems, bodiesOf, bytesOf, tipOf}
 use Rattle.chain.specs.Shift.{downItems}
-use Rattle.chain.proofs.RunLaws.{below-not-leaf, run-chained}
+use Rattle.chain.proofs.LongLaws.{chain-long}
 use Rattle.chain.proofs.AlongLaws.{Along}
-
--- ---- how long a run is
-
-module _ {E : Edition} (L : Lawful E) (f : List ℕ) (B : Bytes f) where
-  short : (path : List ℕ) (t : Lay) → Tree E f path t → NotLeaf t → length path + length (bytesOf t) < 512
-  short path (leaf s o e k v) T n = absurd n
-  short path (prefix s o p t) T n =
-      let P = prefix-parts E f path s o p t T in
-      omega (arith, short (path ++ p) t (P .3) (below-not-leaf p t (P .2)), length-append path p, length-append p (bytesOf t))
-  short path (node s o kind ks) T n = omega (arith, inside-short L path (node-inside L kind (artKids ks) path (tree-well E f B path (node s o kind ks) T)), L .fields .words)
-
-  pub run-few : (path : List ℕ) (t : Lay) → Tree E f path t → NotLeaf t → length (bodiesOf t) ≤ 5
-  run-few path t T n = omega (arith, short path t T n, run-chained E f path t T)
-
-pub run-long : (t : Lay) → chainLong t ≡ length (bytesOf t)
-run-long (leaf s o e k v) = refl
-run-long (prefix s o p t) = omega (arith, run-long t, length-append p (bytesOf t))
-run-long (node s o kind ks) = refl
 
 -- ---- its slots
 
@@ -96,12 +74,12 @@ pub gone-last : (x : ℕ × ℕ) (u : Lay) (left gone : List (ℕ × ℕ)) (n : 
     → chain (n + suc (length (bytesOf u))) + length gone ≡ suc (length (bodiesOf u))
     → slotsIn gone ≡ pick (ltb (chain (n + suc (chainLong u))) (suc (chain (chainLong u)))) (lastOf (chainSlots u)) []
 gone-last x u left [] n some eb e many =
-    rw (run-long u, le-ltb (chain (n + suc (length (bytesOf u)))) (suc (chain (length (bytesOf u)))) (omega arith)) refl
+    rw (chain-long u, le-ltb (chain (n + suc (length (bytesOf u)))) (suc (chain (length (bytesOf u)))) (omega arith)) refl
 gone-last x u [] (z ∷ []) n some eb e many = absurd (omega (arith, ap length e))
 gone-last x u (y ∷ left) (z ∷ []) n some eb e many =
     let q : bodiesOf u ≡ left ++ z ∷ [] = tail-is x y (bodiesOf u) (left ++ z ∷ []) e in
     let g : lastOf (chainSlots u) ≡ z .0 ∷ [] = ap lastOf (sym (chain-slots u)) ∙ ap (λ (l : List (ℕ × ℕ)). lastOf (slotsIn l)) q ∙ last-app left z in
-    rw (run-long u, lt-ltb (chain (n + suc (length (bytesOf u)))) (suc (chain (length (bytesOf u)))) (omega arith)) (sym g)
+    rw (chain-long u, lt-ltb (chain (n + suc (length (bytesOf u)))) (suc (chain (length (bytesOf u)))) (omega arith)) (sym g)
 gone-last x u left (z ∷ z' ∷ gone) n some eb e many = absurd (omega arith)
 
 abbrev head-slot : List (ℕ × ℕ) → ℕ

@@ -54,7 +54,8 @@ use Rattle.erase_remove.proofs.RemoveLaws.{booked-none}
 use Rattle.erase_join.specs.declared.lone.Lone.{Lone}
 use Rattle.erase_join.specs.Lone.{IsLeaf, Full, Site, pairOf}
 use Rattle.erase_join.proofs.JoinLaws.{up-leaves, full-leaves}
-use Rattle.erase_join.proofs.RunLaws.{run-few, run-slots, among-first, among-later}
+use Rattle.chain.proofs.LongLaws.{run-few}
+use Rattle.erase_join.proofs.RunLaws.{run-slots, among-first, among-later}
 use Rattle.erase_join.proofs.SiteLaws.{leaves, lost, nodeBody, beside, site-change, site-open, site-sum, site-left, site-marks, Mid}
 
 -- ---- what the joins share

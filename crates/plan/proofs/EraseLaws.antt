@@ -48,7 +48,7 @@ use Rattle.erase_join.proofs.OverLaws.{opened-above}
 use Rattle.erase_join.proofs.NeedLaws.{Taking, leaf-taking, full-taking, roomy-taking}
 use Rattle.plan.specs.Run.{RunAt, Measured}
 use Rattle.plan.specs.Erase.{EraseFrom, PairFrom, Erasing, ErasePlan}
-use Rattle.plan.proofs.RunLaws.{run-low, run-long}
+use Rattle.chain.proofs.LongLaws.{run-low, run-long}
 use Rattle.plan.proofs.PutLaws.{inner-fits}
 
 -- ---- what is left of the node, in the model
@@ -329,7 +329,7 @@ module _ {E : Edition} {f k : List ℕ} {st : State} {s : Spot} (W : Stands E f 
             loose = nodeBody site;
             work = site-open W site;
             slotIs = site .slotIs;
-            short = omega (arith, run-low law f (W .bytes) (pathOf (D .up) ++ c ∷ []) child child-at i);
+            short = omega (arith, run-low law f (W .bytes) (pathOf (D .up) ++ c ∷ []) child child-at i, run-long child);
           }
 
       child-long : {n : ℕ} → Measured f r n → n ≡ length (bytesOf child)

@@ -41,7 +41,7 @@ use Rattle.descent.proofs.SeatLaws.{hole}
 use Rattle.descent.proofs.LookLaws.{found-leaf}
 use Rattle.plan.specs.Run.{Begun, BeginningAt}
 use Rattle.plan.specs.Plan.{Bodies, PutFrom, withLeaf, forkTakes, growTakes}
-use Rattle.plan.proofs.RunLaws.{run-low, run-long}
+use Rattle.chain.proofs.LongLaws.{run-low, run-long}
 
 -- ---- needs of bodies
 
@@ -308,7 +308,7 @@ module _ {E : Edition} {f k v : List ℕ} {s : Spot} (P : PutFrom E f k v s) whe
           work = O .0;
           at = O .1;
           hangs = O .2;
-          short = omega (arith, run-low (P .lawful) f (P .stands .bytes) (path ++ F .bytes) (F .below) T (below-not-leaf (F .bytes) (F .below) (O .2)), length-append path (F .bytes));
+          short = omega (arith, run-low (P .lawful) f (P .stands .bytes) (path ++ F .bytes) (F .below) T (below-not-leaf (F .bytes) (F .below) (O .2)), length-append path (F .bytes), run-long (F .below));
         }
 
     pub cut-fits : {m : ℕ} → Begun f (s .here .place) m → (s .shared < m) × (s .shared < 112) × (m < 65536)

@@ -1,27 +1,23 @@
 -- A chain of Prefixes, measured from its top on: one Prefix at each turn is opened, until another kind stands there. Assumes nothing.
 use Prim.Native.Nat.{ℕ, _+_, _<_, _≤_}
 use mathlib.Core.Path.{_≡_, refl, sym, ap, subst, _∙_}
-use mathlib.Core.List.{List, [], _∷_, _++_}
+use mathlib.Core.List.{List, _∷_, _++_}
 use native.Mathlib.Omega.{arith}
-use lib.ListN.{length, length-append}
-use Rattle.layout.specs.Number.{Bytes, le}
+use lib.ListN.{length}
+use Rattle.layout.specs.Number.{le}
 use Rattle.layout.specs.Place.{entryAt, prefixLength, prefixChild}
 use Rattle.layout.specs.Kind.{Prefix}
 use Rattle.layout.specs.Entry.{placeOf, highOf}
-use Rattle.model.specs.Edition.{Edition, Lawful}
+use Rattle.model.specs.Edition.{Edition}
 use Rattle.model.specs.Item.{body}
 use Rattle.model.specs.Body.{PrefixAt}
-use Rattle.model.specs.Frame.{Lay, slotOf, IsNode, Below, Tree, View}
+use Rattle.model.specs.Frame.{Lay, slotOf, IsNode, Below, View}
 use Rattle.model.specs.Frame.Lay.{leaf, prefix, node}
-use Rattle.model.proofs.WellLaws.{inside-short}
-use Rattle.model.proofs.StandsGood.{below-inside}
 use Rattle.between.specs.Hole.{Step}
 use Rattle.between.specs.Work.{Work}
-use Rattle.between.specs.Lead.{NotLeaf}
-use Rattle.between.proofs.TreeLaws.{prefix-parts}
 use Rattle.between.proofs.WorkLaws.{entries-first, open-prefix}
-use Rattle.chain.specs.Row.{runLong, runMany, bytesOf}
-use Rattle.chain.proofs.RunLaws.{below-not-leaf, below-short}
+use Rattle.chain.specs.Row.{runLong, runMany}
+use Rattle.chain.proofs.RunLaws.{below-short}
 use Rattle.chain.proofs.ReadLaws.{Stood, tree-stood, Pre, pre-of}
 use Rattle.plan.specs.Run.{Sunk, Sinks, Measured, RunAt, Begun, BeginningAt}
 
@@ -100,20 +96,6 @@ module _ {f : List ℕ} {slot n s : ℕ} (S : Sinks f slot n s) where
     run-more k eo em = let B = sunk-bounds here k eo em in (B .1, omega (arith, B .2, A .short))
 
 -- ---- from a Prefix on
-
--- a legal walked string goes on from where a run ends, so the run is short
-module _ {E : Edition} (L : Lawful E) (f : List ℕ) (B : Bytes f) where
-  pub run-low : (path : List ℕ) (t : Lay) → Tree E f path t → NotLeaf t → length path + runLong t < 512
-  run-low path (leaf s o e k v) T n = absurd n
-  run-low path (node s o kind ks) T n = omega (arith, inside-short L path (below-inside L f path [] (node s o kind ks) B tt T), L .fields .words)
-  run-low path (prefix s o p l) T n =
-      let P = prefix-parts E f path s o p l T in
-      omega (arith, run-low (path ++ p) l (P .3) (below-not-leaf p l (P .2)), length-append path p)
-
-pub run-long : (t : Lay) → runLong t ≡ length (bytesOf t)
-run-long (leaf s o e k v) = refl
-run-long (prefix s o p l) = omega (arith, run-long l, length-append p (bytesOf l))
-run-long (node s o kind ks) = refl
 
 node-short : (l : Lay) → IsNode l → runLong l ≡ 0
 node-short (leaf s o e k v) I = absurd I

@@ -2,7 +2,6 @@
 use Prim.Native.Nat.{ℕ, zero, suc, _+_, _-_, _<_, _≤_}
 use mathlib.Core.Path.{_≡_, refl, sym, ap, subst, _∙_}
 use mathlib.Core.List.{List, [], _∷_, _++_, append-nil, append-assoc}
-use mathlib.Core.Logic.{⊎-elim}
 use native.Mathlib.Omega.{arith}
 use native.Mathlib.Decide.{decLe}
 use lib.ListN.{length, drop, length-append}
@@ -14,12 +13,12 @@ use Rattle.model.specs.Edition.{Edition}
 use Rattle.model.specs.Tree.{chain, prefixes}
 use Rattle.model.specs.State.{State}
 use Rattle.model.specs.Item.{Item, sum}
-use Rattle.model.specs.Frame.{Lay, Tree, rootItems, Stands}
+use Rattle.model.specs.Frame.{Lay, IsNode, Tree, rootItems, Stands}
 use Rattle.model.specs.Frame.Lay.{leaf, prefix, node}
 use Rattle.model.specs.Touch.{Touch, touch, holder, chainSlots, chainLong, touchPut}
 use Rattle.model.specs.Mark.{Mark, mark, marks, count, is, like, slotIs, In}
 use Rattle.model.proofs.ItemLaws.{sum-app, sum-cons}
-use Rattle.model.proofs.MarkLaws.{Stay, is-from, is-gone, is-other, is-same, is-self, leaf-marks, prefix-marks, weight-in}
+use Rattle.model.proofs.MarkLaws.{Stay, is-from, is-gone, is-other, is-same, is-self, like-of, leaf-marks, prefix-marks, find, weight-in}
 use Rattle.model.proofs.StringLaws.{shared-whole}
 use Rattle.model.proofs.WayLaws.{shared-turn}
 use Rattle.model.proofs.ShiftLaws.{slot-weighs}
@@ -31,21 +30,17 @@ use Rattle.between.proofs.OutsideLaws.{among-here, slots-later, slots-app, hold
 use Rattle.between.proofs.StayLaws.{LastIn, from-below}
 use Rattle.descent.specs.declared.spot.Spot.{Spot}
 use Rattle.chain.specs.Row.{rowItems, bodiesOf, bytesOf, tipOf}
-use Rattle.chain.proofs.RunLaws.{run-sum}
+use Rattle.chain.proofs.RunLaws.{below-not-leaf, run-sum}
+use Rattle.chain.proofs.LongLaws.{chain-long}
+use Rattle.chain.proofs.AlongLaws.{Ranged, tree-ranged, Along, along-more, along-like, along-last}
 use Rattle.put_cut.specs.Cut.{AtPart}
 use Rattle.put_cut.specs.After.{ownRow}
 use Rattle.put_split.proofs.ForkLaws.{forkKids, fork-marks}
-use Rattle.put_cut.proofs.RunLists.{no-bytes, run-marks}
-use Rattle.put_cut.proofs.ShiftLaws.{run-stays, full-above, SlotOf, slot-left, run-or-tip, slot-live, run-last}
+use Rattle.put_cut.proofs.RunLists.{no-bytes, tip-not-leaf}
 use Rattle.put_cut.proofs.ModelLaws.{shares-is, length-is, path-is}
-use Rattle.put_cut.proofs.SpotLaws.{xs, text, below, old, own, w0, opened, parts, old-sum, cut, left, spelt, shares}
+use Rattle.put_cut.proofs.SpotLaws.{xs, text, below, old, own, w0, opened, parts, old-sum, old-run, cut, left, spelt, shares}
 
 -- ---- a run, as the step's lists name it
-
-chain-long : (l : Lay) → chainLong l ≡ length (bytesOf l)
-chain-long (leaf s o e k v) = refl
-chain-long (prefix s o p l) = omega (arith, chain-long l, length-append p (bytesOf l))
-chain-long (node s o kind ks) = refl
 
 chain-in : (l : Lay) (ss : List ℕ) → SlotsIn (chainSlots l ++ ss) (rowItems (bodiesOf l) [])
 chain-in (leaf s o e k v) ss = tt
@@ -130,25 +125,23 @@ module _ {E : Edition} {f k word v : List ℕ} {p : Spot} (A : AtPart E f k word
   -- ---- what is below the Prefix has a run of the bytes that are left
 
   module _ (g : List ℕ) (lay : Lay) (more : List (ℕ × ℕ)) (string : bytesOf lay ≡ left A) (tip : tipOf lay ≡ tipOf (below A)) (T : Tree E g low lay) where
-    below-stays : _≡_ {A = List (ℕ × ℕ)} (bodiesOf lay) (bodiesOf (below A) ++ more) → (x : Mark) → count (is x) (marks (pathOf (xs A) ++ text A) (below A)) ≤ count (like x) (marks low lay)
-    below-stays run x =
-        run-stays E f g (pathOf (xs A) ++ text A) low (below A) lay more below-tree T run (strings lay string) tip
-        (λ h.
-        let full = full-above (text A) (below A) (parts A (w0 A) .2) h in
-        let l = length-append (pathOf (xs A)) (text A) in
-        let m = low-long in
-        let d = A .part .less in
-        (omega arith, omega arith)) x
+    below-run : Ranged (below A)
+    below-run = tree-ranged E f (pathOf (xs A) ++ text A) (below A) below-tree (below-not-leaf (text A) (below A) (parts A (w0 A) .2))
 
-    -- what stands below the run stands there
-    tip-stays : (x : Mark) → In x (marks ((pathOf (xs A) ++ text A) ++ bytesOf (below A)) (tipOf (below A))) → In x (marks low lay)
-    tip-stays x h =
-        omega (
-          arith,
-          run-marks (is x) low lay,
-          ap (λ y. count (is x) (marks y (tipOf (below A)))) (strings lay string),
-          ap (λ y. count (is x) (marks (low ++ bytesOf lay) y)) tip,
-        )
+    left-run : Ranged lay
+    left-run = tree-ranged E g low lay T (tip-not-leaf lay (subst IsNode (sym tip) (old-run A .0)))
+
+    module _ (run : _≡_ {A = List (ℕ × ℕ)} (bodiesOf lay) (bodiesOf (below A) ++ more)) where
+      below-along : Along [] (bodiesOf (below A)) (bodiesOf lay)
+      below-along = subst (Along [] (bodiesOf (below A))) (sym run) (along-more [] (bodiesOf (below A)) more)
+
+      below-stays : (x : Mark) → count (is x) (marks (pathOf (xs A) ++ text A) (below A)) ≤ count (like x) (marks low lay)
+      below-stays x =
+          let l = length-append (pathOf (xs A)) (text A) in
+          let m = low-long in
+          let d = A .part .less in
+          let t = parts A (w0 A) .1 .most in
+          along-like [] x refl (pathOf (xs A) ++ text A) (below A) low lay below-run left-run (sym tip) (strings lay string) (omega arith) (omega arith) below-along
 
   -- ---- no part before: the Prefix has the part after, or is freed
 
@@ -195,12 +188,13 @@ module _ {E : Edition} {f k word v : List ℕ} {p : Spot} (A : AtPart E f k word
       first-stays zero most e run =
           let m = low-long in
           let all : pathOf (xs A) ++ bytesOf (old A) ≡ low ++ bytesOf lay = sym (append-assoc (pathOf (xs A)) (text A) (bytesOf (below A))) ∙ strings lay string in
+          let along : Along [] (bodiesOf (old A)) (bodiesOf lay) = subst (Along [] (bodiesOf (old A))) (append-nil (bodiesOf (old A)) ∙ sym run) (along-more [] (bodiesOf (old A)) []) in
           record {
             each = λ x z h.
                 omega (
                   arith,
                   knot-marks (like x),
-                  run-stays E f g (pathOf (xs A)) low (old A) lay [] old-tree T (run ∙ sym (append-nil (bodiesOf (old A)))) all tip (λ i. (omega arith, omega arith)) x,
+                  along-like [] x refl (pathOf (xs A)) (old A) low lay (tree-ranged E f (pathOf (xs A)) (old A) old-tree tt) (left-run g lay [] string tip T) (sym tip) all (omega arith) (omega arith) along,
                 );
           }
       first-stays (suc zero) most e run =
@@ -308,11 +302,10 @@ module _ {E : Edition} {f k word v : List ℕ} {p : Spot} (A : AtPart E f k word
           ] in
           elim (decLe 1 (is i own)) [
             | yes q ↦ first (sym es ∙ ap (λ (z : Mark). z .slot) (is-same i own q))
-            | no q ↦ ⊎-elim
-                (λ h.
-                let hx' : SlotOf (x .slot) (bodiesOf (below A)) = subst (λ (s : ℕ). SlotOf s (bodiesOf (below A))) es h in
-                let there = slot-live low lay (x .slot) (subst (λ (b : List (ℕ × ℕ)). SlotOf (x .slot) b) (sym run) (slot-left (x .slot) (bodiesOf (below A)) more hx')) in
-                let mine : slotIs (x .slot) x ≡ 1 = slot-weighs x (x .slot) refl in
+            | no q ↦
+                let hi' : In i (marks (path ++ text A) (below A)) = omega arith in
+                let F = find (like i) (marks low lay) (omega (arith, below-stays g lay more string tip T run i)) in
+                let there = weight-in (slotIs (x .slot)) (marks low lay) (F .mark) (F .there) (omega (arith, slot-weighs (F .mark) (x .slot) (sym (like-of i (F .mark) (F .weighs) .slot) ∙ es))) in
                 let weigh : (z : Mark) → is x z ≤ slotIs (x .slot) z = λ z. same-weight x z in
                 let ix : In x (marks low lay) = omega (
                   arith,
@@ -323,10 +316,8 @@ module _ {E : Edition} {f k word v : List ℕ} {p : Spot} (A : AtPart E f k word
                   weigh (mark m Node4 (path ++ cut A .w) (path ++ cut A .w)),
                   weigh (mark n' Leaf k k),
                 ) in
-                run-last E g x y ek low lay (bodiesOf (below A)) more T run (λ s. omega (arith, once s, crown-marks (slotIs s))) ix iy hx'
-                (λ z. fresh (omega (arith, live (y .slot), slot-live (path ++ text A) (below A) (y .slot) z))))
-                (λ h. absurd (moved (omega (arith, crown-marks (is i), tip-stays g lay more string tip T i h))))
-                (run-or-tip (path ++ text A) (below A) i (omega arith))
+                along-last [] i x y es ek (path ++ text A) (below A) low lay (below-run g lay more string tip T) (left-run g lay more string tip T) (sym tip) (strings lay string) (below-along g lay more string tip T run)
+                (λ s. omega (arith, once s, crown-marks (slotIs s))) hi' (λ h. moved (omega (arith, crown-marks (is i)))) ix iy (λ z. fresh (omega (arith, live (y .slot))))
           ]
         where
           same-weight : (x z : Mark) → is x z ≤ slotIs (x .slot) z

@@ -23,7 +23,8 @@ use Rattle.chain.proofs.RowLaws.{raised-work, raised-since}
 use Rattle.chain.proofs.ReadLaws.{tree-stood}
 use Rattle.chain.proofs.RunLaws.{node-run, run-many}
 use Rattle.put_cut.specs.After.{Gathering, Gathered, Gathers, RunGathered, lacking, Splitting, Split, SplitOff, Splits}
-use Rattle.put_cut.proofs.RunLists.{path-past, items-app, sum-row, unwound-app, unwound-on, unwound-sum, unwound-long, run-long, run-below, none-left, tip-tip}
+use Rattle.chain.proofs.LongLaws.{run-long}
+use Rattle.put_cut.proofs.RunLists.{path-past, items-app, sum-row, unwound-app, unwound-on, unwound-sum, unwound-long, run-below, none-left, tip-tip}
 
 module _ {E : Edition} {f : List ℕ} {h : View} {xs : List Step} {n o : ℕ} {p : List ℕ} {l : Lay} {ts : List (List ℕ × Lay)} {loose : List Item} {q : ℕ} {ks : List ℕ} {x : ℕ} (Z : Splitting E f h xs n o p l ts loose q ks x) where
   -- the body above is known

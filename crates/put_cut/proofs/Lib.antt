@@ -1,5 +1,4 @@
 pub mod RunLists
-pub mod ShiftLaws
 pub mod GatherLaws
 pub mod UpLaws
 pub mod DropLaws

@@ -5,27 +5,22 @@ use mathlib.Core.List.{List, [], _∷_, _++_, append-assoc, append-nil}
 use native.Mathlib.Omega.{arith}
 use lib.ListN.{length, getD, take, drop, length-append, length-drop, take-append-drop}
 use lib.Seq.{getD-drop}
-use Rattle.layout.specs.Number.{Bytes}
 use Rattle.layout.specs.Kind.{Prefix}
-use Rattle.model.specs.Edition.{Edition, Lawful}
+use Rattle.model.specs.Edition.{Edition}
 use Rattle.model.specs.Tree.{chain}
 use Rattle.model.specs.Item.{Item, body, cover, sum}
-use Rattle.model.specs.Frame.{Lay, IsNode, Below, Tree, View, Heap}
+use Rattle.model.specs.Frame.{Lay, IsNode, Below, View, Heap}
 use Rattle.model.specs.Frame.Lay.{leaf, prefix, node}
-use Rattle.model.specs.Mark.{Mark, marks, count}
 use Rattle.model.proofs.ItemLaws.{sum-cons}
-use Rattle.model.proofs.MarkLaws.{prefix-marks}
-use Rattle.model.proofs.WellLaws.{Inside}
-use Rattle.model.proofs.StandsGood.{below-inside}
 use Rattle.between.specs.Hole.{Step}
 use Rattle.between.specs.Work.{Work}
 use Rattle.between.specs.Lead.{NotLeaf}
 use Rattle.between.specs.Since.{Changed, written, Since}
-use Rattle.between.proofs.TreeLaws.{sum-none, prefix-parts}
+use Rattle.between.proofs.TreeLaws.{sum-none}
 use Rattle.between.proofs.WorkLaws.{forest-first}
 use Rattle.between.proofs.ChangeLaws.{changed-then}
 use Rattle.between.proofs.SinceLaws.{since-start, since-also}
-use Rattle.chain.specs.Row.{rowItems, Named, unwound, bodiesOf, bytesOf, tipOf, runLong, runMany}
+use Rattle.chain.specs.Row.{rowItems, Named, unwound, bodiesOf, bytesOf, tipOf, runMany}
 use Rattle.chain.proofs.RunLaws.{below-not-leaf, run-art, run-chained}
 
 -- ---- strings
@@ -83,21 +78,10 @@ named-past row (y ∷ a) x N =
 
 -- ---- runs
 
-pub run-long : (t : Lay) → runLong t ≡ length (bytesOf t)
-run-long (leaf s o e k v) = refl
-run-long (prefix s o p l) = omega (arith, run-long l, length-append p (bytesOf l))
-run-long (node s o kind ks) = refl
-
 pub tip-tip : (t : Lay) → tipOf (tipOf t) ≡ tipOf t
 tip-tip (leaf s o e k v) = refl
 tip-tip (prefix s o p l) = tip-tip l
 tip-tip (node s o kind ks) = refl
-
--- what stands below a run stands below it under whichever bodies
-pub run-marks : (w : Mark → ℕ) (path : List ℕ) (t : Lay) → count w (marks (path ++ bytesOf t) (tipOf t)) ≤ count w (marks path t)
-run-marks w path (leaf s o e k v) = omega (arith, ap (λ y. count w (marks y (leaf s o e k v))) (append-nil path))
-run-marks w path (prefix s o p l) = omega (arith, prefix-marks w path s o p l, run-marks w (path ++ p) l, ap (λ y. count w (marks y (tipOf l))) (append-assoc path p (bytesOf l)))
-run-marks w path (node s o kind ks) = omega (arith, ap (λ y. count w (marks y (node s o kind ks))) (append-nil path))
 
 -- no Prefix stands below another: an inner node does
 pub bare-node : (p : List ℕ) (l : Lay) → Below p l → runMany l ≡ 0 → IsNode l
@@ -111,15 +95,6 @@ pub run-below : {E : Edition} {f : List ℕ} {h : View} {xs : List Step} {s : �
 run-below {E} {f} {ts = ts} path p l W B =
     let T = forest-first E f path l ts (W .trees) .0 in
     (run-art E f path l T (below-not-leaf p l B) .1, run-chained E f path l T)
-
--- a legal walked string goes on from where a run ends
-module _ {E : Edition} (L : Lawful E) (f : List ℕ) (B : Bytes f) where
-  pub run-inside : (path : List ℕ) (t : Lay) → Tree E f path t → NotLeaf t → Inside E (path ++ bytesOf t)
-  run-inside path (leaf s o e k v) T n = absurd n
-  run-inside path (node s o kind ks) T n = subst (Inside E) (sym (append-nil path)) (below-inside L f path [] (node s o kind ks) B tt T)
-  run-inside path (prefix s o p l) T n =
-      let P = prefix-parts E f path s o p l T in
-      subst (Inside E) (append-assoc path p (bytesOf l)) (run-inside (path ++ p) l (P .3) (below-not-leaf p l (P .2)))
 
 pub tip-not-leaf : (t : Lay) → IsNode (tipOf t) → NotLeaf t
 tip-not-leaf (leaf s o e k v) n = absurd n

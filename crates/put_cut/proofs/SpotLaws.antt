@@ -18,7 +18,7 @@ use Rattle.model.specs.Frame.{Lay, slotOf, IsNode, Below, art, items, View, Hea
 use Rattle.model.specs.Frame.Lay.{prefix, node}
 use Rattle.model.proofs.StringLaws.{shared-whole, Meets, whole, part, ends, meets}
 use Rattle.model.proofs.PutLaws.{drop-past}
-use Rattle.model.proofs.WellLaws.{Inside, inside-left, inside-short, not-inside}
+use Rattle.model.proofs.WellLaws.{Inside, inside-left, not-inside}
 use Rattle.model.proofs.ChainLaws.{as-some}
 use Rattle.model.proofs.StandsGood.{below-inside}
 use Rattle.room.specs.View.{listOf, placeFrom, taken, Roomy}
@@ -38,11 +38,12 @@ use Rattle.leaf_new.proofs.DoneLaws.{any-root}
 use Rattle.chain.specs.Row.{rowItems, bodiesOf, bytesOf, tipOf}
 use Rattle.chain.proofs.RowLaws.{row-leafy, leafy-not}
 use Rattle.chain.proofs.RunLaws.{run-sum, run-art, run-chained}
+use Rattle.chain.proofs.LongLaws.{run-few}
 use Rattle.put_split.specs.Parts.{Forks, Forked}
 use Rattle.put_split.proofs.ForkLaws.{forkKids, fork-sum}
 use Rattle.put_split.proofs.PartedLaws.{byte-here}
 use Rattle.put_cut.specs.Cut.{AtPart}
-use Rattle.put_cut.proofs.RunLists.{run-below, run-inside}
+use Rattle.put_cut.proofs.RunLists.{run-below}
 use Rattle.put_cut.proofs.ModelLaws.{madeOf, put-parts, shares-is, length-is}
 
 -- ---- what a take asks and leaves
@@ -113,9 +114,7 @@ module _ {E : Edition} {f k word v : List ℕ} {p : Spot} (A : AtPart E f k word
 
   -- no more bodies than a row has
   pub few-bodies : length (bodiesOf below) < 5
-  few-bodies =
-      let I = run-inside (A .put .ready .lawful) f (w0 .bytes) (pathOf xs) old (forest-first E f (pathOf xs) old [] (opened w0 .0 .trees) .0) tt in
-      omega (arith, old-many, inside-short (A .put .ready .lawful) (pathOf xs ++ bytesOf old) I, (A .put .ready .lawful) .fields .words, length-append (pathOf xs) (bytesOf old))
+  few-bodies = omega (arith, run-few (A .put .ready .lawful) f (w0 .bytes) (pathOf xs) old (forest-first E f (pathOf xs) old [] (opened w0 .0 .trees) .0) tt)
 
   -- ---- where the strings part
 

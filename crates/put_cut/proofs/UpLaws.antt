@@ -24,7 +24,8 @@ use Rattle.chain.proofs.RowLaws.{raised-work}
 use Rattle.chain.proofs.ReadLaws.{tree-stood}
 use Rattle.chain.proofs.RunLaws.{node-run, run-many}
 use Rattle.put_cut.specs.After.{Gathering, Gathered, Gathers, RunGathered, ownRow, Dropped, FirstDropped, Drops}
-use Rattle.put_cut.proofs.RunLists.{path-past, items-app, sum-row, unwound-app, unwound-sum, unwound-long, none-left, named-past, run-long, tip-tip, run-below}
+use Rattle.chain.proofs.LongLaws.{run-long}
+use Rattle.put_cut.proofs.RunLists.{path-past, items-app, sum-row, unwound-app, unwound-sum, unwound-long, none-left, named-past, tip-tip, run-below}
 
 -- a Prefix opened: its body is loose
 module _ {E : Edition} {f : List ℕ} {h : View} {xs : List Step} {s : ℕ} {path : List ℕ} {n o : ℕ} {p : List ℕ} {l : Lay} {ts : List (List ℕ × Lay)} {loose : List Item} (W : Work E f h xs s ((path, prefix n o p l) ∷ ts) loose) where
