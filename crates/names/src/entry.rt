@@ -2,16 +2,19 @@
 use fields::body::Leaf;
 use fields::body::Node;
 use layout::number;
+use seek::Sought;
 ghost use mathlib.Core.Path.{_≡_};
 ghost use mathlib.Core.Bool.{false};
 ghost use mathlib.Core.List.{List, _++_};
 ghost use Prim.Native.Nat.{ℕ, _+_, _≤_, _<_};
 ghost use lib.ListN.{length, take, drop};
+ghost use Rattle.model.specs.Edition.{editionOf, SomeEdition};
 ghost use Rattle.model.specs.Image.{digits};
 ghost use Rattle.model.specs.Body.{LeafAt};
 ghost use Rattle.listing.specs.Listing.{begins, delimiterOf};
+ghost use Rattle.listing.specs.Bound.{boundOf};
 ghost use Rattle.seek.specs.Sub.{Sub};
-ghost use Rattle.seek.specs.Seek.{LeafSome};
+ghost use Rattle.seek.specs.Seek.{LeafSome, SoughtAt};
 ghost use Rattle.names.specs.Entry.{CutAt, OfKey, EntryFrom};
 
 // behind the text of a bound: past the key that is the text, and past all keys that begin with it
@@ -94,7 +97,7 @@ pub fn ending(key: &[u8], from: usize, delimiter: usize) -> Cut
 
 // The entry of the key of the Leaf at a place, if it begins with the prefix.
 fn of_leaf(f: &[u8], place: usize, prefix: &[u8], delimiter: usize) -> Entry
-    requires { ⌜ LeafSome (now f) place ⌝ }
+    requires { ⌜ SomeEdition (λ E. LeafSome E (now f) place) ⌝ }
     ensures { λ r. ⌜ ((e : ℕ) (k v : List ℕ) → LeafAt (now (f .entry)) place e k v → OfKey (now (f .entry)) (now (prefix .entry)) (delimiterOf delimiter) k r) ⌝ }
 {
     let at = Leaf::extent(f, place);
@@ -112,7 +115,34 @@ fn of_leaf(f: &[u8], place: usize, prefix: &[u8], delimiter: usize) -> Entry
     }
 }
 
-// The entry of the first key at or above a bound, if that begins with the prefix.
+// The first Leaf at or above the bound of a text in edition 2: the text's walked string without its end, and past the key that is the text
+// with the first byte of that.
+fn sought_spelt(f: &[u8], root: usize, text: &[u8], tail: usize) -> Sought
+    requires { ⌜ Sub (editionOf 2) (now f) root 0 × (tail ≤ 256) × (length (now text) ≤ 255) ⌝ }
+    ensures { λ r. ⌜ SoughtAt (editionOf 2) (now (f .entry)) (boundOf (editionOf 2) (now (text .entry)) tail) tail root r ⌝ }
+{
+    let mut word: [u8; keys::LONGEST_WORD] = [0; keys::LONGEST_WORD];
+    let n = keys::walk(text, &mut word, keys::SECOND);
+    if tail == PAST_KEY {
+        let past = n - 1;
+        return seek::seek(f, root, &word[0..past], tail, keys::SECOND);
+    }
+    let end = n - 2;
+    seek::seek(f, root, &word[0..end], tail, keys::SECOND)
+}
+
+// The same in every edition. In edition 1 the text is that of the bound.
+fn sought(f: &[u8], root: usize, text: &[u8], tail: usize, edition: usize) -> Sought
+    requires { ⌜ Sub (editionOf edition) (now f) root 0 × (tail ≤ 256) × (length (now text) ≤ 255) ⌝ }
+    ensures { λ r. ⌜ SoughtAt (editionOf edition) (now (f .entry)) (boundOf (editionOf edition) (now (text .entry)) tail) tail root r ⌝ }
+{
+    if edition == keys::SECOND {
+        return sought_spelt(f, root, text, tail);
+    }
+    seek::seek(f, root, text, tail, edition)
+}
+
+// The entry of the first key at or above the bound of a text, if that begins with the prefix.
 pub fn from_bound(
     f: &[u8],
     root: usize,
@@ -120,15 +150,16 @@ pub fn from_bound(
     delimiter: usize,
     text: &[u8],
     tail: usize,
+    edition: usize,
 ) -> Entry
-    requires { ⌜ Sub (now f) root 0 × (tail ≤ 256) ⌝ }
-    ensures { λ r. ⌜ EntryFrom (now (f .entry)) root (now (prefix .entry)) (delimiterOf delimiter) (now (text .entry)) tail r ⌝ }
+    requires { ⌜ Sub (editionOf edition) (now f) root 0 × (tail ≤ 256) × (length (now text) ≤ 255) ⌝ }
+    ensures { λ r. ⌜ EntryFrom (editionOf edition) (now (f .entry)) root (now (prefix .entry)) (delimiterOf delimiter) (now (text .entry)) tail r ⌝ }
 {
-    let sought = seek::seek(f, root, text, tail);
-    if !sought.found {
+    let s = sought(f, root, text, tail, edition);
+    if !s.found {
         return none();
     }
-    of_leaf(f, sought.place, prefix, delimiter)
+    of_leaf(f, s.place, prefix, delimiter)
 }
 
 // An entry at a place of the buffer: its length in two bytes, then its bytes.

@@ -1,25 +1,29 @@
 -- The invariant: so many entries are written, and the next one that is left is at hand. The measure is the room that is left. Assumes nothing.
 use Prim.Native.Nat.{_+_, _-_}
 use native.Mathlib.Omega.{arith}
-use borrow.Author.Needs.{needs}
 use borrow.Author.Tests.{not-true, not-false}
 use lib.ListN.{length}
+use Rattle.model.specs.Edition.{editionOf}
 use Rattle.listing.specs.Listing.{startOf, delimiterOf}
-use Rattle.names.proofs.PageLaws.{Paging, paging-start, paging-long, paging-count, paging-room, paging-end, head, head-short, head-tail, head-part, paging-fits, paging-ten, paging-more, paging-on}
+use Rattle.names.proofs.EditionLaws.{naming}
+use Rattle.names.proofs.PageLaws.{Paging, paging-start, paging-long, paging-count, paging-room, paging-end, head, head-short, head-tail, head-part, head-most, paging-fits, paging-ten, paging-more, paging-on}
+use borrow.Author.Needs.{needs}
 use Rattle.names.proofs.page.fill.Statement.{statement}
 use Rattle.names.proofs.page.fill.Tie as tie
 
 abbrev Inv-loop : tie.InvT-loop
-Inv-loop f root prefix start given delimiter buffer₀ e₀ count₀ used₀ buffer e count used = Paging f root prefix (startOf given start) (delimiterOf delimiter) buffer₀ count used e buffer
+Inv-loop f root prefix start given delimiter buffer₀ edition e₀ count₀ used₀ buffer e count used =
+    Paging (editionOf edition) f root prefix (startOf given start) (delimiterOf delimiter) buffer₀ count used e buffer
 
 abbrev μ-loop : tie.MeasureT-loop
-μ-loop f root prefix start given delimiter buffer₀ e₀ count₀ used₀ buffer e count used = length buffer₀ - used
+μ-loop f root prefix start given delimiter buffer₀ edition e₀ count₀ used₀ buffer e count used =
+    length buffer₀ - used
 
 first-requires : tie.Need-first-requires Inv-loop μ-loop
-first-requires c κs = search needs
+first-requires c κs = c .before .before .before .before .pre
 
 loop-holds : tie.Need-loop-holds Inv-loop μ-loop
-loop-holds c = paging-start _ (c .before .before .before .before .before .pre .0) (c .first .ensures)
+loop-holds c = paging-start _ (naming _) (c .before .before .before .before .before .pre .0) (c .first .ensures)
 
 same-length : tie.Need-same-length Inv-loop μ-loop
 same-length c = let l = paging-long (c .before .before .loop .inv) in omega arith
@@ -58,8 +62,7 @@ part-text-end : tie.Need-part-text-end Inv-loop μ-loop
 part-text-end c = let i = head (c .before .before .before .loop .inv) (not-false _ (c .before .if1 .left)) .inside in omega arith
 
 write-requires : tie.Need-write-requires Inv-loop μ-loop
-write-requires c κs =
-    let l = c .before .before .before .before .before .loop in
+write-requires c κs = let l = c .before .before .before .before .before .loop in
     paging-fits (l .inv) (not-false _ (c .before .before .before .if1 .left)) (l .e .at + l .e .long - l .e .at) (omega arith) (omega (arith, c .before .before .if2 .left))
 
 add-used : tie.Need-add-used Inv-loop μ-loop
@@ -69,25 +72,22 @@ add-used-2 : tie.Need-add-used-2 Inv-loop μ-loop
 add-used-2 c = let l = paging-long (c .before .before .before .before .before .before .before .before .loop .inv) in let r = paging-room (c .before .before .before .before .before .before .before .before .loop .inv) in let o = c .before .before .before .before .before .if2 .left in omega arith
 
 add-count : tie.Need-add-count Inv-loop μ-loop
-add-count c =
-    let r = paging-room (c .before .before .before .before .before .before .before .before .loop .inv) in
+add-count c = let r = paging-room (c .before .before .before .before .before .before .before .before .loop .inv) in
     let n = paging-count (c .before .before .before .before .before .before .before .before .loop .inv) in
     let o = c .before .before .before .before .before .if2 .left in
     omega arith
 
 from-bound-requires : tie.Need-from-bound-requires Inv-loop μ-loop
-from-bound-requires c κs = let K = c .before .before .before .before .before .before .before .before .loop .inv in (K .sub, head-tail K (not-false _ (c .before .before .before .before .before .before .if1 .left)))
+from-bound-requires c κs = let l = c .before .before .before .before .before .before .before .before .loop in
+    (l .inv .sub, head-tail (l .inv) (not-false _ (c .before .before .before .before .before .before .if1 .left)), head-most (l .inv) (not-false _ (c .before .before .before .before .before .before .if1 .left)) (l .e .at + l .e .long - l .e .at) (omega arith))
 
 loop-less : tie.Need-loop-less Inv-loop μ-loop
-loop-less c =
-    let K = c .before .before .before .before .before .before .before .before .before .loop .inv in
-    let l = paging-long K in let r = paging-room K in
+loop-less c = let l = paging-long (c .before .before .before .before .before .before .before .before .before .loop .inv) in let r = paging-room (c .before .before .before .before .before .before .before .before .before .loop .inv) in
     let o = c .before .before .before .before .before .before .if2 .left in
     omega arith
 
 loop-again : tie.Need-loop-again Inv-loop μ-loop
-loop-again c =
-    let l = c .before .before .before .before .before .before .before .before .before .loop in
+loop-again c = let l = c .before .before .before .before .before .before .before .before .before .loop in
     let y = not-false _ (c .before .before .before .before .before .before .before .if1 .left) in
     let r = paging-room (l .inv) in
     let o = c .before .before .before .before .before .before .if2 .left in
