@@ -1,5 +1,5 @@
 -- What the walk through the live tree tells of a slot, of a body, and of the children of a node.
-use Prim.Native.Nat.{ℕ, _+_, _<_, _≤_}
+use Prim.Native.Nat.{ℕ, _+_, _*_, _/_, _%_, _<_, _≤_}
 use mathlib.Core.Path.{_≡_}
 use mathlib.Core.List.{List, _∷_, _++_}
 use mathlib.Core.Bool.{true, false}
@@ -31,13 +31,24 @@ pub record BelowSlot (f : List ℕ) (s u n : ℕ) : Type 0 where
   pub crossing : highOf f s ≡ Crossing → ⊥
   pub full : highOf f s ≡ Prefix → n ≡ prefixMost
 
--- arrays that the paths of an edition's inner nodes fit, all of one length
-pub record Arrays (E : Edition) (path slots depths turns : ℕ) : Type 0 where
+-- arrays that the paths of an edition's inner nodes fit, and as many of them as wait at once in a frame of u slots
+pub record Arrays (E : Edition) (u path waits : ℕ) : Type 0 where
   pub words : E .longest ≤ path
   pub most : path ≤ 512
-  pub slotsAre : slots ≡ path
-  pub depthsAre : depths ≡ path
-  pub turnsAre : turns ≡ path
+  pub room : (waiting : ℕ) → waiting < path → waiting < u → waiting < waits
+
+-- a node that waits as one number: its slot, how many bytes lead to it, and the child whose turn it is
+unfoldable pub waitOf : ℕ → ℕ → ℕ → ℕ
+waitOf slot depth turn = slot * 131072 + depth * 256 + turn
+
+unfoldable pub slotIn : ℕ → ℕ
+slotIn w = w / 131072
+
+unfoldable pub depthIn : ℕ → ℕ
+depthIn w = w % 131072 / 256
+
+unfoldable pub turnIn : ℕ → ℕ
+turnIn w = w % 256
 
 -- the first bytes of the path stay
 pub record Kept (depth : ℕ) (p q : List ℕ) : Type 0 where

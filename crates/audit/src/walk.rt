@@ -1,11 +1,10 @@
 // The live tree, parent first and children in byte order, in one loop. The path that leads to a body stands in a buffer, and the inner
-// nodes whose children are not all counted yet wait in arrays, the root's node first: the stack does not grow with the tree.
+// nodes whose children are not all counted yet wait in an array, the root's node first: the stack does not grow with the tree.
 use census::Bounds;
 use census::Sums;
 use census::refused;
 use census::take;
 use fields::body::Prefix;
-use fields::header::Header;
 use inner::look;
 use inner::visit::child_at;
 use layout::entry::Entry;
@@ -23,12 +22,7 @@ ghost use Rattle.layout.specs.Entry.{placeOf, highOf};
 ghost use Rattle.pieces.specs.Decides.{Decides};
 ghost use Rattle.census.specs.Told.{Ground, Limits, Tally, Told};
 ghost use Rattle.model.specs.Edition.{editionOf};
-ghost use Rattle.audit.specs.Walk.{BelowSlot, Arrays, Kept, Extended, At, TreeItems, NodeTold, PrefixTold};
-
-// How many lengths a path to an inner node can have, by the edition.
-const DEPTHS: usize = 113;
-
-const DEPTHS_SECOND: usize = 512;
+ghost use Rattle.audit.specs.Walk.{BelowSlot, Arrays, waitOf, slotIn, depthIn, turnIn, Kept, Extended, At, TreeItems, NodeTold, PrefixTold};
 
 // The slot below a Prefix that is counted, and how many bytes lead to it. Not good: a refusal.
 pub struct Inner {
@@ -50,6 +44,38 @@ impl Inner {
             place: 0,
             kind: 0,
             depth: 0,
+        }
+    }
+}
+
+// A node that waits: its slot, the bytes that lead to it, and the child that the walk is below. It is kept as one number.
+struct Wait {
+    slot: usize,
+    depth: usize,
+    turn: usize,
+}
+
+impl Wait {
+    // a node has at most 256 children, and fewer than 512 bytes lead to it
+    const DEPTH_UNIT: usize = 256;
+
+    const SLOT_UNIT: usize = 131072;
+
+    fn number(slot: usize, depth: usize, turn: usize) -> u32
+        requires { ⌜ (slot ≤ 10240) × (depth < 512) × (turn < 256) ⌝ }
+        ensures { λ r. ⌜ r ≡ waitOf slot depth turn ⌝ }
+    {
+        (slot * Wait::SLOT_UNIT + depth * Wait::DEPTH_UNIT + turn) as u32
+    }
+
+    fn read(number: u32) -> Wait
+        ensures { λ r. ⌜ (r .slot ≡ slotIn number) × (r .depth ≡ depthIn number) × (r .turn ≡ turnIn number) ⌝ }
+    {
+        let n = number as usize;
+        Wait {
+            slot: n / Wait::SLOT_UNIT,
+            depth: n % Wait::SLOT_UNIT / Wait::DEPTH_UNIT,
+            turn: n % Wait::DEPTH_UNIT,
         }
     }
 }
@@ -190,21 +216,18 @@ fn past_prefix(
 
 // The tree at slot s, to which no path leads, of a kind other than a Leaf's. The walk arrives at a slot: a Prefix leads it to another, and a
 // node is counted. From then on it is at child i of a node: where that is a Leaf it is counted, else the node waits and the walk arrives at
-// it; after the last child the walk goes back to the node that waits. Of the nodes that wait the arrays have the slot, the bytes that lead to
-// it, and the child that the walk is below.
-fn along(
+// it; after the last child the walk goes back to the node that waits.
+pub fn along(
     f: &[u8],
     map: &mut [u64],
     path: &mut [u8],
-    slots: &mut [u32],
-    depths: &mut [u16],
-    turns: &mut [u8],
+    waits: &mut [u32],
     s: usize,
     bounds: Bounds,
     t: Sums,
     edition: usize,
 ) -> Sums
-    requires { ⌜ Ground (now f) (bounds .start) (bounds .given) (bounds .next) × Limits (bounds .start) (bounds .given) (bounds .next) (length (now map)) × Tally (bounds .given) 0 t × (1 ≤ s) × (s ≤ bounds .given) × (highOf (now f) s ≡ 1 → ⊥) × Arrays (editionOf edition) (length (now path)) (length (now slots)) (length (now depths)) (length (now turns)) ⌝ }
+    requires { ⌜ Ground (now f) (bounds .start) (bounds .given) (bounds .next) × Limits (bounds .start) (bounds .given) (bounds .next) (length (now map)) × Tally (bounds .given) 0 t × (1 ≤ s) × (s ≤ bounds .given) × (highOf (now f) s ≡ 1 → ⊥) × (bounds .given ≤ 10240) × Arrays (editionOf edition) (bounds .given) (length (now path)) (length (now waits)) ⌝ }
     ensures { λ r. ⌜ Told (TreeItems (editionOf edition) (now (f .entry)) [] s) (TreeItems (editionOf edition) (now (f .entry)) [] s) (now (f .entry)) (bounds .start) (bounds .given) (bounds .next) (now (map .entry)) t (now (map .exit)) r ⌝ }
 {
     let given = bounds.given;
@@ -262,9 +285,7 @@ fn along(
                 i += 1;
                 continue;
             }
-            slots[waiting] = slot as u32;
-            depths[waiting] = depth as u16;
-            turns[waiting] = i as u8;
+            waits[waiting] = Wait::number(slot, depth, i);
             waiting += 1;
             slot = c.slot;
             place = e.place;
@@ -277,70 +298,14 @@ fn along(
             return sums;
         }
         waiting -= 1;
-        slot = slots[waiting] as usize;
-        depth = depths[waiting] as usize;
-        i = turns[waiting] as usize + 1;
+        let w = Wait::read(waits[waiting]);
+        slot = w.slot;
+        depth = w.depth;
+        i = w.turn + 1;
         from = path[depth] as usize + 1;
         let e = Entry::read(f, slot);
         place = e.place;
         kind = e.high;
         n = look::count(f, place);
     }
-}
-
-// The same with arrays for the paths of edition 1.
-fn near(f: &[u8], map: &mut [u64], s: usize, bounds: Bounds, t: Sums, edition: usize) -> Sums
-    requires { ⌜ Ground (now f) (bounds .start) (bounds .given) (bounds .next) × Limits (bounds .start) (bounds .given) (bounds .next) (length (now map)) × Tally (bounds .given) 0 t × (1 ≤ s) × (s ≤ bounds .given) × (highOf (now f) s ≡ 1 → ⊥) × (editionOf edition .longest ≤ 113) ⌝ }
-    ensures { λ r. ⌜ Told (TreeItems (editionOf edition) (now (f .entry)) [] s) (TreeItems (editionOf edition) (now (f .entry)) [] s) (now (f .entry)) (bounds .start) (bounds .given) (bounds .next) (now (map .entry)) t (now (map .exit)) r ⌝ }
-{
-    let mut path: [u8; DEPTHS] = [0; DEPTHS];
-    let mut slots: [u32; DEPTHS] = [0; DEPTHS];
-    let mut depths: [u16; DEPTHS] = [0; DEPTHS];
-    let mut turns: [u8; DEPTHS] = [0; DEPTHS];
-    along(
-        f,
-        map,
-        &mut path,
-        &mut slots,
-        &mut depths,
-        &mut turns,
-        s,
-        bounds,
-        t,
-        edition,
-    )
-}
-
-// The same with arrays for the paths of edition 2.
-fn far(f: &[u8], map: &mut [u64], s: usize, bounds: Bounds, t: Sums, edition: usize) -> Sums
-    requires { ⌜ Ground (now f) (bounds .start) (bounds .given) (bounds .next) × Limits (bounds .start) (bounds .given) (bounds .next) (length (now map)) × Tally (bounds .given) 0 t × (1 ≤ s) × (s ≤ bounds .given) × (highOf (now f) s ≡ 1 → ⊥) × (editionOf edition .longest ≤ 512) ⌝ }
-    ensures { λ r. ⌜ Told (TreeItems (editionOf edition) (now (f .entry)) [] s) (TreeItems (editionOf edition) (now (f .entry)) [] s) (now (f .entry)) (bounds .start) (bounds .given) (bounds .next) (now (map .entry)) t (now (map .exit)) r ⌝ }
-{
-    let mut path: [u8; DEPTHS_SECOND] = [0; DEPTHS_SECOND];
-    let mut slots: [u32; DEPTHS_SECOND] = [0; DEPTHS_SECOND];
-    let mut depths: [u16; DEPTHS_SECOND] = [0; DEPTHS_SECOND];
-    let mut turns: [u8; DEPTHS_SECOND] = [0; DEPTHS_SECOND];
-    along(
-        f,
-        map,
-        &mut path,
-        &mut slots,
-        &mut depths,
-        &mut turns,
-        s,
-        bounds,
-        t,
-        edition,
-    )
-}
-
-// The tree at slot s, to which no path leads, of a kind other than a Leaf's.
-pub fn tree(f: &[u8], map: &mut [u64], s: usize, bounds: Bounds, t: Sums, edition: usize) -> Sums
-    requires { ⌜ Ground (now f) (bounds .start) (bounds .given) (bounds .next) × Limits (bounds .start) (bounds .given) (bounds .next) (length (now map)) × Tally (bounds .given) 0 t × (1 ≤ s) × (s ≤ bounds .given) × (highOf (now f) s ≡ 1 → ⊥) ⌝ }
-    ensures { λ r. ⌜ Told (TreeItems (editionOf edition) (now (f .entry)) [] s) (TreeItems (editionOf edition) (now (f .entry)) [] s) (now (f .entry)) (bounds .start) (bounds .given) (bounds .next) (now (map .entry)) t (now (map .exit)) r ⌝ }
-{
-    if edition == Header::SECOND_EDITION {
-        return far(f, map, s, bounds, t, edition);
-    }
-    near(f, map, s, bounds, t, edition)
 }
