@@ -1,6 +1,6 @@
 -- The last bytes of a Prefix and those of the chain below it, in the bodies of that chain and one more if these are not enough: `move_down`, call
 -- by call. Assumes nothing.
-use Prim.Native.Nat.{ℕ, _+_, _-_, _<_, _≤_}
+use Prim.Native.Nat.{ℕ, _+_, _-_, _≤_}
 use mathlib.Core.Path.{_≡_, refl, sym, ap, subst, _∙_}
 use mathlib.Core.List.{List, [], _∷_, _++_, append-nil}
 use native.Mathlib.Omega.{arith}

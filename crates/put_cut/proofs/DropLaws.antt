@@ -11,7 +11,7 @@ use Rattle.layout.specs.Place.{entryAt, prefixChild, prefixLength}
 use Rattle.layout.specs.Kind.{Prefix}
 use Rattle.layout.specs.Entry.{highOf}
 use Rattle.model.specs.Item.{body, cover}
-use Rattle.model.specs.Frame.{Lay, slotOf, IsNode}
+use Rattle.model.specs.Frame.{slotOf, IsNode}
 use Rattle.model.specs.Frame.Lay.{prefix}
 use Rattle.model.proofs.ItemLaws.{sum-cons}
 use Rattle.model.proofs.OneBody.{node-below}

@@ -10,7 +10,7 @@ use Rattle.layout.specs.Kind.{Leaf, Node4}
 use Rattle.model.specs.Edition.{Edition}
 use Rattle.model.specs.Tree.{Art, Change, chain, prefixes, asPrefix, extentOf, fork, newKey, putTree}
 use Rattle.model.specs.State.{State}
-use Rattle.model.specs.Item.{Item, body, cover, sum}
+use Rattle.model.specs.Item.{Item, body, cover}
 use Rattle.model.specs.Frame.{Lay, Tree, slotOf, IsNode, art, View, Heap, Stands, Begins}
 use Rattle.model.specs.Frame.Lay.{node}
 use Rattle.model.proofs.ItemLaws.{sum-cons}
@@ -22,13 +22,13 @@ use Rattle.room.specs.Link.{Relinked}
 use Rattle.room.proofs.BookLaws.{room-next}
 use Rattle.between.specs.Hole.{plug, pathOf}
 use Rattle.between.specs.Work.{rootOf, Work}
-use Rattle.between.specs.Since.{Changed, Since, holderItems}
+use Rattle.between.specs.Since.{Since, holderItems}
 use Rattle.between.specs.Edit.{Booked, leafView, leafIn}
 use Rattle.between.proofs.HoleLaws.{is-node}
 use Rattle.between.proofs.LinkLaws.{relinked}
 use Rattle.between.proofs.LeadLaws.{leaf-look}
 use Rattle.between.proofs.WorkLaws.{standsView, work-path, work-take, work-count, work-close, forest-first}
-use Rattle.between.proofs.SinceLaws.{since-start, since-take, since-link, since-count}
+use Rattle.between.proofs.SinceLaws.{since-take, since-link, since-count}
 use Rattle.between.proofs.BookedLaws.{room-same, booked-root, booked-count}
 use Rattle.descent.specs.declared.spot.Spot.{Spot}
 use Rattle.leaf_new.specs.Make.{Counts, Counted}
@@ -50,7 +50,7 @@ use Rattle.put_cut.specs.Cut.{AtPart, NoneBefore}
 use Rattle.put_cut.specs.After.{ownRow, Dropped, FirstDropped, Drops}
 use Rattle.put_cut.proofs.RunLists.{no-bytes, unwound-long, tip-not-leaf, since-rows, since-changed}
 use Rattle.put_cut.proofs.ModelLaws.{madeOf, made-first}
-use Rattle.put_cut.proofs.SpotLaws.{takes-of, took-of, run-leaves, fork-leaves, xs, text, below, old, own, w0, root-at, opened, parts, old-run, old-many, cut, left, all-cut, spelt, shares, old-put, past-is, upto-is, few-bodies, prefix-room, bytes-differ, forked-as, forks-of}
+use Rattle.put_cut.proofs.SpotLaws.{takes-of, took-of, run-leaves, fork-leaves, xs, text, below, old, w0, root-at, opened, old-run, old-many, cut, left, all-cut, spelt, shares, old-put, past-is, upto-is, few-bodies, prefix-room, bytes-differ, forked-as, forks-of}
 use Rattle.put_cut.proofs.CutLaws.{first-accounts, first-stays}
 
 -- the spare body as a row of one

@@ -1,9 +1,9 @@
 -- The bytes of a Prefix from some byte on, and those of the chain below it. Assumes nothing.
-use Prim.Native.Nat.{ℕ, _+_, _-_, _<_, _≤_}
-use mathlib.Core.Path.{_≡_, refl, sym, ap, subst, _∙_}
-use mathlib.Core.List.{List, [], _∷_, _++_, append-nil}
+use Prim.Native.Nat.{ℕ, _+_, _-_, _≤_}
+use mathlib.Core.Path.{_≡_, refl, sym, ap, _∙_}
+use mathlib.Core.List.{List, [], _++_, append-nil}
 use native.Mathlib.Omega.{arith}
-use lib.ListN.{length, getD, take, drop, length-append, length-drop}
+use lib.ListN.{length, take, drop, length-append, length-drop}
 use lib.Seq.{getD-drop}
 use Rattle.layout.specs.Number.{le}
 use Rattle.layout.specs.Place.{prefixBytes, prefixLength, prefixChild}
@@ -11,7 +11,7 @@ use Rattle.layout.specs.Entry.{highOf}
 use Rattle.model.specs.Edition.{Edition}
 use Rattle.model.specs.Item.{Item}
 use Rattle.model.specs.Body.{Text}
-use Rattle.model.specs.Frame.{Lay, slotOf, View}
+use Rattle.model.specs.Frame.{Lay, View}
 use Rattle.model.specs.Frame.Lay.{leaf, prefix, node}
 use Rattle.moves.specs.Pasted.{Pasted}
 use Rattle.between.specs.Hole.{Step}

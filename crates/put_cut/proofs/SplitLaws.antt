@@ -1,5 +1,5 @@
 -- The last bytes of a Prefix and those below it as a shared beginning of their own: `split_off`, exit by exit. Assumes nothing.
-use Prim.Native.Nat.{ℕ, _+_, _-_, _<_, _≤_}
+use Prim.Native.Nat.{ℕ, _+_, _<_, _≤_}
 use mathlib.Core.Path.{_≡_, refl, sym, ap, subst, _∙_}
 use mathlib.Core.List.{List, [], _∷_, _++_, append-nil}
 use native.Mathlib.Omega.{arith}
@@ -12,7 +12,7 @@ use Rattle.layout.specs.Kind.{Prefix}
 use Rattle.layout.specs.Entry.{highOf, placeOf}
 use Rattle.model.specs.Edition.{Edition}
 use Rattle.model.specs.Tree.{chain, prefixes}
-use Rattle.model.specs.Item.{Item, body, cover, sum}
+use Rattle.model.specs.Item.{Item, body, cover}
 use Rattle.model.specs.Body.{PrefixAt}
 use Rattle.model.specs.Frame.{Lay, slotOf, IsNode, View, Heap, freed}
 use Rattle.model.specs.Frame.Lay.{prefix}
@@ -24,14 +24,14 @@ use Rattle.room.specs.Step.{Takes, Took}
 use Rattle.room.specs.Book.{takenAll, RoomFor}
 use Rattle.room.proofs.HeapLaws.{two-apart, lies, Lies, cover-body}
 use Rattle.room.proofs.BookLaws.{room-first}
-use Rattle.between.specs.Hole.{Step, under, pathOf, stepsItems}
-use Rattle.between.specs.Work.{Work, forestItems}
+use Rattle.between.specs.Hole.{Step, under, pathOf}
+use Rattle.between.specs.Work.{Work}
 use Rattle.between.specs.Since.{Since}
 use Rattle.between.proofs.HoleLaws.{steps-under}
 use Rattle.between.proofs.SinceLaws.{since-take, since-write}
 use Rattle.between.proofs.WorkLaws.{work-path, work-sum, work-take, work-write, work-above, make-prefix, entries-first, first-owns}
 use Rattle.prefix_body.specs.Prefix.{Longer, Elsewhere}
-use Rattle.chain.specs.Row.{rowItems, unwound, bodiesOf, bytesOf, tipOf}
+use Rattle.chain.specs.Row.{bodiesOf, bytesOf}
 use Rattle.chain.proofs.TakeLaws.{prefix-kind}
 use Rattle.chain.proofs.ReadLaws.{tree-stood}
 use Rattle.chain.proofs.RunLaws.{node-run}

@@ -1,16 +1,16 @@
 -- A key's way that ends within a Prefix: where the walked string parts from it, the tree opened there, and what the calls ask. Assumes nothing.
-use Prim.Native.Nat.{ℕ, suc, _+_, _-_, _<_, _≤_}
+use Prim.Native.Nat.{ℕ, suc, _+_, _<_, _≤_}
 use mathlib.Core.Path.{_≡_, refl, sym, ap, subst, _∙_}
 use mathlib.Core.List.{List, [], _∷_, _++_, append-assoc}
 use native.Mathlib.Omega.{arith}
-use lib.ListN.{length, getD, take, drop, length-append, length-drop}
+use lib.ListN.{length, getD, take, drop, length-append}
 use lib.Seq.{take-append-seam, getD-append-seam}
 use Rattle.layout.specs.Number.{byteAt}
 use Rattle.layout.specs.Place.{prefixBytes}
 use Rattle.layout.specs.Kind.{Leaf, Prefix, Node4, Kind}
 use Rattle.model.specs.Strings.{shared, Parted}
 use Rattle.model.specs.Edition.{Edition}
-use Rattle.model.specs.Tree.{Art, Change, chain, extentOf, newKey, putTree}
+use Rattle.model.specs.Tree.{Art, chain, extentOf, putTree}
 use Rattle.model.specs.State.{State}
 use Rattle.model.specs.Item.{Item, body, leafy, sum}
 use Rattle.model.specs.Body.{PrefixAt}
@@ -35,7 +35,7 @@ use Rattle.between.proofs.LeadLaws.{leads-rest}
 use Rattle.keys.proofs.WordLaws.{spells-at}
 use Rattle.descent.specs.declared.spot.Spot.{Spot}
 use Rattle.leaf_new.proofs.DoneLaws.{any-root}
-use Rattle.chain.specs.Row.{rowItems, bodiesOf, bytesOf, tipOf}
+use Rattle.chain.specs.Row.{bodiesOf, bytesOf, tipOf}
 use Rattle.chain.proofs.RowLaws.{row-leafy, leafy-not}
 use Rattle.chain.proofs.RunLaws.{run-sum, run-art, run-chained}
 use Rattle.chain.proofs.LongLaws.{run-few}

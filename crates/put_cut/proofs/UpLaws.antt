@@ -1,5 +1,5 @@
 -- A chain without its first byte: `move_up`, call by call. Assumes nothing.
-use Prim.Native.Nat.{ℕ, zero, suc, _+_, _-_, _*_, _<_, _≤_}
+use Prim.Native.Nat.{ℕ, zero, suc, _+_, _-_, _≤_}
 use mathlib.Core.Path.{_≡_, refl, sym, ap, subst, _∙_}
 use mathlib.Core.List.{List, [], _∷_, _++_, append-nil}
 use native.Mathlib.Omega.{arith}
@@ -16,10 +16,9 @@ use Rattle.model.proofs.ItemLaws.{sum-cons}
 use Rattle.model.proofs.OneBody.{node-below}
 use Rattle.between.specs.Hole.{Step}
 use Rattle.between.specs.Work.{Work}
-use Rattle.between.specs.Since.{Changed}
 use Rattle.between.proofs.TreeLaws.{sum-none}
 use Rattle.between.proofs.WorkLaws.{work-path, open-prefix}
-use Rattle.chain.specs.Row.{rowItems, Named, unwound, bodiesOf, bytesOf, tipOf, Ready, Raised, RowWritten, Writes}
+use Rattle.chain.specs.Row.{rowItems, unwound, bodiesOf, bytesOf, tipOf, Ready, Raised, RowWritten, Writes}
 use Rattle.chain.proofs.RowLaws.{raised-work}
 use Rattle.chain.proofs.ReadLaws.{tree-stood}
 use Rattle.chain.proofs.RunLaws.{node-run, run-many}

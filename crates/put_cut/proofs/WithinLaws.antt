@@ -10,7 +10,7 @@ use Rattle.layout.specs.Kind.{Leaf, Prefix, Node4}
 use Rattle.model.specs.Edition.{Edition}
 use Rattle.model.specs.Tree.{Art, Change, chain, prefixes, asPrefix, extentOf, fork, newKey, putTree}
 use Rattle.model.specs.State.{State}
-use Rattle.model.specs.Item.{Item, body, cover, leafy, sum}
+use Rattle.model.specs.Item.{Item, body, cover, leafy}
 use Rattle.model.specs.Body.{PrefixAt}
 use Rattle.model.specs.Frame.{Lay, Tree, slotOf, IsNode, art, View, Heap, tree, Stands}
 use Rattle.model.specs.Frame.Lay.{prefix, node}
@@ -21,12 +21,12 @@ use Rattle.room.specs.Step.{Takes, Took}
 use Rattle.room.specs.Book.{RoomFor}
 use Rattle.room.proofs.BookLaws.{room-next}
 use Rattle.room.proofs.HeapLaws.{cover-body}
-use Rattle.between.specs.Hole.{Step, under, plug, pathOf}
-use Rattle.between.specs.Work.{Suits, Work}
-use Rattle.between.specs.Since.{Since, Bodies}
+use Rattle.between.specs.Hole.{under, plug, pathOf}
+use Rattle.between.specs.Work.{Work}
+use Rattle.between.specs.Since.{Since}
 use Rattle.between.specs.Edit.{Booked, leafView, leafIn}
 use Rattle.between.proofs.TreeLaws.{prefix-sum}
-use Rattle.between.proofs.HoleLaws.{plug-under, path-under, suits-any, suits-is}
+use Rattle.between.proofs.HoleLaws.{plug-under, path-under, suits-any}
 use Rattle.between.proofs.LeadLaws.{leaf-look}
 use Rattle.between.proofs.WorkLaws.{standsView, work-of, work-open, work-path, work-take, work-above, work-write, work-count, work-close, make-prefix, forest-first}
 use Rattle.between.proofs.SinceLaws.{since-take, since-write, since-count}
@@ -41,7 +41,7 @@ use Rattle.chain.specs.Row.{rowItems, bodiesOf, bytesOf, tipOf, unwound}
 use Rattle.chain.proofs.RowLaws.{through, row-bodies, leafy-not}
 use Rattle.chain.proofs.TakeLaws.{room-past}
 use Rattle.chain.proofs.ReadLaws.{tree-stood}
-use Rattle.chain.proofs.RunLaws.{run-art, run-chained}
+use Rattle.chain.proofs.RunLaws.{run-art}
 use Rattle.put_split.specs.Parts.{Forks, Forked}
 use Rattle.put_split.proofs.ForkLaws.{forkKids, fork-art, fork-look, fork-work, fork-since}
 use Rattle.put_split.proofs.EndLaws.{node4-kind, took-slot}
@@ -49,9 +49,9 @@ use Rattle.put_split.proofs.SplitLaws.{splitKinds, split-tally, nodeView, rowVi
 use Rattle.put_split.proofs.PartedLaws.{begins-here, byte-here}
 use Rattle.put_cut.specs.Cut.{AtPart, SomeBefore}
 use Rattle.put_cut.specs.After.{lacking, Splitting, Split, SplitOff, Splits}
-use Rattle.put_cut.proofs.RunLists.{unwound-long, tip-not-leaf, sum-row, since-rows}
+use Rattle.put_cut.proofs.RunLists.{tip-not-leaf, sum-row, since-rows}
 use Rattle.put_cut.proofs.ModelLaws.{made-within, here-left}
-use Rattle.put_cut.proofs.SpotLaws.{takes-of, took-of, run-leaves, fork-leaves, xs, text, below, old, own, w0, root-at, opened, parts, old-run, old-many, cut, left, all-cut, spelt, shares, old-put, past-is, upto-is, before-is, few-bodies, prefix-room, bytes-differ, forked-as, forks-of}
+use Rattle.put_cut.proofs.SpotLaws.{takes-of, took-of, run-leaves, fork-leaves, xs, text, below, old, own, w0, root-at, opened, parts, old-run, old-many, cut, left, all-cut, spelt, shares, old-put, past-is, upto-is, before-is, few-bodies, prefix-room, bytes-differ, forks-of}
 use Rattle.put_cut.proofs.CutLaws.{within-accounts, within-stays, within-last}
 
 module _ {E : Edition} {f k word v : List ℕ} {p : Spot} (N : SomeBefore E f k word v p) where

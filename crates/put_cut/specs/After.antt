@@ -13,7 +13,7 @@ use Rattle.room.specs.Book.{takenAll, RoomFor}
 use Rattle.between.specs.Hole.{Step, under, pathOf}
 use Rattle.between.specs.Work.{Work}
 use Rattle.between.specs.Since.{Changed, Since}
-use Rattle.chain.specs.Row.{rowItems, Named, unwound, bodiesOf, bytesOf, tipOf, runLong, runMany, Opened}
+use Rattle.chain.specs.Row.{rowItems, Named, unwound, bodiesOf, bytesOf, tipOf, runLong, runMany}
 
 -- ---- the bytes of a Prefix from q on and those below it
 

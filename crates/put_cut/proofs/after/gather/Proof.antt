@@ -1,5 +1,4 @@
 -- `gather` pastes the bytes of the Prefix, and reads the chain below it after them. Assumes nothing.
-use Prim.Native.Nat.{_+_, _-_}
 use native.Mathlib.Omega.{arith}
 use Rattle.put_cut.proofs.GatherLaws.{gather-reads, gather-done}
 use borrow.Author.Needs.{needs}
