@@ -128,6 +128,12 @@ fn two_long_keys(comparer: &mut Comparer) -> Compared<()> {
     let second = Figures { name: "and 200 more", number: 0, fields: &[(AT_U, 6), (AT_B, 864)] };
     put(comparer, &mut held, &long_key(b'2'), b"v", second)?;
 
+    // Two Prefixes, a Node4 and two Leaves: 128 + 256 + 24 + 32 + 416. The entries
+    // are 2 and 4 times 131,072, and 128, 256 and 384 divided by 8.
+    let packed = comparer.pack(&held, &[0xEE; 4_096])?.expect("a good frame packs");
+    let fields = &[(AT_U, 5), (AT_B, 856), (AT_R, 2), (64, 262_160), (68, 262_176), (72, 524_336)];
+    Figures { name: "packed", number: 0, fields }.hold(comparer, &packed, 0)?;
+
     let mut erased = held.clone();
     let number = comparer.erase(&mut erased, &long_key(b'1'))?;
     let fields = &[(AT_U, 6), (AT_B, 864), (AT_R, 1), (AT_X, 208)];

@@ -33,3 +33,4 @@ pub mod trees;
 pub mod unused;
 pub mod worked;
 pub mod wrong;
+pub mod wrong_editions;

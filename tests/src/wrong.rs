@@ -114,10 +114,10 @@ impl Calls for Altered {
 
 /// Makes the second store of an edition with one call exchanged.
 #[derive(Clone, Copy)]
-struct With(Edition);
+pub(crate) struct With(pub Edition);
 
 impl With {
-    fn format(
+    pub fn format(
         self,
         name: &str,
         format: impl Fn(&mut [u8], usize, usize) -> u32 + 'static,
@@ -125,19 +125,23 @@ impl With {
         Altered { format: Box::new(format), ..Altered::named(self.0, name) }
     }
 
-    fn check(self, name: &str, check: impl Fn(&[u8]) -> u32 + 'static) -> Altered {
+    pub fn check(self, name: &str, check: impl Fn(&[u8]) -> u32 + 'static) -> Altered {
         Altered { check: Box::new(check), ..Altered::named(self.0, name) }
     }
 
-    fn look_up(self, name: &str, look_up: impl Fn(&[u8], &[u8]) -> Found + 'static) -> Altered {
+    pub fn look_up(self, name: &str, look_up: impl Fn(&[u8], &[u8]) -> Found + 'static) -> Altered {
         Altered { look_up: Box::new(look_up), ..Altered::named(self.0, name) }
     }
 
-    fn put(self, name: &str, put: impl Fn(&mut [u8], &[u8], &[u8]) -> u32 + 'static) -> Altered {
+    pub fn put(
+        self,
+        name: &str,
+        put: impl Fn(&mut [u8], &[u8], &[u8]) -> u32 + 'static,
+    ) -> Altered {
         Altered { put: Box::new(put), ..Altered::named(self.0, name) }
     }
 
-    fn replace(
+    pub fn replace(
         self,
         name: &str,
         replace: impl Fn(&mut [u8], &[u8], &[u8]) -> u32 + 'static,
@@ -145,19 +149,23 @@ impl With {
         Altered { replace: Box::new(replace), ..Altered::named(self.0, name) }
     }
 
-    fn erase(self, name: &str, erase: impl Fn(&mut [u8], &[u8]) -> u32 + 'static) -> Altered {
+    pub fn erase(self, name: &str, erase: impl Fn(&mut [u8], &[u8]) -> u32 + 'static) -> Altered {
         Altered { erase: Box::new(erase), ..Altered::named(self.0, name) }
     }
 
-    fn pack(self, name: &str, pack: impl Fn(&[u8], &mut [u8]) -> u32 + 'static) -> Altered {
+    pub fn pack(self, name: &str, pack: impl Fn(&[u8], &mut [u8]) -> u32 + 'static) -> Altered {
         Altered { pack: Box::new(pack), ..Altered::named(self.0, name) }
     }
 
-    fn pack_before(self, name: &str, pack: impl Fn(&[u8], &mut [u8]) -> u32 + 'static) -> Altered {
+    pub fn pack_before(
+        self,
+        name: &str,
+        pack: impl Fn(&[u8], &mut [u8]) -> u32 + 'static,
+    ) -> Altered {
         Altered { pack_before: Box::new(pack), ..Altered::named(self.0, name) }
     }
 
-    fn info(
+    pub fn info(
         self,
         name: &str,
         info: impl Fn(&[u8]) -> (u32, [u64; INFO_NUMBERS]) + 'static,
@@ -165,7 +173,7 @@ impl With {
         Altered { info: Box::new(info), ..Altered::named(self.0, name) }
     }
 
-    fn list(
+    pub fn list(
         self,
         name: &str,
         list: impl Fn(&[u8], &Asked, &mut [u8]) -> Page + 'static,
@@ -173,7 +181,7 @@ impl With {
         Altered { list: Box::new(list), ..Altered::named(self.0, name) }
     }
 
-    fn batch(
+    pub fn batch(
         self,
         name: &str,
         batch: impl Fn(&mut [u8], &mut [u8], &[u8], &mut [u8]) -> (u32, u64) + 'static,
@@ -414,7 +422,7 @@ pub fn look_ups(edition: Edition) -> Vec<Altered> {
 }
 
 /// The last slot on a key's way, of a frame that is good.
-fn end_of_way(edition: Edition, frame: &[u8], key: &[u8]) -> Option<Step> {
+pub(crate) fn end_of_way(edition: Edition, frame: &[u8], key: &[u8]) -> Option<Step> {
     let legal = check::check(edition, frame) == DONE && edition.key_refusal(key).is_none();
     legal.then(|| *store::walk(frame, &edition.walked(key)).last().expect("at least the root"))
 }
@@ -1343,7 +1351,7 @@ fn pack_keeping_node16(frame: &[u8], slot: usize, out: &mut [u8]) -> usize {
 }
 
 /// A listing of entries that are given in their order: whole ones as they fit.
-fn laid(entries: &[Vec<u8>], buffer: &mut [u8]) -> Page {
+pub(crate) fn laid(entries: &[Vec<u8>], buffer: &mut [u8]) -> Page {
     let mut written = 0;
     for (count, entry) in entries.iter().enumerate() {
         let end = written + LENGTH_BYTES + entry.len();
@@ -1359,14 +1367,14 @@ fn laid(entries: &[Vec<u8>], buffer: &mut [u8]) -> Page {
 }
 
 /// The keys that begin with the prefix, of a listing that is not refused.
-fn matching(edition: Edition, frame: &[u8], asked: &Asked) -> Option<Vec<Vec<u8>>> {
+pub(crate) fn matching(edition: Edition, frame: &[u8], asked: &Asked) -> Option<Vec<Vec<u8>>> {
     let legal = check::check(edition, frame) == DONE && asked.refusal(edition).is_none();
     let keys = || store::records(frame).into_keys();
     legal.then(|| keys().filter(|key| key.starts_with(asked.prefix)).collect())
 }
 
 /// What is written and what is left, by the second store.
-fn entries(edition: Edition, frame: &[u8], asked: &Asked) -> Option<Vec<Vec<u8>>> {
+pub(crate) fn entries(edition: Edition, frame: &[u8], asked: &Asked) -> Option<Vec<Vec<u8>>> {
     let after = |entry: &Vec<u8>| asked.start.is_none_or(|start| entry[..] > *start);
     let cut = |key: &Vec<u8>| asked.entry(key).to_vec();
     let mut all: Vec<Vec<u8>> =

@@ -6,6 +6,7 @@ use second_store::layout::Edition;
 use second_store::orders;
 use second_store::run::{all_stages, Effort};
 use second_store::wrong::{self, Altered};
+use second_store::wrong_editions;
 
 const FIXED: Effort = Effort { seed: 1, rounds: 1 };
 
@@ -92,6 +93,26 @@ fn wrong_batches_are_caught() {
 #[test]
 fn wrong_infos_are_caught() {
     all_caught(wrong::infos, 9);
+}
+
+#[test]
+fn calls_by_the_other_edition_are_caught() {
+    all_caught(wrong_editions::by_the_other_edition, 12);
+}
+
+#[test]
+fn keys_of_edition_1_in_edition_2_are_caught() {
+    caught(wrong_editions::keys(), 11);
+}
+
+#[test]
+fn wrong_chains_are_caught() {
+    caught(wrong_editions::chains(), 14);
+}
+
+#[test]
+fn wrong_listings_of_edition_2_are_caught() {
+    caught(wrong_editions::lists(), 10);
 }
 
 /// Without any prediction, by two orders of the same calls.
