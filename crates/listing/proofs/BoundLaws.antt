@@ -1,6 +1,6 @@
 -- An entry sorts after the start key exactly if its key is at or above the start key's bound; every key that begins with the prefix is at or above the
--- prefix, and behind one at or above it that does not, none begins with it. In edition 1 in bytes of walked strings; in edition 2 of keys, whose order
--- is that of the walked strings. Assumes nothing.
+-- prefix, and behind one at or above it that does not, none begins with it. What the walked strings of keys tell of a bound in each edition. Assumes
+-- nothing.
 use Prim.Native.Nat.{ℕ, zero, suc, _+_, _<_}
 use native.Mathlib.Omega.{arith}
 use mathlib.Core.Path.{_≡_, refl, ap, sym, _∙_}
@@ -10,149 +10,35 @@ use mathlib.Core.Option.{Option, none, some}
 use lib.Dec.{ltb, leb, eqb}
 use borrow.Author.Tests.{lt-ltb, le-ltb, le-leb, eq-eqb, ne-eqb}
 use Rattle.model.specs.Strings.{pick, before, All, Byte}
-use Rattle.model.specs.Edition.{Edition, edition1, edition2, editionOf, Legal}
+use Rattle.model.specs.Edition.{edition1, edition2, editionOf}
 use Rattle.model.proofs.StringLaws.{bool-cases, eqb-cases, ltb-cases, leb-cases, clash}
 use Rattle.model.proofs.Edition1.{Positive, key-passes}
 use Rattle.listing.specs.Listing.{begins, upto, entryFor}
-use Rattle.listing.specs.Seek.{weigh, reach}
-use Rattle.listing.specs.Bound.{tailUp, tailFor, atBound}
+use Rattle.listing.specs.Seek.{weigh, reach, Guides}
+use Rattle.listing.specs.Bound.{tailUp, tailFor, boundOf}
+use Rattle.listing.proofs.SeekLaws.{weigh-append}
+
+-- ---- keys and bounds
 
 not-leb : (m n : ℕ) → n < m → leb m n ≡ false
 not-leb m n h = leb-cases m n (λ t o. absurd (omega arith)) (λ t o. t)
-
--- past all that begins with a text
-passed : (l : List ℕ) → All Byte l → weigh [] 256 (l ++ 0 ∷ []) ≡ 0
-passed [] b = refl
-passed (y ∷ l) b = rw (not-leb 256 y (b .0))
-
--- byte against byte: what stands behind decides only where they are equal
-step : (x y : ℕ) (s e g l : List ℕ) (t : ℕ) → (x ≡ y → before s e ≡ leb 1 (weigh g t l)) → before (x ∷ s) (y ∷ e) ≡ leb 1 (weigh (x ∷ g) t (y ∷ l))
-step x y s e g l t on = ltb-cases x y
-    (λ u o. rw u)
-    (λ u o. eqb-cases x y (λ v q. rw (u, v) (on q)) (λ v n. rw (u, v)))
-
-nothing : (x : ℕ) (g : List ℕ) (t : ℕ) → 0 < x → false ≡ leb 1 (weigh (x ∷ g) t (0 ∷ []))
-nothing x g t h = rw (le-ltb x 0 (omega arith), ne-eqb x 0 (λ q. omega arith))
 
 none-before : (s : List ℕ) → before s [] ≡ false
 none-before [] = refl
 none-before (z ∷ s) = refl
 
-upto-bound : (d : Option ℕ) (s l : List ℕ) → All Positive s → All Positive l → All Byte l → before s (upto d l) ≡ leb 1 (weigh (upto d s) (tailUp d s) (l ++ 0 ∷ []))
-upto-bound none [] [] a b c = refl
-upto-bound none [] (y ∷ l) a b c = rw (le-leb 1 y (b .0))
-upto-bound none (x ∷ s) [] a b c = nothing x s 1 (a .0)
-upto-bound none (x ∷ s) (y ∷ l) a b c = step x y s l s (l ++ 0 ∷ []) 1 (λ q. upto-bound none s l (a .1) (b .1) (c .1))
-upto-bound (some k) [] [] a b c = refl
-upto-bound (some k) [] (y ∷ l) a b c = rw (le-leb 1 y (b .0)) (bool-cases (eqb y k) (λ t. rw t) (λ t. rw t))
-upto-bound (some k) (x ∷ s) [] a b c = bool-cases (eqb x k)
-    (λ t. rw t (nothing x [] 256 (a .0)))
-    (λ t. rw t (nothing x (upto (some k) s) (tailUp (some k) s) (a .0)))
-upto-bound (some k) (x ∷ s) (y ∷ l) a b c =
-    let on = upto-bound (some k) s l (a .1) (b .1) (c .1) in
-    eqb-cases x k
-    (λ t u. rw t (eqb-cases y k
-    (λ v w. rw v (step x y s [] [] (l ++ 0 ∷ []) 256 (λ q. none-before s ∙ sym (rw (passed l (c .1))))))
-    (λ v w. rw v (step x y s (upto (some k) l) [] (l ++ 0 ∷ []) 256 (λ q. absurd (w (sym q ∙ u)))))))
-    (λ t u. rw t (eqb-cases y k
-    (λ v w. rw v (step x y s [] (upto (some k) s) (l ++ 0 ∷ []) (tailUp (some k) s) (λ q. absurd (u (q ∙ w)))))
-    (λ v w. rw v (step x y s (upto (some k) l) (upto (some k) s) (l ++ 0 ∷ []) (tailUp (some k) s) (λ q. on)))))
-
--- "an entry is listed only if it sorts after the start key": of keys that begin with the prefix, and a start key (or an entry) that does
-entry-bound : (d : Option ℕ) (p s l : List ℕ) → begins p s ≡ true → begins p l ≡ true → All Positive s → All Positive l → All Byte l
-    → before s (entryFor d p l) ≡ reach edition1 (entryFor d p s) (tailFor d p s) l
-entry-bound d [] s l f g a b c = upto-bound d s l a b c
-entry-bound d (z ∷ p) [] l f g a b c = clash (cc)
-entry-bound d (z ∷ p) (x ∷ s) [] f g a b c = clash (cc)
-entry-bound d (z ∷ p) (x ∷ s) (y ∷ l) f g a b c = eqb-cases z x
-    (λ t q. eqb-cases z y
-    (λ u r. step x y s (entryFor d p l) (entryFor d p s) (l ++ 0 ∷ []) (tailFor d p s) (λ _. entry-bound d p s l (rw t at f) (rw u at g) (a .1) (b .1) (c .1)))
-    (λ u n. clash (let w = rw u at g in cc)))
-    (λ t n. clash (let w = rw t at f in cc))
-
--- from the prefix on: every key that begins with it
-prefix-bound : (p l : List ℕ) → begins p l ≡ true → reach edition1 p 0 l ≡ true
-prefix-bound [] [] f = refl
-prefix-bound [] (y ∷ l) f = rw (le-leb 0 y (omega arith))
-prefix-bound (z ∷ p) [] f = clash (cc)
-prefix-bound (z ∷ p) (y ∷ l) f = eqb-cases z y
-    (λ t q. rw (le-ltb z y (omega arith), t) (prefix-bound p l (rw t at f)))
-    (λ t n. clash (let w = rw t at f in cc))
-
--- what is at or above the bound of a text that begins with the prefix is at or above the prefix
-reach-prefix : (p g : List ℕ) (t : ℕ) (w : List ℕ) → begins p g ≡ true → leb 1 (weigh g t w) ≡ true → leb 1 (weigh p 0 w) ≡ true
-reach-prefix [] g t [] b r = refl
-reach-prefix [] g t (x ∷ w) b r = rw (le-leb 0 x (omega arith))
-reach-prefix (z ∷ p) [] t w b r = clash (cc)
-reach-prefix (z ∷ p) (y ∷ g) t [] b r = refl
-reach-prefix (z ∷ p) (y ∷ g) t (x ∷ w) b r = eqb-cases z y
-    (λ e q. ltb-cases y x
-    (λ u o. rw (lt-ltb z x (omega arith)))
-    (λ u o. eqb-cases y x
-    (λ v s. rw (le-ltb z x (omega arith), eq-eqb z x (omega arith)) (reach-prefix p g t w (rw e at b) (rw (u, v) at r)))
-    (λ v s. clash (let k = rw (u, v) at r in cc))))
-    (λ e q. clash (let k = rw e at b in cc))
-
-past-key : (p k l : List ℕ) → leb 1 (weigh p 0 (k ++ 0 ∷ [])) ≡ true → begins p k ≡ false → before k l ≡ true → All Positive l → begins p l ≡ false
-past-key [] k l r b o a = clash (cc)
-past-key (z ∷ p) [] [] r b o a = clash (cc)
-past-key (z ∷ p) [] (y ∷ l) r b o a = eqb-cases z 0
-    (λ t q. let h = a .0 in rw (ne-eqb z y (λ s. omega arith)))
-    (λ t q. clash (let e = rw (le-ltb z 0 (omega arith), t) at r in cc))
-past-key (z ∷ p) (x ∷ k) [] r b o a = clash (cc)
-past-key (z ∷ p) (x ∷ k) (y ∷ l) r b o a = ltb-cases z x
-    (λ t n. ltb-cases x y
-    (λ u m. rw (ne-eqb z y (λ s. omega arith)))
-    (λ u m. eqb-cases x y
-    (λ v q. rw (ne-eqb z y (λ s. omega arith)))
-    (λ v q. clash (let e = rw (u, v) at o in cc))))
-    (λ t n. eqb-cases z x
-    (λ w q. ltb-cases x y
-    (λ u m. rw (ne-eqb z y (λ s. omega arith)))
-    (λ u m. eqb-cases x y
-    (λ v s. rw (eq-eqb z y (omega arith)) (past-key p k l (rw (t, w) at r) (rw w at b) (rw (u, v) at o) (a .1)))
-    (λ v s. clash (let e = rw (u, v) at o in cc))))
-    (λ w q. clash (let e = rw (t, w) at r in cc)))
-
--- ---- edition 2, in bytes of keys
-
--- a key is at or above the bound of a text
-abbrev passes : List ℕ → ℕ → List ℕ → Bool
-passes [] t [] = leb t 0
-passes [] t (y ∷ k) = pick (eqb t 1) true (leb t y)
-passes (x ∷ g) t [] = false
-passes (x ∷ g) t (y ∷ k) = pick (ltb x y) true (pick (eqb x y) (passes g t k) false)
-
--- which its walked string tells
-two-or-none : (b : Bool) → leb 1 (pick b 2 0) ≡ b
-two-or-none true = refl
-two-or-none false = refl
-
-spelt-bound : (g : List ℕ) (t : ℕ) (k : List ℕ) → atBound edition2 g t k ≡ passes g t k
-spelt-bound [] t [] = eqb-cases t 1 (λ e q. rw e (two-or-none (leb t 0))) (λ e n. rw e (two-or-none (leb t 0)))
-spelt-bound [] t (zero ∷ k) = eqb-cases t 1 (λ e q. rw (e, le-leb t 255 (omega arith))) (λ e n. rw e (two-or-none (leb t 0)))
-spelt-bound [] t (suc y ∷ k) = eqb-cases t 1 (λ e q. rw (e, lt-ltb 0 (suc y) (omega arith))) (λ e n. rw e (two-or-none (leb t (suc y))))
-spelt-bound (zero ∷ g) t [] = refl
-spelt-bound (suc x ∷ g) t [] = rw (le-ltb (suc x) 0 (omega arith), ne-eqb (suc x) 0 (λ q. omega arith))
-spelt-bound (zero ∷ g) t (zero ∷ k) = spelt-bound g t k
-spelt-bound (zero ∷ g) t (suc y ∷ k) = rw (lt-ltb 0 (suc y) (omega arith))
-spelt-bound (suc x ∷ g) t (zero ∷ k) = rw (le-ltb (suc x) 0 (omega arith), ne-eqb (suc x) 0 (λ q. omega arith))
-spelt-bound (suc x ∷ g) t (suc y ∷ k) = let on = spelt-bound g t k in bool-cases (ltb (suc x) (suc y))
-    (λ e. rw e)
-    (λ e. bool-cases (eqb (suc x) (suc y)) (λ f. rw (e, f) on) (λ f. rw (e, f)))
-
--- byte against byte
-key-step : (x y : ℕ) (s e g l : List ℕ) (t : ℕ) → (x ≡ y → before s e ≡ passes g t l) → before (x ∷ s) (y ∷ e) ≡ passes (x ∷ g) t (y ∷ l)
+-- byte against byte: what stands behind decides only where they are equal
+key-step : (x y : ℕ) (s e g l : List ℕ) (t : ℕ) → (x ≡ y → before s e ≡ reach g t l) → before (x ∷ s) (y ∷ e) ≡ reach (x ∷ g) t (y ∷ l)
 key-step x y s e g l t on = ltb-cases x y
     (λ u o. rw u)
     (λ u o. eqb-cases x y (λ v q. rw (u, v) (on q)) (λ v n. rw (u, v)))
 
 -- past all that begins with a text
-key-passed : (l : List ℕ) → All Byte l → passes [] 256 l ≡ false
+key-passed : (l : List ℕ) → All Byte l → reach [] 256 l ≡ false
 key-passed [] b = refl
 key-passed (y ∷ l) b = not-leb 256 y (b .0)
 
-upto-key : (d : Option ℕ) (s l : List ℕ) → All Byte l → before s (upto d l) ≡ passes (upto d s) (tailUp d s) l
+upto-key : (d : Option ℕ) (s l : List ℕ) → All Byte l → before s (upto d l) ≡ reach (upto d s) (tailUp d s) l
 upto-key none [] [] c = refl
 upto-key none [] (y ∷ l) c = refl
 upto-key none (x ∷ s) [] c = refl
@@ -170,7 +56,8 @@ upto-key (some k) (x ∷ s) (y ∷ l) c =
     (λ v w. rw v (key-step x y s [] (upto (some k) s) l (tailUp (some k) s) (λ q. absurd (u (q ∙ w)))))
     (λ v w. rw v (key-step x y s (upto (some k) l) (upto (some k) s) l (tailUp (some k) s) (λ q. on)))))
 
-entry-key : (d : Option ℕ) (p s l : List ℕ) → begins p s ≡ true → begins p l ≡ true → All Byte l → before s (entryFor d p l) ≡ passes (entryFor d p s) (tailFor d p s) l
+-- "an entry is listed only if it sorts after the start key": of keys that begin with the prefix, and a start key (or an entry) that does
+pub entry-key : (d : Option ℕ) (p s l : List ℕ) → begins p s ≡ true → begins p l ≡ true → All Byte l → before s (entryFor d p l) ≡ reach (entryFor d p s) (tailFor d p s) l
 entry-key d [] s l f g c = upto-key d s l c
 entry-key d (z ∷ p) [] l f g c = clash (cc)
 entry-key d (z ∷ p) (x ∷ s) [] f g c = clash (cc)
@@ -180,7 +67,8 @@ entry-key d (z ∷ p) (x ∷ s) (y ∷ l) f g c = eqb-cases z x
     (λ u n. clash (let w = rw u at g in cc)))
     (λ t n. clash (let w = rw t at f in cc))
 
-prefix-key : (p l : List ℕ) → begins p l ≡ true → passes p 0 l ≡ true
+-- from the prefix on: every key that begins with it
+pub prefix-key : (p l : List ℕ) → begins p l ≡ true → reach p 0 l ≡ true
 prefix-key [] [] f = refl
 prefix-key [] (y ∷ l) f = le-leb 0 y (omega arith)
 prefix-key (z ∷ p) [] f = clash (cc)
@@ -189,7 +77,7 @@ prefix-key (z ∷ p) (y ∷ l) f = eqb-cases z y
     (λ t n. clash (let w = rw t at f in cc))
 
 -- what is at or above the bound of a text that begins with the prefix, and does not begin with it itself, stands behind all that do
-past-text : (p g : List ℕ) (t : ℕ) (k l : List ℕ) → begins p g ≡ true → passes g t k ≡ true → begins p k ≡ false → before k l ≡ true → begins p l ≡ false
+pub past-text : (p g : List ℕ) (t : ℕ) (k l : List ℕ) → begins p g ≡ true → reach g t k ≡ true → begins p k ≡ false → before k l ≡ true → begins p l ≡ false
 past-text [] g t k l b r n o = clash (cc)
 past-text (z ∷ p) [] t k l b r n o = clash (cc)
 past-text (z ∷ p) (x ∷ g) t [] l b r n o = clash (cc)
@@ -210,31 +98,75 @@ past-text (z ∷ p) (x ∷ g) t (y ∷ k) (w ∷ l) b r n o = eqb-cases z x
     (λ v s. clash (let c = rw (u, v) at r in cc))))
     (λ e q. clash (let c = rw e at b in cc))
 
--- ---- of every edition
+-- ---- walked strings and bounds
 
--- what a listing by seeks asks of bounds
-pub record Bounds (E : Edition) : Type 0 where
-  pub entry : (d : Option ℕ) (p s l : List ℕ) → begins p s ≡ true → begins p l ≡ true → Legal E s → Legal E l → before s (entryFor d p l) ≡ atBound E (entryFor d p s) (tailFor d p s) l
-  pub prefix : (p l : List ℕ) → begins p l ≡ true → atBound E p 0 l ≡ true
-  pub past : (p g : List ℕ) (t : ℕ) (k l : List ℕ) → begins p g ≡ true → atBound E g t k ≡ true → begins p k ≡ false → before k l ≡ true → Legal E l → begins p l ≡ false
+two-or-none : (b : Bool) → leb 1 (pick b 2 0) ≡ b
+two-or-none true = refl
+two-or-none false = refl
 
-bounds1 : Bounds edition1
-bounds1 = record {
-  entry = λ d p s l f g a b. entry-bound d p s l f g (key-passes s (a .passes) .chars) (key-passes l (b .passes) .chars) (b .bytes);
-  prefix = prefix-bound;
-  past = λ p g t k l b r n o h. past-key p k l (reach-prefix p g t (k ++ 0 ∷ []) b r) n o (key-passes l (h .passes) .chars);
+none-least : (t : ℕ) → leb t 0 ≡ eqb t 0
+none-least t = eqb-cases t 0 (λ e q. le-leb t 0 (omega arith) ∙ sym e) (λ e n. not-leb t 0 (omega arith) ∙ sym e)
+
+-- in edition 2 the walked string of a key tells where it stands
+spelt-bound : (g : List ℕ) (t : ℕ) (k : List ℕ) → leb 1 (weigh (boundOf edition2 g t) t (edition2 .walked k)) ≡ reach g t k
+spelt-bound [] t [] = eqb-cases t 1 (λ e q. rw e (two-or-none (leb t 0) ∙ none-least t)) (λ e n. rw e (two-or-none (leb t 0) ∙ none-least t))
+spelt-bound [] t (zero ∷ k) = eqb-cases t 1 (λ e q. rw (e, le-leb t 255 (omega arith))) (λ e n. rw e (two-or-none (leb t 0)))
+spelt-bound [] t (suc y ∷ k) = eqb-cases t 1 (λ e q. rw (e, lt-ltb 0 (suc y) (omega arith))) (λ e n. rw e (two-or-none (leb t (suc y))))
+spelt-bound (zero ∷ g) t [] = refl
+spelt-bound (suc x ∷ g) t [] = rw (le-ltb (suc x) 0 (omega arith), ne-eqb (suc x) 0 (λ q. omega arith))
+spelt-bound (zero ∷ g) t (zero ∷ k) = spelt-bound g t k
+spelt-bound (zero ∷ g) t (suc y ∷ k) = rw (lt-ltb 0 (suc y) (omega arith))
+spelt-bound (suc x ∷ g) t (zero ∷ k) = rw (le-ltb (suc x) 0 (omega arith), ne-eqb (suc x) 0 (λ q. omega arith))
+spelt-bound (suc x ∷ g) t (suc y ∷ k) = let on = spelt-bound g t k in bool-cases (ltb (suc x) (suc y))
+    (λ e. rw e)
+    (λ e. bool-cases (eqb (suc x) (suc y)) (λ f. rw (e, f) on) (λ f. rw (e, f)))
+
+-- in edition 1, if it decides: a text that holds a byte 0 may end with it in the end of a key
+plain-above : (g : List ℕ) (t : ℕ) (k : List ℕ) → All Positive k → weigh g t (k ++ 0 ∷ []) ≡ 2 → reach g t k ≡ true
+plain-above [] t [] a w = bool-cases (leb t 0) (λ e. sym (none-least t) ∙ e) (λ e. let z : _≡_ {A = ℕ} 0 2 = rw e at w in absurd (omega arith))
+plain-above [] t (y ∷ k) a w = bool-cases (leb t y)
+    (λ e. bool-cases (eqb t 1) (λ u. rw u) (λ u. rw u e))
+    (λ e. let z : _≡_ {A = ℕ} 0 2 = rw e at w in absurd (omega arith))
+plain-above (x ∷ g) t [] a w = let n = le-ltb x 0 (omega arith) in bool-cases (eqb x 0)
+    (λ e. let z : _≡_ {A = ℕ} 1 2 = rw (n, e) at w in absurd (omega arith))
+    (λ e. let z : _≡_ {A = ℕ} 0 2 = rw (n, e) at w in absurd (omega arith))
+plain-above (x ∷ g) t (y ∷ k) a w = bool-cases (ltb x y)
+    (λ e. rw e)
+    (λ e. bool-cases (eqb x y)
+    (λ u. rw (e, u) (plain-above g t k (a .1) (rw (e, u) at w)))
+    (λ u. let z : _≡_ {A = ℕ} 0 2 = rw (e, u) at w in absurd (omega arith)))
+
+plain-below : (g : List ℕ) (t : ℕ) (k : List ℕ) → All Positive k → weigh g t (k ++ 0 ∷ []) ≡ 0 → reach g t k ≡ false
+plain-below [] t [] a w = bool-cases (leb t 0) (λ e. let z : _≡_ {A = ℕ} 2 0 = rw e at w in absurd (omega arith)) (λ e. sym (none-least t) ∙ e)
+plain-below [] t (y ∷ k) a w = leb-cases t y
+    (λ e o. let z : _≡_ {A = ℕ} 2 0 = rw e at w in absurd (omega arith))
+    (λ e o. let h = a .0 in rw (ne-eqb t 1 (λ q. omega arith)) e)
+plain-below (x ∷ g) t [] a w = refl
+plain-below (x ∷ g) t (y ∷ k) a w = bool-cases (ltb x y)
+    (λ e. let z : _≡_ {A = ℕ} 2 0 = rw e at w in absurd (omega arith))
+    (λ e. bool-cases (eqb x y)
+    (λ u. rw (e, u) (plain-below g t k (a .1) (rw (e, u) at w)))
+    (λ u. rw (e, u)))
+
+-- a path that has decided decides for what goes on from it
+decided : (w : List ℕ) (t : ℕ) (path r x : List ℕ) (n : ℕ) → (n ≡ 1 → ⊥) → x ≡ path ++ r → weigh w t path ≡ n → weigh w t x ≡ n
+decided w t path r x n o e u = rw (e, weigh-append w t path r, u, ne-eqb n 1 o)
+
+guides1 : (g : List ℕ) (t : ℕ) → Guides edition1 g t g
+guides1 g t = record {
+  above = λ path k f u. plain-above g t k (key-passes k (f .2) .chars) (decided g t path (f .0) (k ++ 0 ∷ []) 2 (λ z. omega arith) (f .1) u);
+  below = λ path k f u. plain-below g t k (key-passes k (f .2) .chars) (decided g t path (f .0) (k ++ 0 ∷ []) 0 (λ z. omega arith) (f .1) u);
 }
 
-bounds2 : Bounds edition2
-bounds2 = record {
-  entry = λ d p s l f g a b. entry-key d p s l f g (b .bytes) ∙ sym (spelt-bound (entryFor d p s) (tailFor d p s) l);
-  prefix = λ p l f. spelt-bound p 0 l ∙ prefix-key p l f;
-  past = λ p g t k l b r n o h. past-text p g t k l b (sym (spelt-bound g t k) ∙ r) n o;
+guides2 : (g : List ℕ) (t : ℕ) → Guides edition2 g t (boundOf edition2 g t)
+guides2 g t = record {
+  above = λ path k f u. sym (spelt-bound g t k) ∙ ap (leb 1) (decided (boundOf edition2 g t) t path (f .0) (edition2 .walked k) 2 (λ z. omega arith) (f .1) u);
+  below = λ path k f u. sym (spelt-bound g t k) ∙ ap (leb 1) (decided (boundOf edition2 g t) t path (f .0) (edition2 .walked k) 0 (λ z. omega arith) (f .1) u);
 }
 
-pub boundsOf : (n : ℕ) → Bounds (editionOf n)
+pub guidesOf : (n : ℕ) (g : List ℕ) (t : ℕ) → Guides (editionOf n) g t (boundOf (editionOf n) g t)
 unfolding editionOf
-boundsOf n = bool-cases (eqb n 2) (λ t. rw t bounds2) (λ t. rw t bounds1)
+guidesOf n g t = bool-cases (eqb n 2) (λ e. rw e (guides2 g t)) (λ e. rw e (guides1 g t))
 
 -- ---- an entry again
 

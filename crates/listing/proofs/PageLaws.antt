@@ -17,62 +17,62 @@ use Rattle.model.specs.Records.{Record, AllKeys, Ahead, Ascending}
 use Rattle.model.specs.Image.{digits}
 use Rattle.model.proofs.StringLaws.{bool-cases, eqb-cases, ltb-cases, leb-cases, clash, same-true, before-trans}
 use Rattle.listing.specs.Listing.{begins, entryFor, addName, names, afterStart, fitting, laid, Listed, refusedAs, page, Gave}
-use Rattle.listing.specs.Seek.{Leafy, weigh, firstFrom}
-use Rattle.listing.specs.Bound.{tailFor, boundOf, atBound, above, KeysAlike}
+use Rattle.listing.specs.Seek.{Leafy, weigh, reach, firstFrom}
+use Rattle.listing.specs.Bound.{tailFor, above, KeysAlike}
 use Rattle.listing.proofs.ListingLaws.{NotAfter, First, names-first, names-rising, page-next}
-use Rattle.listing.proofs.BoundLaws.{Bounds}
+use Rattle.listing.proofs.BoundLaws.{entry-key, prefix-key, past-text}
 
 -- ---- the keys at or above a bound
 
 -- the seek gives the first of them
-pub first-none : (E : Edition) (g : List ℕ) (t : ℕ) (rs : List Record) (xs : List Leafy) → KeysAlike rs xs → firstFrom E (boundOf E g t) t xs ≡ none → above E g t rs ≡ []
-first-none E g t [] xs A e = refl
-first-none E g t (r ∷ rs) [] A e = absurd A
-first-none E g t (r ∷ rs) (x ∷ xs) A e = bool-cases (atBound E g t (x .key))
+pub first-none : (g : List ℕ) (t : ℕ) (rs : List Record) (xs : List Leafy) → KeysAlike rs xs → firstFrom g t xs ≡ none → above g t rs ≡ []
+first-none g t [] xs A e = refl
+first-none g t (r ∷ rs) [] A e = absurd A
+first-none g t (r ∷ rs) (x ∷ xs) A e = bool-cases (reach g t (x .key))
     (λ u. clash (let z = rw u at e in cc))
-    (λ u. rw (A .0, u) (first-none E g t rs xs (A .1) (rw u at e)))
+    (λ u. rw (A .0, u) (first-none g t rs xs (A .1) (rw u at e)))
 
-pub record Begun (E : Edition) (g : List ℕ) (t : ℕ) (rs : List Record) (k : List ℕ) : Type 0 where
+pub record Begun (g : List ℕ) (t : ℕ) (rs : List Record) (k : List ℕ) : Type 0 where
   pub head : Record
   pub rest : List Record
-  pub is : above E g t rs ≡ head ∷ rest
+  pub is : above g t rs ≡ head ∷ rest
   pub keyIs : head .key ≡ k
-  pub reached : atBound E g t k ≡ true
+  pub reached : reach g t k ≡ true
 
-pub first-some : (E : Edition) (g : List ℕ) (t : ℕ) (rs : List Record) (xs : List Leafy) (l : Leafy) → KeysAlike rs xs → firstFrom E (boundOf E g t) t xs ≡ some l → Begun E g t rs (l .key)
-first-some E g t [] [] l A e = clash (cc)
-first-some E g t [] (x ∷ xs) l A e = absurd A
-first-some E g t (r ∷ rs) [] l A e = absurd A
-first-some E g t (r ∷ rs) (x ∷ xs) l A e = bool-cases (atBound E g t (x .key))
+pub first-some : (g : List ℕ) (t : ℕ) (rs : List Record) (xs : List Leafy) (l : Leafy) → KeysAlike rs xs → firstFrom g t xs ≡ some l → Begun g t rs (l .key)
+first-some g t [] [] l A e = clash (cc)
+first-some g t [] (x ∷ xs) l A e = absurd A
+first-some g t (r ∷ rs) [] l A e = absurd A
+first-some g t (r ∷ rs) (x ∷ xs) l A e = bool-cases (reach g t (x .key))
     (λ u. let q : some x ≡ some l = rw u at e in let w : x ≡ l = cc in
-    let v : atBound E g t (r .key) ≡ true = rw (A .0) u in
-    record { head = r; rest = above E g t rs; is = rw v; keyIs = A .0 ∙ ap (λ (y : Leafy). y .key) w; reached = rw (← w) u })
-    (λ u. let v : atBound E g t (r .key) ≡ false = rw (A .0) u in
-    let on = first-some E g t rs xs l (A .1) (rw u at e) in
+    let v : reach g t (r .key) ≡ true = rw (A .0) u in
+    record { head = r; rest = above g t rs; is = rw v; keyIs = A .0 ∙ ap (λ (y : Leafy). y .key) w; reached = rw (← w) u })
+    (λ u. let v : reach g t (r .key) ≡ false = rw (A .0) u in
+    let on = first-some g t rs xs l (A .1) (rw u at e) in
     record { head = on .head; rest = on .rest; is = rw v (on .is); keyIs = on .keyIs; reached = on .reached })
 
-above-keys : (E : Edition) (g : List ℕ) (t : ℕ) (P : List ℕ → Type 0) (rs : List Record) → AllKeys P rs → AllKeys P (above E g t rs)
-above-keys E g t P [] h = tt
-above-keys E g t P (r ∷ rs) h = bool-cases (atBound E g t (r .key)) (λ u. rw u (h .0, above-keys E g t P rs (h .1))) (λ u. rw u (above-keys E g t P rs (h .1)))
+above-keys : (g : List ℕ) (t : ℕ) (P : List ℕ → Type 0) (rs : List Record) → AllKeys P rs → AllKeys P (above g t rs)
+above-keys g t P [] h = tt
+above-keys g t P (r ∷ rs) h = bool-cases (reach g t (r .key)) (λ u. rw u (h .0, above-keys g t P rs (h .1))) (λ u. rw u (above-keys g t P rs (h .1)))
 
-above-ascending : (E : Edition) (g : List ℕ) (t : ℕ) (rs : List Record) → Ascending rs → Ascending (above E g t rs)
-above-ascending E g t [] h = tt
-above-ascending E g t (r ∷ rs) h = bool-cases (atBound E g t (r .key))
-    (λ u. rw u (above-keys E g t (Ahead (r .key)) rs (h .0), above-ascending E g t rs (h .1)))
-    (λ u. rw u (above-ascending E g t rs (h .1)))
+above-ascending : (g : List ℕ) (t : ℕ) (rs : List Record) → Ascending rs → Ascending (above g t rs)
+above-ascending g t [] h = tt
+above-ascending g t (r ∷ rs) h = bool-cases (reach g t (r .key))
+    (λ u. rw u (above-keys g t (Ahead (r .key)) rs (h .0), above-ascending g t rs (h .1)))
+    (λ u. rw u (above-ascending g t rs (h .1)))
 
 -- ---- the names of the keys at or above a bound
 
 -- a bound that no matching key is below shuts none out
-pub above-all : (E : Edition) (d : Option ℕ) (p g : List ℕ) (t : ℕ) (rs : List Record) → ((k : List ℕ) → begins p k ≡ true → atBound E g t k ≡ true) → names d p (above E g t rs) ≡ names d p rs
-above-all E d p g t [] h = refl
-above-all E d p g t (r ∷ rs) h = let on = above-all E d p g t rs h in bool-cases (begins p (r .key))
+pub above-all : (d : Option ℕ) (p g : List ℕ) (t : ℕ) (rs : List Record) → ((k : List ℕ) → begins p k ≡ true → reach g t k ≡ true) → names d p (above g t rs) ≡ names d p rs
+above-all d p g t [] h = refl
+above-all d p g t (r ∷ rs) h = let on = above-all d p g t rs h in bool-cases (begins p (r .key))
     (λ u. rw (h (r .key) u, u) (ap (λ (x : List (List ℕ)). addName (entryFor d p (r .key)) x) on))
-    (λ u. bool-cases (atBound E g t (r .key)) (λ v. rw (v, u) on) (λ v. rw (v, u) on))
+    (λ u. bool-cases (reach g t (r .key)) (λ v. rw (v, u) on) (λ v. rw (v, u) on))
 
 -- from the prefix on
-pub above-prefix : {E : Edition} → Bounds E → (d : Option ℕ) (p : List ℕ) (rs : List Record) → names d p (above E p 0 rs) ≡ names d p rs
-above-prefix {E} L d p rs = above-all E d p p 0 rs (λ k b. L .prefix p k b)
+pub above-prefix : (d : Option ℕ) (p : List ℕ) (rs : List Record) → names d p (above p 0 rs) ≡ names d p rs
+above-prefix d p rs = above-all d p p 0 rs (λ k b. prefix-key p k b)
 
 -- one entry more, before or after the start key
 start-add : (s e : List ℕ) (es : List (List ℕ)) → First e es → afterStart (some s) (addName e es) ≡ pick (before s e) (addName e (afterStart (some s) es)) (afterStart (some s) es)
@@ -90,23 +90,23 @@ start-add s e (x ∷ es) h = bool-cases (same e x)
     follows (inr b) u = before-trans s e x u b
 
 -- from a start key, or an entry, that begins with the prefix: what its bound lets through are the entries after it
-pub above-start : {E : Edition} → Bounds E → (d : Option ℕ) (p s : List ℕ) (rs : List Record) → begins p s ≡ true → Legal E s → Ascending rs → AllKeys (Legal E) rs
-    → names d p (above E (entryFor d p s) (tailFor d p s) rs) ≡ afterStart (some s) (names d p rs)
-above-start B d p s [] b a A L = refl
-above-start {E} B d p s (r ∷ rs) b a A L =
-    let on = above-start B d p s rs b a (A .1) (L .1) in
+pub above-start : (E : Edition) (d : Option ℕ) (p s : List ℕ) (rs : List Record) → begins p s ≡ true → Ascending rs → AllKeys (Legal E) rs
+    → names d p (above (entryFor d p s) (tailFor d p s) rs) ≡ afterStart (some s) (names d p rs)
+above-start E d p s [] b A L = refl
+above-start E d p s (r ∷ rs) b A L =
+    let on = above-start E d p s rs b (A .1) (L .1) in
     let k = r .key in
     let e = entryFor d p k in
     bool-cases (begins p k)
     (λ u.
-    let q = B .entry d p s k b u a (L .0) in
+    let q = entry-key d p s k b u (L .0 .bytes) in
     let F = names-first d p k rs u (A .0) in
     bool-cases (before s e)
-    (λ v. let w : atBound E (entryFor d p s) (tailFor d p s) k ≡ true = sym q ∙ v in
+    (λ v. let w : reach (entryFor d p s) (tailFor d p s) k ≡ true = sym q ∙ v in
     rw (w, u, start-add s e (names d p rs) F, v) (ap (λ (x : List (List ℕ)). addName e x) on))
-    (λ v. let w : atBound E (entryFor d p s) (tailFor d p s) k ≡ false = sym q ∙ v in
+    (λ v. let w : reach (entryFor d p s) (tailFor d p s) k ≡ false = sym q ∙ v in
     rw (w, u, start-add s e (names d p rs) F, v) on))
-    (λ u. bool-cases (atBound E (entryFor d p s) (tailFor d p s) k) (λ v. rw (v, u) on) (λ v. rw (v, u) on))
+    (λ u. bool-cases (reach (entryFor d p s) (tailFor d p s) k) (λ v. rw (v, u) on) (λ v. rw (v, u) on))
 
 -- ---- a start key that does not begin with the prefix
 
@@ -151,10 +151,10 @@ start-none d p s h (r ∷ rs) A = let on = start-none d p s h rs (A .1) in bool-
 
 -- ---- a key that does not begin with the prefix ends the listing
 
-none-match : {E : Edition} → Bounds E → (d : Option ℕ) (p g : List ℕ) (t : ℕ) (k : List ℕ) (rs : List Record) → begins p g ≡ true → atBound E g t k ≡ true → begins p k ≡ false → AllKeys (Ahead k) rs → AllKeys (Legal E) rs
+none-match : (d : Option ℕ) (p g : List ℕ) (t : ℕ) (k : List ℕ) (rs : List Record) → begins p g ≡ true → reach g t k ≡ true → begins p k ≡ false → AllKeys (Ahead k) rs
     → names d p rs ≡ []
-none-match B d p g t k [] b r n A L = refl
-none-match B d p g t k (x ∷ rs) b r n A L = rw (B .past p g t k (x .key) b r n (A .0 .fore) (L .0)) (none-match B d p g t k rs b r n (A .1) (L .1))
+none-match d p g t k [] b r n A = refl
+none-match d p g t k (x ∷ rs) b r n A = rw (past-text p g t k (x .key) b r n (A .0 .fore)) (none-match d p g t k rs b r n (A .1))
 
 -- ---- the next entry
 
@@ -165,23 +165,22 @@ add-head e (x ∷ es) = bool-cases (same e x)
     (λ t. (x ∷ es, rw t))
 
 -- the entries that are left are those of the keys at or above a bound
-module _ {E : Edition} (bounds : Bounds E) (d : Option ℕ) (p g : List ℕ) (t : ℕ) (rs : List Record) (s : Option (List ℕ)) (A : Ascending rs)
-    (left : names d p (above E g t rs) ≡ afterStart s (names d p rs)) where
+module _ (d : Option ℕ) (p g : List ℕ) (t : ℕ) (rs : List Record) (s : Option (List ℕ)) (A : Ascending rs)
+    (left : names d p (above g t rs) ≡ afterStart s (names d p rs)) where
   -- there is no such key
-  pub left-none : above E g t rs ≡ [] → afterStart s (names d p rs) ≡ []
+  pub left-none : above g t rs ≡ [] → afterStart s (names d p rs) ≡ []
   left-none e = sym left ∙ ap (λ (x : List Record). names d p x) e
 
   -- the first of them does not match
-  pub left-past : AllKeys (Legal E) rs → begins p g ≡ true → {k : List ℕ} → Begun E g t rs k → begins p k ≡ false → afterStart s (names d p rs) ≡ []
-  left-past L b {k} B n =
-      let O : Ascending (B .head ∷ B .rest) = rw (B .is) at (above-ascending E g t rs A) in
-      let P : AllKeys (Legal E) (B .head ∷ B .rest) = rw (B .is) at (above-keys E g t (Legal E) rs L) in
+  pub left-past : begins p g ≡ true → {k : List ℕ} → Begun g t rs k → begins p k ≡ false → afterStart s (names d p rs) ≡ []
+  left-past b {k} B n =
+      let O : Ascending (B .head ∷ B .rest) = rw (B .is) at (above-ascending g t rs A) in
       let h : AllKeys (Ahead k) (B .rest) = rw (B .keyIs) at (O .0) in
       let m : begins p (B .head .key) ≡ false = rw (B .keyIs) n in
-      sym left ∙ ap (λ (x : List Record). names d p x) (B .is) ∙ rw m (none-match bounds d p g t k (B .rest) b (B .reached) n h (P .1))
+      sym left ∙ ap (λ (x : List Record). names d p x) (B .is) ∙ rw m (none-match d p g t k (B .rest) b (B .reached) n h)
 
   -- it does: its entry, and what is left after that
-  pub left-some : {k : List ℕ} → Begun E g t rs k → begins p k ≡ true → afterStart s (names d p rs) ≡ entryFor d p k ∷ afterStart (some (entryFor d p k)) (names d p rs)
+  pub left-some : {k : List ℕ} → Begun g t rs k → begins p k ≡ true → afterStart s (names d p rs) ≡ entryFor d p k ∷ afterStart (some (entryFor d p k)) (names d p rs)
   left-some {k} B m =
       let e = entryFor d p k in
       let H = add-head e (names d p (B .rest)) in

@@ -15,12 +15,10 @@ use Rattle.model.proofs.Edition2.{key-passes2, lawfulOf}
 use Rattle.model.proofs.StandsGood.{bytes-text}
 use Rattle.keys.proofs.KeyLaws.{of-two, of-other}
 use Rattle.listing.specs.Listing.{entryFor}
-use Rattle.listing.proofs.BoundLaws.{Bounds, boundsOf}
 use Rattle.listing.proofs.PagesLaws.{entry-legal}
 
 pub record Naming (E : Edition) : Type 0 where
   pub lawful : Lawful E
-  pub bounds : Bounds E
   pub entries : (d : Option ℕ) (p k : List ℕ) → E .keyFault k ≡ 0 → E .keyFault (entryFor d p k) ≡ 0
   pub most : (k : List ℕ) → E .keyFault k ≡ 0 → length k ≤ 255
   -- a key is refused with 3 or 4
@@ -46,7 +44,6 @@ faults2 k m e x y = eqb-cases (length k) 0
 pub naming : (n : ℕ) → Naming (editionOf n)
 naming n = record {
   lawful = lawfulOf n;
-  bounds = boundsOf n;
   entries = entry-legal n;
   most = eqb-cases n 2 (λ t q. rw (of-two n q) (λ k e. key-passes2 k e .short)) (λ t q. rw (of-other n q) most1);
   faults = eqb-cases n 2 (λ t q. rw (of-two n q) faults2) (λ t q. rw (of-other n q) faults1);

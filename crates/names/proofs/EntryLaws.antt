@@ -21,7 +21,7 @@ use Rattle.model.proofs.StandsGood.{bytes-text, tree-well}
 use Rattle.model.proofs.UniqueLaws.{tree-unique}
 use Rattle.listing.specs.Listing.{begins, entryFor, names, afterStart}
 use Rattle.listing.specs.Seek.{Leafy, leaves, leavesAll, reach, firstFrom}
-use Rattle.listing.specs.Bound.{boundOf, above, KeysAlike}
+use Rattle.listing.specs.Bound.{above, KeysAlike}
 use Rattle.listing.proofs.PageLaws.{first-none, first-some, left-none, left-past, left-some}
 use Rattle.inside.specs.Inside.{Inside, InsideAll}
 use Rattle.seek.specs.declared.Sought.{Sought}
@@ -95,9 +95,9 @@ module _ (E : Edition) (f : List ℕ) (B : Bytes f) where
     trees-here path nil I T = tt
     trees-here path (kid b j l ks) I T = here-append E f (leaves l) (leavesAll ks) (tree-here (path ++ b ∷ []) l (I .0) (T .0)) (trees-here path ks (I .1) (T .1))
 
-here-first : (E : Edition) (f g : List ℕ) (t : ℕ) (xs : List Leafy) (x : Leafy) → AllHere E f xs → firstFrom E g t xs ≡ some x → LeafHere E f x
+here-first : (E : Edition) (f g : List ℕ) (t : ℕ) (xs : List Leafy) (x : Leafy) → AllHere E f xs → firstFrom g t xs ≡ some x → LeafHere E f x
 here-first E f g t [] x A e = clash (cc)
-here-first E f g t (y ∷ xs) x A e = bool-cases (reach E g t (y .key))
+here-first E f g t (y ∷ xs) x A e = bool-cases (reach g t (y .key))
     (λ u. let q : some y ≡ some x = rw u at e in let w : y ≡ x = cc in rw (← w) (A .0))
     (λ u. here-first E f g t xs x (A .1) (rw u at e))
 
@@ -107,28 +107,28 @@ here-first E f g t (y ∷ xs) x A e = bool-cases (reach E g t (y .key))
 pub of-sub : {E : Edition} {f : List ℕ} {root : ℕ} (S : Sub E f root 0) (P : Lay → Type 0) → P (S .lay) → (path : List ℕ) (l : Lay) → Tree E f path l → slotOf l ≡ root → P l
 of-sub {E} {f} {root} S P h path l T q = subst P (tree-unique E f (S .path) path (S .lay) l (S .tree) T (S .slotIs ∙ sym q)) h
 
-module _ {E : Edition} (N : Naming E) {f : List ℕ} (g : List ℕ) (t : ℕ) {root : ℕ} (S : Sub E f root 0) {s : Sought} (K : SoughtAt E f (boundOf E g t) t root s) where
+module _ {E : Edition} (N : Naming E) {f : List ℕ} (g : List ℕ) (t : ℕ) {root : ℕ} (S : Sub E f root 0) {s : Sought} (K : SoughtAt E f g t root s) where
   abbrev rs : List Record
   rs = records (art (S .lay))
 
-  facts : Ascending rs × AllKeys (Legal E) rs
-  facts = tree-records (N .lawful) f (S .path) (S .lay) (S .bytes) (S .tree)
+  facts : Ascending rs
+  facts = tree-records (N .lawful) f (S .path) (S .lay) (S .bytes) (S .tree) .0
 
   -- no key is at or above the bound
   pub entry-gone : (p : List ℕ) (d : Option ℕ) {r : Entry} → s .found ≡ false → r .there ≡ false → EntryFrom E f root p d g t r
   entry-gone p d {r} e n =
-      of-sub S (λ (l : Lay). begins p g ≡ true → (z : Option (List ℕ)) → names d p (above E g t (records (art l))) ≡ afterStart z (names d p (records (art l)))
+      of-sub S (λ (l : Lay). begins p g ≡ true → (z : Option (List ℕ)) → names d p (above g t (records (art l))) ≡ afterStart z (names d p (records (art l)))
       → Next E f p d (records (art l)) (afterStart z (names d p (records (art l)))) r)
       (λ b z left.
-      let none-left = first-none E g t rs (leaves (S .lay)) (alike (S .lay)) (K (S .path) (S .lay) (S .tree) (S .slotIs) .gone e) in
-      record { gone = λ _. left-none (N .bounds) d p g t rs z (facts .0) left none-left; there = λ y. clash (cc) })
+      let none-left = first-none g t rs (leaves (S .lay)) (alike (S .lay)) (K (S .path) (S .lay) (S .tree) (S .slotIs) .gone e) in
+      record { gone = λ _. left-none d p g t rs z facts left none-left; there = λ y. clash (cc) })
 
   module _ (e : s .found ≡ true) where
-    placed : Placed (firstFrom E (boundOf E g t) t (leaves (S .lay))) (s .place)
+    placed : Placed (firstFrom g t (leaves (S .lay))) (s .place)
     placed = K (S .path) (S .lay) (S .tree) (S .slotIs) .there e
 
     here : LeafHere E f (placed .leaf)
-    here = here-first E f (boundOf E g t) t (leaves (S .lay)) (placed .leaf) (tree-here E f (S .bytes) (S .path) (S .lay) (S .inside) (S .tree)) (placed .is)
+    here = here-first E f g t (leaves (S .lay)) (placed .leaf) (tree-here E f (S .bytes) (S .path) (S .lay) (S .inside) (S .tree)) (placed .is)
 
     leaf-at : LeafAt f (s .place) (here .extent) (placed .leaf .key) (here .value)
     leaf-at = rw (placed .place) at (here .at)
@@ -139,14 +139,14 @@ module _ {E : Edition} (N : Naming E) {f : List ℕ} (g : List ℕ) (t : ℕ) {r
     -- the first key that is
     pub entry-there : (p : List ℕ) (d : Option ℕ) {r : Entry} → ((x : ℕ) (k v : List ℕ) → LeafAt f (s .place) x k v → OfKey f p d k r) → EntryFrom E f root p d g t r
     entry-there p d {r} O =
-        of-sub S (λ (l : Lay). begins p g ≡ true → (z : Option (List ℕ)) → names d p (above E g t (records (art l))) ≡ afterStart z (names d p (records (art l)))
+        of-sub S (λ (l : Lay). begins p g ≡ true → (z : Option (List ℕ)) → names d p (above g t (records (art l))) ≡ afterStart z (names d p (records (art l)))
         → Next E f p d (records (art l)) (afterStart z (names d p (records (art l)))) r)
         (λ b z left.
         let k = placed .leaf .key in
         let Q = O (here .extent) k (here .value) leaf-at in
-        let B = first-some E g t rs (leaves (S .lay)) (placed .leaf) (alike (S .lay)) (placed .is) in
+        let B = first-some g t rs (leaves (S .lay)) (placed .leaf) (alike (S .lay)) (placed .is) in
         record {
-          gone = λ y. left-past (N .bounds) d p g t rs z (facts .0) left (facts .1) b B (Q .gone y);
+          gone = λ y. left-past d p g t rs z facts left b B (Q .gone y);
           there = λ y.
               let C = Q .there y in
               let w = entry-twice d p k (C .matches) in
@@ -158,6 +158,6 @@ module _ {E : Edition} (N : Naming E) {f : List ℕ} (g : List ℕ) (t : ℕ) {r
                 matches = w .0;
                 own = w .1;
                 tail = C .tail ∙ sym (w .2);
-                first = left-some (N .bounds) d p g t rs z (facts .0) left B (C .matches);
+                first = left-some d p g t rs z facts left B (C .matches);
               };
         })

@@ -10,13 +10,11 @@ use lib.Seq.{take-all}
 use lib.Dec.{eqb, lit≤}
 use Rattle.answers.specs.declared.List.the-variants as list
 use Rattle.answers.specs.declared.Refusal.the-variants as refusal
-use Rattle.layout.specs.Number.{Bytes}
-use Rattle.model.specs.Edition.{Edition, Legal}
+use Rattle.model.specs.Edition.{Edition}
 use Rattle.model.specs.Records.{Record, records, Ascending}
 use Rattle.model.specs.Image.{digits}
 use Rattle.model.specs.Frame.{Lay, art}
 use Rattle.model.proofs.StringLaws.{bool-cases, clash}
-use Rattle.model.proofs.StandsGood.{bytes-text}
 use Rattle.listing.specs.Listing.{begins, entryFor, names, afterStart, laid, page, startOf, Gave}
 use Rattle.listing.specs.Seek.{weigh}
 use Rattle.listing.specs.Bound.{tailUp, tailFor, above}
@@ -34,7 +32,7 @@ use Rattle.names.proofs.EntryLaws.{of-sub, tree-records}
 module _ {E : Edition} (N : Naming E) {f : List ℕ} {root : ℕ} (p : List ℕ) (d : Option ℕ) (s : List ℕ) (given : Bool) where
   -- no start key
   pub first-free : {r : Entry} → given ≡ false → EntryFrom E f root p d p 0 r → FirstEntry E f root p (startOf given s) d r
-  first-free {r} e H = rw e (λ path l T q. H path l T q (begins-self p) none (above-prefix (N .bounds) d p (records (art l))))
+  first-free {r} e H = rw e (λ path l T q. H path l T q (begins-self p) none (above-prefix d p (records (art l))))
 
   module _ (S : Sub E f root 0) (e : given ≡ true) where
     abbrev rs : List Record
@@ -51,13 +49,11 @@ module _ {E : Edition} (N : Naming E) {f : List ℕ} {root : ℕ} (p : List ℕ)
     next-as z {r} q X = subst (λ (x : List (List ℕ)). Next E f p d rs x r) q X
 
     -- it begins with the prefix
-    pub first-begins : {c : Cut} {r : Entry} → Bytes s → StartGood E (startOf given s) → begins p s ≡ true → CutAt s (length p) d c → {x : List ℕ} → EntryFrom E f root p d x (c .tail) r → x ≡ take (c .long) s → FirstEntry E f root p (startOf given s) d r
-    first-begins {c} {r} y h b C {x} H ex =
+    pub first-begins : {c : Cut} {r : Entry} → begins p s ≡ true → CutAt s (length p) d c → {x : List ℕ} → EntryFrom E f root p d x (c .tail) r → x ≡ take (c .long) s → FirstEntry E f root p (startOf given s) d r
+    first-begins {c} {r} b C {x} H ex =
         let z = entry-cut d p s b C in
-        let k : E .keyFault s ≡ 0 = rw e at h in
-        let L : Legal E s = record { passes = k; bytes = bytes-text s 0 s y (λ i l. let z : 0 + i ≡ i = omega arith in rw z) } in
         let F = tree-records (N .lawful) f (S .path) (S .lay) (S .bytes) (S .tree) in
-        let W : names d p (above E x (c .tail) rs) ≡ afterStart (some s) (names d p rs) = rw (ex, z .0, z .1) (above-start (N .bounds) d p s rs b L (F .0) (F .1)) in
+        let W : names d p (above x (c .tail) rs) ≡ afterStart (some s) (names d p rs) = rw (ex, z .0, z .1) (above-start E d p s rs b (F .0) (F .1)) in
         let B : begins p x ≡ true = rw (ex, z .0) (entry-twice d p s b .0) in
         first-of (H (S .path) (S .lay) (S .tree) (S .slotIs) B (some s) W)
 
@@ -73,7 +69,7 @@ module _ {E : Edition} (N : Naming E) {f : List ℕ} {root : ℕ} (p : List ℕ)
       pub first-below : {r : Entry} → (w ≡ 2 → ⊥) → EntryFrom E f root p d p 0 r → FirstEntry E f root p (startOf given s) d r
       first-below {r} q H =
           let W = start-all d p s (λ k m. below-prefix d p s b (λ y. q (weighs ∙ y)) k m) rs asc in
-          first-of (next-as none (sym W) (H (S .path) (S .lay) (S .tree) (S .slotIs) (begins-self p) none (above-prefix (N .bounds) d p rs)))
+          first-of (next-as none (sym W) (H (S .path) (S .lay) (S .tree) (S .slotIs) (begins-self p) none (above-prefix d p rs)))
 
 -- a start key that is given is short
 pub start-short : {E : Edition} → Naming E → (given : Bool) (s : List ℕ) → given ≡ true → StartGood E (startOf given s) → length s ≤ 255
@@ -180,9 +176,9 @@ module _ {E : Edition} {f : List ℕ} {root : ℕ} {p : List ℕ} {s : Option (L
         let rs = records (art (P .sub .lay)) in
         let F = fill-one (P .filled) (head .first) {b'' = b''} (omega arith) (rw q at w) in
         let T = tree-records (P .of .lawful) f (P .sub .path) (P .sub .lay) (P .sub .bytes) (P .sub .tree) in
-        let W : names d p (above E x (e .tail) rs) ≡ afterStart (some (head .text)) (names d p rs)
-        = ap (λ (y : List ℕ). names d p (above E y (e .tail) rs)) (q ∙ sym (head .own)) ∙ ap (λ (n : ℕ). names d p (above E (entryFor d p (head .text)) n rs)) (head .tail)
-        ∙ above-start (P .of .bounds) d p (head .text) rs (head .matches) (head .legal) (T .0) (T .1) in
+        let W : names d p (above x (e .tail) rs) ≡ afterStart (some (head .text)) (names d p rs)
+        = ap (λ (y : List ℕ). names d p (above y (e .tail) rs)) (q ∙ sym (head .own)) ∙ ap (λ (n : ℕ). names d p (above (entryFor d p (head .text)) n rs)) (head .tail)
+        ∙ above-start E d p (head .text) rs (head .matches) (T .0) (T .1) in
         record {
           of = P .of;
           sub = P .sub;

@@ -2,7 +2,6 @@
 use fields::body::Leaf;
 use fields::body::Node;
 use layout::number;
-use seek::Sought;
 ghost use mathlib.Core.Path.{_≡_};
 ghost use mathlib.Core.Bool.{false};
 ghost use mathlib.Core.List.{List, _++_};
@@ -12,10 +11,9 @@ ghost use Rattle.model.specs.Edition.{editionOf, SomeEdition};
 ghost use Rattle.model.specs.Image.{digits};
 ghost use Rattle.model.specs.Body.{LeafAt};
 ghost use Rattle.listing.specs.Listing.{begins, delimiterOf};
-ghost use Rattle.listing.specs.Bound.{boundOf};
 ghost use Rattle.seek.specs.Sub.{Sub};
-ghost use Rattle.seek.specs.Seek.{LeafSome, SoughtAt};
-ghost use Rattle.names.specs.Entry.{CutAt, OfKey, EntryFrom};
+ghost use Rattle.seek.specs.Seek.{LeafSome};
+ghost use Rattle.names.specs.Entry.{CutAt, OfKey, EntryFrom, wordRoom, SpeltBound, chosenOf};
 
 // behind the text of a bound: past the key that is the text, and past all keys that begin with it
 const PAST_KEY: usize = 1;
@@ -115,31 +113,31 @@ fn of_leaf(f: &[u8], place: usize, prefix: &[u8], delimiter: usize) -> Entry
     }
 }
 
-// The first Leaf at or above the bound of a text in edition 2: the text's walked string without its end, and past the key that is the text
-// with the first byte of that.
-fn sought_spelt(f: &[u8], root: usize, text: &[u8], tail: usize) -> Sought
-    requires { ⌜ Sub (editionOf 2) (now f) root 0 × (tail ≤ 256) × (length (now text) ≤ 255) ⌝ }
-    ensures { λ r. ⌜ SoughtAt (editionOf 2) (now (f .entry)) (boundOf (editionOf 2) (now (text .entry)) tail) tail root r ⌝ }
+// Writes what guides a seek to the bound of a text, and gives its length: in edition 2 the text's walked string without its end, and past the key that
+// is the text with the first byte of that. In edition 1 nothing.
+fn spelt(text: &[u8], tail: usize, word: &mut [u8], edition: usize) -> usize
+    requires { ⌜ (wordRoom (editionOf edition) ≤ length (now word)) × (length (now word) < 65536) × (length (now text) ≤ 255) ⌝ }
+    ensures { λ r. ⌜ SpeltBound (editionOf edition) (now (text .entry)) tail (now (word .exit)) r ⌝ }
 {
-    let mut word: [u8; keys::LONGEST_WORD] = [0; keys::LONGEST_WORD];
-    let n = keys::walk(text, &mut word, keys::SECOND);
-    if tail == PAST_KEY {
-        let past = n - 1;
-        return seek::seek(f, root, &word[0..past], tail, keys::SECOND);
+    if edition != keys::SECOND {
+        return 0;
     }
-    let end = n - 2;
-    seek::seek(f, root, &word[0..end], tail, keys::SECOND)
+    let n = keys::walk(text, word, keys::SECOND);
+    if tail == PAST_KEY {
+        return n - 1;
+    }
+    n - 2
 }
 
-// The same in every edition. In edition 1 the text is that of the bound.
-fn sought(f: &[u8], root: usize, text: &[u8], tail: usize, edition: usize) -> Sought
-    requires { ⌜ Sub (editionOf edition) (now f) root 0 × (tail ≤ 256) × (length (now text) ≤ 255) ⌝ }
-    ensures { λ r. ⌜ SoughtAt (editionOf edition) (now (f .entry)) (boundOf (editionOf edition) (now (text .entry)) tail) tail root r ⌝ }
+// What guides: in edition 1 the text itself, in edition 2 the first n bytes of the word.
+fn chosen<'a>(text: &'a [u8], word: &'a [u8], n: usize, edition: usize) -> &'a [u8]
+    requires { ⌜ n ≤ length (now word) ⌝ }
+    ensures { λ r. ⌜ now r ≡ chosenOf (editionOf edition) (now (text .entry)) (take n (now (word .entry))) ⌝ }
 {
     if edition == keys::SECOND {
-        return sought_spelt(f, root, text, tail);
+        return &word[0..n];
     }
-    seek::seek(f, root, text, tail, edition)
+    &text[0..]
 }
 
 // The entry of the first key at or above the bound of a text, if that begins with the prefix.
@@ -150,12 +148,15 @@ pub fn from_bound(
     delimiter: usize,
     text: &[u8],
     tail: usize,
+    word: &mut [u8],
     edition: usize,
 ) -> Entry
-    requires { ⌜ Sub (editionOf edition) (now f) root 0 × (tail ≤ 256) × (length (now text) ≤ 255) ⌝ }
+    requires { ⌜ Sub (editionOf edition) (now f) root 0 × (tail ≤ 256) × (length (now text) ≤ 255) × (wordRoom (editionOf edition) ≤ length (now word)) × (length (now word) < 65536) ⌝ }
     ensures { λ r. ⌜ EntryFrom (editionOf edition) (now (f .entry)) root (now (prefix .entry)) (delimiterOf delimiter) (now (text .entry)) tail r ⌝ }
 {
-    let s = sought(f, root, text, tail, edition);
+    let n = spelt(text, tail, word, edition);
+    let bound = chosen(text, word, n, edition);
+    let s = seek::seek(f, root, text, bound, tail);
     if !s.found {
         return none();
     }

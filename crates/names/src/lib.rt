@@ -68,6 +68,21 @@ pub fn list(
     if Header::records(frame) == 0 {
         return List::Done(0, false);
     }
+    if edition == keys::SECOND {
+        let mut word: [u8; keys::LONGEST_WORD] = [0; keys::LONGEST_WORD];
+        return page::fill(
+            frame,
+            Header::root(frame),
+            prefix,
+            start,
+            given,
+            delimiter,
+            buffer,
+            &mut word,
+            edition,
+        );
+    }
+    let mut unspelt: [u8; 0] = [0; 0];
     page::fill(
         frame,
         Header::root(frame),
@@ -76,6 +91,7 @@ pub fn list(
         given,
         delimiter,
         buffer,
+        &mut unspelt,
         edition,
     )
 }

@@ -23,7 +23,7 @@ use Rattle.seek.proofs.DownLaws.{tree-full, first-append}
 -- ---- keys go on from the path that leads to their Leaf
 
 shorter : (E : Edition) (path p k : List ℕ) → From E (path ++ p) k → From E path k
-shorter E path p k h = (p ++ h .0, h .1 ∙ append-assoc path p (h .0))
+shorter E path p k h = (p ++ h .0, h .1 ∙ append-assoc path p (h .0), h .2)
 
 mutual
   unfolding Tree Trees
@@ -31,7 +31,7 @@ mutual
   pub tree-under : (E : Edition) (f path : List ℕ) (l : Lay) → Tree E f path l → Under E path l
   tree-under E f path (leaf s o e k v) T =
       let w = E .walked k in
-      ((drop (length path) w, sym (take-append-drop (length path) w) ∙ ap (λ (x : List ℕ). x ++ drop (length path) w) (T .1 .begins)), tt)
+      ((drop (length path) w, sym (take-append-drop (length path) w) ∙ ap (λ (x : List ℕ). x ++ drop (length path) w) (T .1 .begins), T .1 .legal), tt)
   tree-under E f path (prefix s o p l) T = all-map (From E (path ++ p)) (From E path) (λ k h. shorter E path p k h) (leaves l) (tree-under E f (path ++ p) l (T .3))
   tree-under E f path (node s o kind ks) T = trees-under E f path ks (T .2)
 

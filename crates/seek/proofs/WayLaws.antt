@@ -31,7 +31,7 @@ use Rattle.inside.specs.Inside.{Inside, InsideAll}
 use Rattle.inside.proofs.InsideLaws.{entry-at}
 use Rattle.audit.proofs.TreeLaws.{below-short, node-short}
 use Rattle.seek.specs.Sub.{Sub}
-use Rattle.seek.specs.Seek.{Fallback, Falls, Is, SoughtAt, Seeking, Nearer, LeafSome}
+use Rattle.seek.specs.Seek.{Fallback, Falls, Is, SoughtAt, Guided, Seeking, Nearer, LeafSome}
 use Rattle.seek.proofs.DownLaws.{Full, tree-full, sub-slot}
 use Rattle.seek.proofs.LeafLaws.{key-there, weigh-most}
 use Rattle.seek.proofs.SeekLaws.{tree-under, trees-kept, kids-none, kids-some, kid-gone, kid-there}
@@ -57,22 +57,24 @@ open-short (b ∷ g) t (x ∷ p) e = bool-cases (ltb b x)
     (λ u. let z : _≡_ {A = ℕ} 2 1 = rw u at e in absurd (omega arith))
     (λ u. bool-cases (eqb b x) (λ v. let n = open-short g t p (rw (u, v) at e) in omega arith) (λ v. let z : _≡_ {A = ℕ} 0 1 = rw (u, v) at e in absurd (omega arith)))
 
-pub start : {E : Edition} {f : List ℕ} (g : List ℕ) (t : ℕ) {s : ℕ} → Sub E f s 0 → Seeking E f g t s s 0 (record { slot = 0; depth = 0 })
-start {E} {f} g t {s} S =
+pub start : {E : Edition} {f : List ℕ} (g w : List ℕ) (t : ℕ) {s : ℕ} → Guided E f g w t s → Seeking E f g w t s s 0 (record { slot = 0; depth = 0 })
+start {E} {f} g w t {s} P =
+    let S = P .sub in
     let e : S .path ≡ [] = empty (S .path) (S .deep) in
     record {
       sub = S;
+      guides = P .guides;
       undecided = rw e;
       spare = none;
       falls = record { without = λ h. refl; sub = λ h. absurd (omega arith); first = λ h. absurd (omega arith) };
-      whole = λ path l T q. ap (λ (x : Lay). firstFrom E g t (leaves x)) (tree-unique E f path (S .path) l (S .lay) T (S .tree) (q ∙ sym (S .slotIs))) ∙ sym (or-none (firstFrom E g t (leaves (S .lay))));
+      whole = λ path l T q. ap (λ (x : Lay). firstFrom g t (leaves x)) (tree-unique E f path (S .path) l (S .lay) T (S .tree) (q ∙ sym (S .slotIs))) ∙ sym (or-none (firstFrom g t (leaves (S .lay))));
     }
   where
     empty : (p : List ℕ) → length p ≡ 0 → p ≡ []
     empty [] h = refl
     empty (x ∷ p) h = absurd (omega arith)
 
-module _ {E : Edition} {f g : List ℕ} {t s s' d : ℕ} {p : Spare} (K : Seeking E f g t s s' d p) where
+module _ {E : Edition} {f g w : List ℕ} {t s s' d : ℕ} {p : Spare} (K : Seeking E f g w t s s' d p) where
   pub spare-falls : Falls E f p
   spare-falls = record { leafy = K .spare; fallback = K .falls }
 
@@ -80,8 +82,8 @@ module _ {E : Edition} {f g : List ℕ} {t s s' d : ℕ} {p : Spare} (K : Seekin
   as-is x y e h = rw e h
 
   -- nothing in this tree
-  pub fell : {r : Sought} → firstFrom E g t (leaves (K .sub .lay)) ≡ none → Is (K .spare) r → SoughtAt E f g t s r
-  fell e h path l T q = as-is (firstFrom E g t (leaves l)) (K .spare) (K .whole path l T q ∙ rw e) h
+  pub fell : {r : Sought} → firstFrom g t (leaves (K .sub .lay)) ≡ none → Is (K .spare) r → SoughtAt E f g t s r
+  fell e h path l T q = as-is (firstFrom g t (leaves l)) (K .spare) (K .whole path l T q ∙ rw e) h
 
   -- all of this tree
   pub this-falls : Fallback E f (record { slot = s'; depth = d }) (firstOf (leaves (K .sub .lay)))
@@ -89,9 +91,9 @@ module _ {E : Edition} {f g : List ℕ} {t s s' d : ℕ} {p : Spare} (K : Seekin
       let n = sub-slot (K .sub) .0 in
       record { without = λ h. absurd (omega arith); sub = λ h. K .sub; first = λ h. refl }
 
-  pub stood : {r : Sought} → firstFrom E g t (leaves (K .sub .lay)) ≡ firstOf (leaves (K .sub .lay)) → Is (firstOf (leaves (K .sub .lay))) r → SoughtAt E f g t s r
+  pub stood : {r : Sought} → firstFrom g t (leaves (K .sub .lay)) ≡ firstOf (leaves (K .sub .lay)) → Is (firstOf (leaves (K .sub .lay))) r → SoughtAt E f g t s r
   stood e h path l T q =
-      as-is (firstFrom E g t (leaves l)) (firstOf (leaves (K .sub .lay)))
+      as-is (firstFrom g t (leaves l)) (firstOf (leaves (K .sub .lay)))
       (K .whole path l T q ∙ rw e (or-full (leaves (K .sub .lay)) (K .spare) (tree-full E f (K .sub .path) (K .sub .lay) (K .sub .tree)))) h
 
   -- ---- a Leaf
@@ -111,13 +113,13 @@ module _ {E : Edition} {f g : List ℕ} {t s s' d : ℕ} {p : Spare} (K : Seekin
     pub leaf-some : LeafSome E f o
     leaf-some = leaf-is .0
 
-    pub leaf-hit : ((e : ℕ) (k v : List ℕ) → LeafAt f o e k v → true ≡ reach E g t k) → SoughtAt E f g t s (record { found = true; place = o })
+    pub leaf-hit : ((e : ℕ) (k v : List ℕ) → LeafAt f o e k v → true ≡ reach g t k) → SoughtAt E f g t s (record { found = true; place = o })
     leaf-hit H =
         let L = leaf-is .0 in
         let r = H (L .extent) (L .key) (L .value) (L .at) in
         stood (rw (leaf-is .1, ← r)) (record { there = λ _. record { leaf = record { place = o; key = L .key }; is = rw (leaf-is .1); place = refl }; gone = λ z. clash (cc) })
 
-    pub leaf-miss : {r : Sought} → ((e : ℕ) (k v : List ℕ) → LeafAt f o e k v → false ≡ reach E g t k) → Is (K .spare) r → SoughtAt E f g t s r
+    pub leaf-miss : {r : Sought} → ((e : ℕ) (k v : List ℕ) → LeafAt f o e k v → false ≡ reach g t k) → Is (K .spare) r → SoughtAt E f g t s r
     leaf-miss H i =
         let L = leaf-is .0 in
         let r = H (L .extent) (L .key) (L .value) (L .at) in
@@ -161,37 +163,37 @@ module _ {E : Edition} {f g : List ℕ} {t s s' d : ℕ} {p : Spare} (K : Seekin
       long : n ≡ length (at-prefix .bytes)
       long = en ∙ at-prefix .at .long
 
-      pub prefix-fits : (n ≤ 112) × (d ≤ 512) × (d + n ≤ 512) × (d ≤ length g)
+      pub prefix-fits : (n ≤ 112) × (d ≤ 512) × (d + n ≤ 512) × (d ≤ length w)
       prefix-fits =
           let m = at-prefix .at .most in let a = at-prefix .short in let e = K .sub .deep in let l = long in
-          let w = open-short g t (K .sub .path) (K .undecided) in
+          let u = open-short w t (K .sub .path) (K .undecided) in
           let f = K .sub .lawful .fields .words in
           (omega arith, omega (arith, length-append (K .sub .path) (at-prefix .bytes)), omega (arith, length-append (K .sub .path) (at-prefix .bytes)), omega arith)
 
       pub prefix-some : 1 ≤ n
       prefix-some = let m = at-prefix .at .some in let l = long in omega arith
 
-      module _ {w : ℕ} (ew : w ≡ weigh (drop d g) t (take n (drop (o + prefixBytes) f))) where
+      module _ {v : ℕ} (ev : v ≡ weigh (drop d w) t (take n (drop (o + prefixBytes) f))) where
         text-is : take n (drop (o + prefixBytes) f) ≡ at-prefix .bytes
         text-is =
             let r = at-prefix .at .room in let m = at-prefix .at .most in
             rw long (text-part f (o + prefixBytes) (at-prefix .bytes) (omega arith) (at-prefix .at .text))
 
-        weighs : weigh g t (K .sub .path ++ at-prefix .bytes) ≡ w
-        weighs = weigh-append g t (K .sub .path) (at-prefix .bytes) ∙ rw (K .undecided, K .sub .deep, ← text-is, ← ew)
+        weighs : weigh w t (K .sub .path ++ at-prefix .bytes) ≡ v
+        weighs = weigh-append w t (K .sub .path) (at-prefix .bytes) ∙ rw (K .undecided, K .sub .deep, ← text-is, ← ev)
 
-        pub prefix-above : {r : Sought} → w ≡ 2 → Is (firstOf (leaves (K .sub .lay))) r → SoughtAt E f g t s r
+        pub prefix-above : {r : Sought} → v ≡ 2 → Is (firstOf (leaves (K .sub .lay))) r → SoughtAt E f g t s r
         prefix-above e i =
-            stood (rw (at-prefix .leavesAre) (seek-above E g t (K .sub .path ++ at-prefix .bytes) (at-prefix .below) (weighs ∙ e) (tree-under E f (K .sub .path ++ at-prefix .bytes) (at-prefix .below) (at-prefix .tree)))) i
+            stood (rw (at-prefix .leavesAre) (seek-above (K .guides) (K .sub .path ++ at-prefix .bytes) (at-prefix .below) (weighs ∙ e) (tree-under E f (K .sub .path ++ at-prefix .bytes) (at-prefix .below) (at-prefix .tree)))) i
 
-        pub prefix-below : {r : Sought} → w ≡ 0 → Is (K .spare) r → SoughtAt E f g t s r
+        pub prefix-below : {r : Sought} → v ≡ 0 → Is (K .spare) r → SoughtAt E f g t s r
         prefix-below e i =
-            fell (rw (at-prefix .leavesAre) (seek-below E g t (K .sub .path ++ at-prefix .bytes) (at-prefix .below) (weighs ∙ e) (tree-under E f (K .sub .path ++ at-prefix .bytes) (at-prefix .below) (at-prefix .tree)))) i
+            fell (rw (at-prefix .leavesAre) (seek-below (K .guides) (K .sub .path ++ at-prefix .bytes) (at-prefix .below) (weighs ∙ e) (tree-under E f (K .sub .path ++ at-prefix .bytes) (at-prefix .below) (at-prefix .tree)))) i
 
-        pub prefix-on : {c : ℕ} → c ≡ le 4 f (o + prefixChild) → (w ≡ 2 → ⊥) → (w ≡ 0 → ⊥) → Seeking E f g t s c (d + n) p
+        pub prefix-on : {c : ℕ} → c ≡ le 4 f (o + prefixChild) → (v ≡ 2 → ⊥) → (v ≡ 0 → ⊥) → Seeking E f g w t s c (d + n) p
         prefix-on {c} ec no2 no0 =
-            let most : w ≤ 2 = rw (← ew) at (weigh-most (drop d g) t (take n (drop (o + prefixBytes) f))) in
-            let e : w ≡ 1 = omega arith in
+            let most : v ≤ 2 = rw (← ev) at (weigh-most (drop d w) t (take n (drop (o + prefixBytes) f))) in
+            let e : v ≡ 1 = omega arith in
             let a = at-prefix .short in let l = long in let z = K .sub .deep in
             record {
               sub = record {
@@ -205,6 +207,7 @@ module _ {E : Edition} {f g : List ℕ} {t s s' d : ℕ} {p : Spare} (K : Seekin
                 deep = omega (arith, length-append (K .sub .path) (at-prefix .bytes));
                 short = omega (arith, length-append (K .sub .path) (at-prefix .bytes));
               };
+              guides = K .guides;
               undecided = weighs ∙ e;
               spare = K .spare;
               falls = K .falls;
@@ -274,39 +277,40 @@ module _ {E : Edition} {f g : List ℕ} {t s s' d : ℕ} {p : Spare} (K : Seekin
     ]
 
     -- the bound ends here
-    pub node-end : {r : Sought} → length g ≤ d → Is (orElse (firstOf (leavesAll (kidsFrom t (at-node .kids)))) (K .spare)) r → SoughtAt E f g t s r
+    pub node-end : {r : Sought} → length w ≤ d → Is (orElse (firstOf (leavesAll (kidsFrom t (at-node .kids)))) (K .spare)) r → SoughtAt E f g t s r
     node-end {r} e i path l T j =
-        let w = drop-of-length-le g {i = length (K .sub .path)} (let z = K .sub .deep in omega arith) in
-        as-is (firstFrom E g t (leaves l)) (orElse (firstOf (leavesAll (kidsFrom t (at-node .kids)))) (K .spare))
-        (K .whole path l T j ∙ rw (at-node .leavesAre, node-tail E g t (K .sub .path) (K .undecided) 0 (at-node .kids) kept w)) i
+        let z = drop-of-length-le w {i = length (K .sub .path)} (let y = K .sub .deep in omega arith) in
+        as-is (firstFrom g t (leaves l)) (orElse (firstOf (leavesAll (kidsFrom t (at-node .kids)))) (K .spare))
+        (K .whole path l T j ∙ rw (at-node .leavesAre, node-tail (K .guides) (K .sub .path) (K .undecided) 0 (at-node .kids) kept z)) i
 
-    module _ (e : d < length g) where
-      next-byte : drop (length (K .sub .path)) g ≡ getD g d 0 ∷ drop (suc d) g
-      next-byte = rw (K .sub .deep) (drop-cons g d 0 e)
+    module _ (e : d < length w) where
+      next-byte : drop (length (K .sub .path)) w ≡ getD w d 0 ∷ drop (suc d) w
+      next-byte = rw (K .sub .deep) (drop-cons w d 0 e)
 
-      split : (path : List ℕ) (l : Lay) → Tree E f path l → slotOf l ≡ s → firstFrom E g t (leaves l)
-          ≡ orElse (firstFrom E g t (leavesAt (getD g d 0) (at-node .kids))) (orElse (firstOf (leavesAll (kidsFrom (suc (getD g d 0)) (at-node .kids)))) (K .spare))
+      split : (path : List ℕ) (l : Lay) → Tree E f path l → slotOf l ≡ s → firstFrom g t (leaves l)
+          ≡ orElse (firstFrom g t (leavesAt (getD w d 0) (at-node .kids))) (orElse (firstOf (leavesAll (kidsFrom (suc (getD w d 0)) (at-node .kids)))) (K .spare))
       split path l T j =
           K .whole path l T j
-          ∙ rw (at-node .leavesAre, node-byte E g t (K .sub .path) (K .undecided) 0 (at-node .kids) (getD g d 0) (drop (suc d) g) kept next-byte) (or-assoc (firstFrom E g t (leavesAt (getD g d 0) (at-node .kids))) (firstOf (leavesAll (kidsFrom (suc (getD g d 0)) (at-node .kids)))) (K .spare))
+          ∙ rw (at-node .leavesAre, node-byte (K .guides) (K .sub .path) (K .undecided) 0 (at-node .kids) (getD w d 0) (drop (suc d) w) kept next-byte) (or-assoc (firstFrom g t (leavesAt (getD w d 0) (at-node .kids))) (firstOf (leavesAll (kidsFrom (suc (getD w d 0)) (at-node .kids)))) (K .spare))
 
       -- no child has the byte
-      pub node-miss : {r : Sought} {c : ℕ} → ((ks : List (ℕ × ℕ)) → InnerAt f o kind ks → c ≡ orZero (lookKid (getD g d 0) ks)) → c ≡ 0
-          → Is (orElse (firstOf (leavesAll (kidsFrom (suc (getD g d 0)) (at-node .kids)))) (K .spare)) r → SoughtAt E f g t s r
+      pub node-miss : {r : Sought} {c : ℕ} → ((ks : List (ℕ × ℕ)) → InnerAt f o kind ks → c ≡ orZero (lookKid (getD w d 0) ks)) → c ≡ 0
+          → Is (orElse (firstOf (leavesAll (kidsFrom (suc (getD w d 0)) (at-node .kids)))) (K .spare)) r → SoughtAt E f g t s r
       node-miss {r} {c} C z i path l T j =
-          as-is (firstFrom E g t (leaves l)) (orElse (firstOf (leavesAll (kidsFrom (suc (getD g d 0)) (at-node .kids)))) (K .spare))
-          (split path l T j ∙ rw (kid-gone E (K .sub .lawful) f (K .sub .path) d (K .sub .bytes) (K .sub .deep) (at-node .short) (getD g d 0) (at-node .kids) (at-node .trees) (at-node .inside) (sym (C (pairs (at-node .kids)) (at-node .inner)) ∙ z))) i
+          as-is (firstFrom g t (leaves l)) (orElse (firstOf (leavesAll (kidsFrom (suc (getD w d 0)) (at-node .kids)))) (K .spare))
+          (split path l T j ∙ rw (kid-gone E (K .sub .lawful) f (K .sub .path) d (K .sub .bytes) (K .sub .deep) (at-node .short) (getD w d 0) (at-node .kids) (at-node .trees) (at-node .inside) (sym (C (pairs (at-node .kids)) (at-node .inner)) ∙ z))) i
 
       -- one has
-      pub node-on : {p' : Spare} {c : ℕ} → Nearer f o kind (suc (getD g d 0)) d p p' → ((ks : List (ℕ × ℕ)) → InnerAt f o kind ks → c ≡ orZero (lookKid (getD g d 0) ks)) → (c ≡ 0 → ⊥) → Seeking E f g t s c (d + 1) p'
+      pub node-on : {p' : Spare} {c : ℕ} → Nearer f o kind (suc (getD w d 0)) d p p' → ((ks : List (ℕ × ℕ)) → InnerAt f o kind ks → c ≡ orZero (lookKid (getD w d 0) ks)) → (c ≡ 0 → ⊥) → Seeking E f g w t s c (d + 1) p'
       node-on {p'} {c} N C n =
           let u = C (pairs (at-node .kids)) (at-node .inner) in
-          let S = kid-there E (K .sub .lawful) f (K .sub .path) d (K .sub .bytes) (K .sub .deep) (at-node .short) (getD g d 0) (at-node .kids) (at-node .trees) (at-node .inside) (omega arith) in
+          let S = kid-there E (K .sub .lawful) f (K .sub .path) d (K .sub .bytes) (K .sub .deep) (at-node .short) (getD w d 0) (at-node .kids) (at-node .trees) (at-node .inside) (omega arith) in
           let S' : Sub E f c (d + 1) = record { lawful = K .sub .lawful; lay = S .0 .lay; path = S .0 .path; tree = S .0 .tree; slotIs = S .0 .slotIs ∙ sym u; inside = S .0 .inside; bytes = S .0 .bytes; deep = S .0 .deep; short = S .0 .short } in
           record {
             sub = S';
-            undecided = ap (λ (w : List ℕ). weigh g t w) (S .1) ∙ weigh-byte g t (K .sub .path) (getD g d 0) (drop (suc d) g) (getD g d 0) (K .undecided) next-byte ∙ rw (le-ltb (getD g d 0) (getD g d 0) (omega arith), eq-eqb (getD g d 0) (getD g d 0) refl);
-            spare = orElse (firstOf (leavesAll (kidsFrom (suc (getD g d 0)) (at-node .kids)))) (K .spare);
-            falls = nearer-falls (suc (getD g d 0)) N;
+            guides = K .guides;
+            undecided = ap (λ (x : List ℕ). weigh w t x) (S .1) ∙ weigh-byte w t (K .sub .path) (getD w d 0) (drop (suc d) w) (getD w d 0) (K .undecided) next-byte ∙ rw (le-ltb (getD w d 0) (getD w d 0) (omega arith), eq-eqb (getD w d 0) (getD w d 0) refl);
+            spare = orElse (firstOf (leavesAll (kidsFrom (suc (getD w d 0)) (at-node .kids)))) (K .spare);
+            falls = nearer-falls (suc (getD w d 0)) N;
             whole = λ path l T j. split path l T j ∙ rw (S .2);
           }

@@ -5,11 +5,13 @@ use mathlib.Core.List.{List}
 use mathlib.Core.Bool.{true, false}
 use mathlib.Core.Option.{Option, none}
 use lib.ListN.{length}
+use lib.Dec.{eqb}
+use Rattle.model.specs.Strings.{pick}
 use Rattle.model.specs.Edition.{Edition, Legal}
 use Rattle.model.specs.Body.{InnerAt, LeafAt}
 use Rattle.model.specs.Frame.{Lay, slotOf, Tree}
 use Rattle.node.specs.Kids.{nextKid}
-use Rattle.listing.specs.Seek.{Leafy, leaves, weigh, firstFrom, firstOf, orElse}
+use Rattle.listing.specs.Seek.{Leafy, leaves, weigh, firstFrom, firstOf, orElse, Guides}
 use Rattle.seek.specs.declared.Spare.{Spare}
 use Rattle.seek.specs.declared.Sought.{Sought}
 use Rattle.seek.specs.Sub.{Sub, Placed}
@@ -26,15 +28,25 @@ pub record Is (o : Option Leafy) (r : Sought) : Type 0 where
   pub gone : r .found ≡ false → o ≡ none
 
 abbrev pub SoughtAt : Edition → List ℕ → List ℕ → ℕ → ℕ → Sought → Type 0
-SoughtAt E f g t s r = (path : List ℕ) (l : Lay) → Tree E f path l → slotOf l ≡ s → Is (firstFrom E g t (leaves l)) r
+SoughtAt E f g t s r = (path : List ℕ) (l : Lay) → Tree E f path l → slotOf l ≡ s → Is (firstFrom g t (leaves l)) r
 
--- a seek from slot s stands at slot s', to which d bytes lead that do not decide yet
-pub record Seeking (E : Edition) (f g : List ℕ) (t s s' d : ℕ) (p : Spare) : Type 0 where
+-- the tree at slot s, and a string that guides to the bound of g and t
+pub record Guided (E : Edition) (f g w : List ℕ) (t s : ℕ) : Type 0 where
+  pub sub : Sub E f s 0
+  pub guides : Guides E g t w
+
+-- what a byte behind the text is weighed against in a key
+abbrev pub behindText : ℕ → ℕ
+behindText t = pick (eqb t 1) 0 t
+
+-- a seek from slot s, guided by w, stands at slot s', to which d bytes lead that do not decide yet
+pub record Seeking (E : Edition) (f g w : List ℕ) (t s s' d : ℕ) (p : Spare) : Type 0 where
   pub sub : Sub E f s' d
-  pub undecided : weigh g t (sub .path) ≡ 1
+  pub guides : Guides E g t w
+  pub undecided : weigh w t (sub .path) ≡ 1
   pub spare : Option Leafy
   pub falls : Fallback E f p spare
-  pub whole : (path : List ℕ) (l : Lay) → Tree E f path l → slotOf l ≡ s → firstFrom E g t (leaves l) ≡ orElse (firstFrom E g t (leaves (sub .lay))) spare
+  pub whole : (path : List ℕ) (l : Lay) → Tree E f path l → slotOf l ≡ s → firstFrom g t (leaves l) ≡ orElse (firstFrom g t (leaves (sub .lay))) spare
 
 -- of the children of a node at o, to which d bytes lead: the first from byte b on, if there is one
 pub record Nearer (f : List ℕ) (o kind b d : ℕ) (p r : Spare) : Type 0 where

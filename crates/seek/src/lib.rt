@@ -13,10 +13,10 @@ ghost use Rattle.inner.specs.Inner.{NodeSome};
 ghost use Rattle.seek.specs.Sub.{Sub, FirstAt};
 ghost use mathlib.Core.List.{List};
 ghost use mathlib.Core.Option.{Option};
-ghost use Rattle.model.specs.Edition.{Edition, editionOf, Legal, SomeEdition};
+ghost use Rattle.model.specs.Edition.{Edition, SomeEdition};
 ghost use Rattle.model.specs.Body.{LeafAt};
 ghost use Rattle.listing.specs.Seek.{Leafy, weigh, reach};
-ghost use Rattle.seek.specs.Seek.{SoughtAt, Nearer, Fallback, Falls, LeafSome, Is};
+ghost use Rattle.seek.specs.Seek.{SoughtAt, Guided, Nearer, Fallback, Falls, LeafSome, Is, behindText};
 
 // A tree that lies above the bound, and how many bytes lead to it; slot 0 where there is none.
 pub struct Spare {
@@ -36,6 +36,9 @@ const BELOW: usize = 0;
 const OPEN: usize = 1;
 
 pub const ABOVE: usize = 2;
+
+// the tail of a bound past the key that is its text
+const PAST_KEY: usize = 1;
 
 // what `next_child` gives for a byte where there is no child
 const NO_BYTE: usize = 256;
@@ -132,40 +135,38 @@ fn fall_back(f: &[u8], spare: Spare) -> Sought
     Sought { found: true, place }
 }
 
-// A legal key is at or above the bound: its walked string, written out.
-fn spelt_reaches(key: &[u8], text: &[u8], tail: usize, edition: usize) -> bool
-    requires { ⌜ Legal (editionOf edition) (now key) ⌝ }
-    ensures { λ r. ⌜ r ≡ reach (editionOf edition) (now (text .entry)) tail (now (key .entry)) ⌝ }
+// What stands behind the text for the byte that a longer key has there: past the key that is the text every byte reaches.
+fn behind(tail: usize) -> usize
+    ensures { λ r. ⌜ r ≡ behindText tail ⌝ }
 {
-    let mut word: [u8; keys::LONGEST_WORD] = [0; keys::LONGEST_WORD];
-    let n = keys::walk(key, &mut word, edition);
-    OPEN <= weigh_bytes(&word, 0, n, text, 0, tail)
+    if tail == PAST_KEY {
+        return 0;
+    }
+    tail
 }
 
-// The key of the Leaf at a place is at or above the bound. In edition 1 its walked string is the key and then a byte 0.
-fn leaf_reaches(f: &[u8], place: usize, text: &[u8], tail: usize, edition: usize) -> bool
-    requires { ⌜ LeafSome (editionOf edition) (now f) place ⌝ }
-    ensures { λ r. ⌜ ((e : ℕ) (k v : List ℕ) → LeafAt (now (f .entry)) place e k v → r ≡ reach (editionOf edition) (now (text .entry)) tail k) ⌝ }
+// The key of the Leaf at a place is at or above the bound.
+fn leaf_reaches(f: &[u8], place: usize, text: &[u8], tail: usize) -> bool
+    requires { ⌜ SomeEdition (λ E. LeafSome E (now f) place) ⌝ }
+    ensures { λ r. ⌜ ((e : ℕ) (k v : List ℕ) → LeafAt (now (f .entry)) place e k v → r ≡ reach (now (text .entry)) tail k) ⌝ }
 {
     let from = Leaf::extent(f, place);
     let n = Leaf::key_length(f, place);
-    if edition == keys::SECOND {
-        return spelt_reaches(&f[from..from + n], text, tail, edition);
-    }
-    let w = weigh_bytes(f, from, n, text, 0, tail);
+    let w = weigh_bytes(f, from, n, text, 0, behind(tail));
     if w != OPEN {
         return w == ABOVE;
     }
     if n < text.len() {
-        return text[n] == 0;
+        return false;
     }
     tail == 0
 }
 
-// The first Leaf, in byte order, whose walked string is at or above the bound `text` and then `tail`, of the tree at slot `root`.
-pub fn seek(f: &[u8], root: usize, text: &[u8], tail: usize, edition: usize) -> Sought
-    requires { ⌜ Sub (editionOf edition) (now f) root 0 × (tail ≤ 256) ⌝ }
-    ensures { λ r. ⌜ SoughtAt (editionOf edition) (now (f .entry)) (now (text .entry)) tail root r ⌝ }
+// The first Leaf, in byte order, whose key is at or above the bound of `text` and `tail`, of the tree at slot `root`. The way down is weighed against
+// `word`, which guides to that bound in the bytes of walked strings.
+pub fn seek(f: &[u8], root: usize, text: &[u8], word: &[u8], tail: usize) -> Sought
+    requires { ⌜ SomeEdition (λ E. Guided E (now f) (now text) (now word) tail root) × (tail ≤ 256) ⌝ }
+    ensures { λ r. ⌜ ((E : Edition) → Guided E (now (f .entry)) (now (text .entry)) (now (word .entry)) tail root → SoughtAt E (now (f .entry)) (now (text .entry)) tail root r) ⌝ }
 {
     let mut s = root;
     let mut d = 0;
@@ -173,7 +174,7 @@ pub fn seek(f: &[u8], root: usize, text: &[u8], tail: usize, edition: usize) -> 
     loop {
         let e = Entry::read(f, s);
         if e.high == Kind::LEAF {
-            if leaf_reaches(f, e.place, text, tail, edition) {
+            if leaf_reaches(f, e.place, text, tail) {
                 return Sought {
                     found: true,
                     place: e.place,
@@ -183,7 +184,7 @@ pub fn seek(f: &[u8], root: usize, text: &[u8], tail: usize, edition: usize) -> 
         }
         if e.high == Kind::PREFIX {
             let n = Prefix::length(f, e.place);
-            let w = weigh_bytes(f, e.place + Prefix::BYTES, n, text, d, tail);
+            let w = weigh_bytes(f, e.place + Prefix::BYTES, n, word, d, tail);
             if w == ABOVE {
                 return fall_back(f, Spare { slot: s, depth: d });
             }
@@ -194,10 +195,10 @@ pub fn seek(f: &[u8], root: usize, text: &[u8], tail: usize, edition: usize) -> 
             d += n;
             continue;
         }
-        if text.len() <= d {
+        if word.len() <= d {
             return fall_back(f, nearer(f, e.place, e.high, tail, d, spare));
         }
-        let b = text[d];
+        let b = word[d];
         spare = nearer(f, e.place, e.high, (b as usize) + 1, d, spare);
         let k = look::seat(f, e.place, e.high, b);
         if k.slot == 0 {

@@ -2,6 +2,7 @@
 use mathlib.Core.Path.{_≡_, sym, _∙_}
 use native.Mathlib.Omega.{arith}
 use Rattle.names.proofs.EditionLaws.{naming}
+use Rattle.names.proofs.SoughtLaws.{room-two, room-other}
 use Rattle.names.proofs.ListLaws.{header-long, list-sub, list-one, list-two, list-prefix, list-start, list-zero, list-empty, list-page}
 use borrow.Author.Needs.{needs}
 use Rattle.names.proofs.list.Statement.{statement}
@@ -38,19 +39,46 @@ returns-6 : tie.Need-returns-6
 returns-6 c = list-empty (naming _) (c .before .before .before .before .before .before .before .before .before .check .ensures) (c .before .before .before .before .before .before .before .before .before .before .before .before .before .before .args .prefix .now) _ _ _ (omega arith) (omega (arith, c .before .before .before .before .before .before .longest-prefix .ensures .0, c .before .before .before .before .before .if3 .left)) (c .before .before .before .before .start-fault .ensures) (omega arith) (c .before .records .ensures .0) (c .if6 .taken)
 
 root-requires : tie.Need-root-requires
-root-requires c κs = header-long (naming _) (c .before .before .before .before .before .before .before .before .before .check .ensures) (omega arith)
+root-requires c κs = header-long (naming _) (c .before .before .before .before .before .before .before .before .before .before .check .ensures) (omega arith)
+
+slice-aggregate-fill : tie.Need-slice-aggregate-fill
+slice-aggregate-fill c = search needs
 
 fill-requires : tie.Need-fill-requires
-fill-requires c κs = let fault = c .before .before .before .before .before .before .start-fault in
+fill-requires c κs =
+    let fault = c .before .before .before .before .before .before .before .before .start-fault in
     let legal : fault .result ≡ 0 = omega arith in
-    (list-sub (naming _) (c .before .before .before .before .before .before .before .before .before .before .before .check .ensures) (omega arith) (c .before .before .before .records .ensures .0) (λ x. omega arith) (c .before .root .ensures .0), sym (fault .ensures) ∙ legal, omega (arith, c .before .before .before .before .before .before .before .before .longest-prefix .ensures, c .before .before .before .before .before .before .before .if3 .left))
+    let room = room-two (c .before .before .before .before .before .before .before .before .before .before .before .before .before .before .before .before .before .before .args .edition) (c .before .before .before .if7 .taken) in
+    (list-sub (naming _) (c .before .before .before .before .before .before .before .before .before .before .before .before .before .check .ensures) (omega arith) (c .before .before .before .before .before .records .ensures .0) (λ x. omega arith) (c .before .before .root .ensures .0), sym (fault .ensures) ∙ legal, omega (arith, c .before .before .before .before .before .before .before .before .before .before .longest-prefix .ensures, c .before .before .before .before .before .before .before .before .before .if3 .left), omega arith, omega arith)
 
 same-length : tie.Need-same-length
 same-length c = search needs
 
 returns-7 : tie.Need-returns-7
-returns-7 c = list-page (naming _) (c .before .before .before .before .before .before .before .before .before .before .before .before .before .before .check .ensures) (c .before .before .before .before .before .before .before .before .before .before .before .before .before .before .before .before .before .before .before .args .prefix .now) _ _ _ (omega arith) (omega (arith, c .before .before .before .before .before .before .before .before .before .before .before .longest-prefix .ensures .0, c .before .before .before .before .before .before .before .before .before .before .if3 .left)) (c .before .before .before .before .before .before .before .before .before .start-fault .ensures) (omega arith) (c .before .before .before .before .before .before .records .ensures .0) (λ x. omega arith) (c .before .before .before .before .root .ensures .0)
-    (c .before .before .fill .result) (c .before .before .fill .ensures)
+returns-7 c =
+    list-page (naming _) (c .before .before .before .before .before .before .before .before .before .before .before .before .before .before .before .before .before .check .ensures) (c .before .before .before .before .before .before .before .before .before .before .before .before .before .before .before .before .before .before .before .before .before .before .args .prefix .now) _ _ _ (omega arith) (omega (arith, c .before .before .before .before .before .before .before .before .before .before .before .before .before .before .longest-prefix .ensures .0, c .before .before .before .before .before .before .before .before .before .before .before .before .before .if3 .left)) (c .before .before .before .before .before .before .before .before .before .before .before .before .start-fault .ensures) (omega arith) (c .before .before .before .before .before .before .before .before .before .records .ensures .0) (λ x. omega arith) (c .before .before .before .before .before .before .root .ensures .0)
+    (c .before .before .before .fill .result) (c .before .before .before .fill .ensures)
+
+root-requires-2 : tie.Need-root-requires-2
+root-requires-2 c κs = header-long (naming _) (c .before .before .before .before .before .before .before .before .before .before .check .ensures) (omega arith)
+
+slice-aggregate-fill-2 : tie.Need-slice-aggregate-fill-2
+slice-aggregate-fill-2 c = search needs
+
+fill-requires-2 : tie.Need-fill-requires-2
+fill-requires-2 c κs =
+    let fault = c .before .before .before .before .before .before .before .before .start-fault in
+    let legal : fault .result ≡ 0 = omega arith in
+    let room = room-other (c .before .before .before .before .before .before .before .before .before .before .before .before .before .before .before .before .before .before .args .edition) (c .before .before .before .if7 .left) in
+    (list-sub (naming _) (c .before .before .before .before .before .before .before .before .before .before .before .before .before .check .ensures) (omega arith) (c .before .before .before .before .before .records .ensures .0) (λ x. omega arith) (c .before .before .root2 .ensures .0), sym (fault .ensures) ∙ legal, omega (arith, c .before .before .before .before .before .before .before .before .before .before .longest-prefix .ensures, c .before .before .before .before .before .before .before .before .before .if3 .left), omega arith, omega arith)
+
+same-length-2 : tie.Need-same-length-2
+same-length-2 c = search needs
+
+returns-8 : tie.Need-returns-8
+returns-8 c =
+    list-page (naming _) (c .before .before .before .before .before .before .before .before .before .before .before .before .before .before .before .before .before .check .ensures) (c .before .before .before .before .before .before .before .before .before .before .before .before .before .before .before .before .before .before .before .before .before .before .args .prefix .now) _ _ _ (omega arith) (omega (arith, c .before .before .before .before .before .before .before .before .before .before .before .before .before .before .longest-prefix .ensures .0, c .before .before .before .before .before .before .before .before .before .before .before .before .before .if3 .left)) (c .before .before .before .before .before .before .before .before .before .before .before .before .start-fault .ensures) (omega arith) (c .before .before .before .before .before .before .before .before .before .records .ensures .0) (λ x. omega arith) (c .before .before .before .before .before .before .root2 .ensures .0)
+    (c .before .before .before .fill2 .result) (c .before .before .before .fill2 .ensures)
 
 pub list-spec : {M : Type 1} → statement M
 list-spec =
@@ -67,6 +95,12 @@ list-spec =
     records-requires
     returns-6
     root-requires
+    slice-aggregate-fill
     fill-requires
     same-length
-    returns-7)
+    returns-7
+    root-requires-2
+    slice-aggregate-fill-2
+    fill-requires-2
+    same-length-2
+    returns-8)
