@@ -1,9 +1,9 @@
 -- Demand 1 of a batch, from its promise: the numbers that a change can give, and what is left unchanged in each case. Assumes nothing.
-use Prim.Native.Nat.{ℕ, _+_}
+use Prim.Native.Nat.{ℕ}
 use native.Mathlib.Omega.{arith}
-use mathlib.Core.Path.{_≡_, refl, sym, ap, _∙_}
+use mathlib.Core.Path.{_≡_, refl, sym, _∙_}
 use mathlib.Core.List.{List, [], _∷_}
-use mathlib.Core.Bool.{Bool, true, false}
+use mathlib.Core.Bool.{true}
 use mathlib.Core.Option.{Option, none, some}
 use mathlib.Core.Logic.{_⊎_, inl, inr, ⊎-elim}
 use lib.ListN.{length}
@@ -12,17 +12,17 @@ use Rattle.model.specs.Strings.{hasZero}
 use Rattle.model.specs.Edition.{Edition, edition1, edition2, editionOf, valueFault}
 use Rattle.model.specs.Tree.{Art, Change, Left, findTree}
 use Rattle.model.specs.Records.{absent}
-use Rattle.model.specs.State.{State, Done, unless, room, findIn, putChange, callPut, Write, new, replacing, either, callWrite, onWrite, eraseChange, eraseDone, eraseFound, eraseIn, callErase}
-use Rattle.model.specs.Frame.{Stands, Good}
+use Rattle.model.specs.State.{State, Done, unless, room, findIn, putChange, callPut, Write, new, replacing, either, callWrite, eraseChange, eraseDone, eraseFound, eraseIn, callErase}
+use Rattle.model.specs.Frame.{Good}
 use Rattle.model.specs.Order.{isRefusal}
-use Rattle.model.specs.Call.{Call, put, replace, erase, onCall, Called}
+use Rattle.model.specs.Call.{Call, put, replace, erase, onCall}
 use Rattle.model.proofs.StringLaws.{bool-cases, eqb-cases, clash}
 use Rattle.model.proofs.WorkedLaws.{called-stands}
 use Rattle.sequence.specs.Sequence.{Made}
 use Rattle.demands.specs.Words.{Refusal, OneOf}
 use Rattle.demands.proofs.FirstLaws.{Given, frame-first}
 use Rattle.batch.specs.Layout.{changesOf}
-use Rattle.batch.specs.Batch.{Carried, Stopped, BatchPromise}
+use Rattle.batch.specs.Batch.{BatchPromise}
 use Rattle.batch.specs.Demand.{secondLength, notLaid, BatchDemand1}
 
 -- ---- the numbers that a change can give

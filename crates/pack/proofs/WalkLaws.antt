@@ -11,7 +11,7 @@ use Rattle.layout.specs.Entry.{highOf, placeOf, entryOf}
 use Rattle.model.specs.Edition.{Edition, Lawful}
 use Rattle.model.specs.Tree.{Art}
 use Rattle.model.specs.Image.{nodeOf, digits, padded, slots, size, entries, bodies}
-use Rattle.model.specs.Frame.{Lay, LayKids, slotOf, atop, art, Entry, NodeOf, Tree, Trees}
+use Rattle.model.specs.Frame.{Lay, slotOf, atop, art, Entry, NodeOf, Tree, Trees}
 use Rattle.model.specs.Frame.Lay.{leaf, prefix, node}
 use Rattle.model.proofs.WellLaws.{inside-short}
 use Rattle.model.proofs.StandsGood.{tree-well, below-inside}
@@ -21,7 +21,7 @@ use Rattle.model.proofs.PackedBytes.{length-bodies, length-entries}
 use Rattle.model.proofs.UniqueLaws.{tree-unique}
 use Rattle.pack.specs.declared.bodies.Next.{Next}
 use Rattle.pack.specs.Laid.{Room, Laid, LeafFits, LeafLaid, PrefixFits, PrefixLaid}
-use Rattle.inside.specs.Inside.{SlotIn, Inside, InsideAll}
+use Rattle.inside.specs.Inside.{Inside, InsideAll}
 use Rattle.inside.proofs.InsideLaws.{IsLeaf, IsPrefix, IsInner, leaf-lay, prefix-lay, inner-lay, slot-in}
 use Rattle.pack.specs.Walk.{packedLay, packedRun, TreeReady, TreePacked}
 use Rattle.pack.proofs.BodiesLaws.{length-prefix}

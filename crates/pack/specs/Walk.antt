@@ -5,14 +5,12 @@ use mathlib.Core.List.{List, _∷_, _++_}
 use lib.ListN.{length, drop}
 use Rattle.layout.specs.Number.{Bytes}
 use Rattle.layout.specs.Place.{entryAt}
-use Rattle.layout.specs.Kind.{Leaf, bodySize}
+use Rattle.layout.specs.Kind.{bodySize}
 use Rattle.layout.specs.Entry.{highOf, placeOf, entryOf}
 use Rattle.model.specs.Edition.{Edition, Lawful}
 use Rattle.model.specs.Tree.{Art, Kids}
 use Rattle.model.specs.Image.{smallest, packed, packedKids, slots, slotsKids, size, sizeKids, bytesOf, childSlots, entries, entriesKids, bodies, bodiesKids}
 use Rattle.model.specs.Frame.{Lay, LayKids, slotOf, art, artKids, pairs, NodeOf, Tree, Trees}
-use Rattle.model.specs.Frame.Lay.{leaf, prefix, node}
-use Rattle.model.specs.Frame.LayKids.{nil, kid}
 use Rattle.inside.specs.Inside.{Inside, InsideAll}
 use Rattle.node.specs.Kids.{Reached}
 use Rattle.pack_body.specs.Part.{partBody}

@@ -1,5 +1,4 @@
 -- 512 in edition 2, 113 in edition 1. Assumes nothing.
-use mathlib.Core.Path.{sym}
 use borrow.Author.Tests.{eq-eqb, ne-eqb}
 use Rattle.model.specs.Edition.{editionOf}
 use Rattle.pack.proofs.image.longest_path.Statement.{statement}

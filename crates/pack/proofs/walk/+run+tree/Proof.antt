@@ -4,7 +4,6 @@ use Prim.Native.Nat.{ℕ, _+_, _-_, _*_, _<_}
 use mathlib.Core.Path.{sym, _∙_}
 use mathlib.Core.List.{List}
 use native.Mathlib.Omega.{arith}
-use borrow.Author.Needs.{needs}
 use Rattle.model.specs.Edition.{Edition}
 use Rattle.pack.specs.declared.bodies.Next.{Next}
 use Rattle.pack.specs.Walk.{TreeReady, TreePacked, Going}
