@@ -4,7 +4,8 @@
  *
  * A frame has F bytes, a multiple of 8 from 1,024 to 524,288, and N slots, an even number from 8 to 10,240; 64 + 4 N + 8 is at
  * most F. A key has 1 to 112 bytes, none of them 0. A value has 0 to 65,535 bytes. Records are kept in the frame alone: copy or
- * store its F bytes anywhere, and lend them again later.
+ * store its F bytes anywhere, and lend them again later. That is edition 1; frames of edition 2, whose keys have 1 to 255 bytes of any
+ * kind, have calls of their own: frame2_format and the others at the end of this file.
  *
  * Every number that a call can give:
  *
@@ -14,9 +15,9 @@
  *  11  FRAME_PRESENT       put: the key is there already, with the value that it had; nothing changed
  *   1  FRAME_BAD_LENGTH    format: F or N against the limits, or frame_len is not F; else: frame_len is no F that a frame can have,
  *                          or is not the F that the frame holds
- *   2  FRAME_NOT_GOOD      the bytes are not a good frame
- *   3  FRAME_KEY_LENGTH    the key has no byte, or more than 112; list: the prefix has more than 112
- *   4  FRAME_KEY_ZERO      the key holds a byte 0
+ *   2  FRAME_NOT_GOOD      the bytes are not a good frame of the edition
+ *   3  FRAME_KEY_LENGTH    the key has no byte, or more than 112 (edition 2: 255); list: the prefix has more than that
+ *   4  FRAME_KEY_ZERO      the key holds a byte 0; not given in edition 2
  *   5  FRAME_VALUE_LENGTH  the value has more than 65,535 bytes
  *   7  FRAME_OUT_LENGTH    pack, pack_before: the output is not as long as the frame; batch: the second frame is not
  *  12  FRAME_LAYOUT        batch: not laid out as docs/FORMAT.md says
@@ -301,6 +302,30 @@ static inline int frame_changes_add(struct frame_changes *changes, int kind, con
     frame_set4(changes->bytes, changes->count);
     return 0;
 }
+
+/*
+ * Edition 2: keys of 1 to 255 bytes of any kind, a byte 0 among them, and prefixes of 0 to 255. Each call is the one of edition 1 under
+ * another name, with the same parameters and the same numbers, but for 4, which is not given. A frame is of the edition that formatted
+ * it: the calls of one edition answer a frame of the other 2. A look-up visits at most one slot for each walked byte of the key (a byte 0
+ * counts two, and the end two) and one more. On the deepest trees pack takes up to 80 KB of stack, every other call at most 16 KB.
+ * A batch is laid out alike in both.
+ */
+uint32_t frame2_format(uint8_t *frame, frame_length frame_len, frame_length f, frame_length n);
+uint32_t frame2_check(const uint8_t *frame, frame_length frame_len);
+uint32_t frame2_look_up(const uint8_t *frame, frame_length frame_len, const uint8_t *key, frame_length key_len,
+                        uint64_t *found, frame_length three);
+uint32_t frame2_put(uint8_t *frame, frame_length frame_len, const uint8_t *key, frame_length key_len, const uint8_t *value,
+                    frame_length value_len);
+uint32_t frame2_replace(uint8_t *frame, frame_length frame_len, const uint8_t *key, frame_length key_len, const uint8_t *value,
+                        frame_length value_len);
+uint32_t frame2_erase(uint8_t *frame, frame_length frame_len, const uint8_t *key, frame_length key_len);
+uint32_t frame2_pack(const uint8_t *frame, frame_length frame_len, uint8_t *out, frame_length out_len);
+uint32_t frame2_info(const uint8_t *frame, frame_length frame_len, uint64_t *counts, frame_length fourteen);
+uint32_t frame2_list(const uint8_t *frame, frame_length frame_len, const uint8_t *prefix, frame_length prefix_len, const uint8_t *start,
+                     frame_length start_len, frame_length has_start, frame_length delimiter, uint8_t *buffer, frame_length buffer_len,
+                     uint64_t *page, frame_length two);
+uint64_t frame2_batch(uint8_t *frame, frame_length frame_len, uint8_t *second, frame_length second_len, const uint8_t *batch,
+                      frame_length batch_len, uint8_t *answers, frame_length answers_len);
 
 #ifdef __cplusplus
 }
