@@ -346,8 +346,8 @@ fn the_stored_lines_have_the_printed_figures() {
 
 #[test]
 fn the_calls_give_the_stored_lines() {
-    let second = Second(Edition::One);
-    let stores: [(&str, &dyn Calls); 2] = [("the second store", &second), ("exported", &Exported)];
+    let (second, exported) = (Second(Edition::One), Exported(Edition::One));
+    let stores: [(&str, &dyn Calls); 2] = [("the second store", &second), ("exported", &exported)];
     for (of, calls) in stores {
         let told = told(calls);
         for (at, (told, stored)) in told.lines().zip(STORED.lines()).enumerate() {
