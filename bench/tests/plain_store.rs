@@ -2,7 +2,7 @@
 //! all frames after a call and all packed bytes, against the second store.
 
 use second_store::compare::{Calls, Comparer};
-use second_store::layout::INFO_NUMBERS;
+use second_store::layout::{Edition, INFO_NUMBERS};
 use second_store::run::{all_stages, Effort};
 use second_store::{batch, history, names, store};
 use store_bench::plain;
@@ -10,6 +10,9 @@ use store_bench::plain;
 struct Plain;
 
 impl Calls for Plain {
+    fn edition(&self) -> Edition {
+        Edition::One
+    }
     fn format(&self, frame: &mut [u8], f: usize, n: usize) -> u32 {
         plain::format(frame, f, n)
     }
@@ -49,11 +52,11 @@ impl Calls for Plain {
         batch: &[u8],
         answers: &mut [u8],
     ) -> (u32, u64) {
-        batch::apply(frame, second, batch, answers)
+        batch::apply(self.edition(), frame, second, batch, answers)
     }
     /// Nor this one.
     fn info(&self, frame: &[u8]) -> (u32, [u64; INFO_NUMBERS]) {
-        store::info(frame)
+        store::info(self.edition(), frame)
     }
 }
 
@@ -61,13 +64,13 @@ impl Calls for Plain {
 fn plain_calls_agree_and_reach_every_case() {
     let effort = Effort::from_environment();
     let tally = all_stages(&Plain, effort).unwrap_or_else(|told| panic!("{told}"));
-    let missed = tally.never_reached();
+    let missed = tally.never_reached(Plain.edition());
     assert!(missed.is_empty(), "{effort:?} never reaches {missed:#?}");
 }
 
 #[test]
 fn plain_check_agrees_on_single_bytes() {
     let mut comparer = Comparer::new(&Plain);
-    history::single_bytes(&mut comparer, &history::small_frames())
+    history::single_bytes(&mut comparer, &history::small_frames(Plain.edition()))
         .unwrap_or_else(|told| panic!("{told}"));
 }

@@ -4,12 +4,16 @@
 use second_store::check::{check, read};
 use second_store::decode;
 use second_store::layout::number::{DONE, NO_ROOM};
+use second_store::layout::Edition;
 use second_store::names::{list, Asked};
 use second_store::slotless::Tree;
 use second_store::store;
 use store_bench::calls::{Call, PAGE_BYTES};
-use store_bench::deepest::deep_trees;
+use store_bench::deepest::{deep_trees, deepest_of_edition_2};
 use store_bench::workload::{wide, workload, Fill, Workload, ABSENT_OF_WIDE, FRAMES, WIDTHS};
+
+/// Of the frames that are measured.
+const EDITION: Edition = Edition::One;
 
 /// Slots on the longest way from the root.
 fn slots_deep(tree: &Tree) -> usize {
@@ -25,32 +29,69 @@ fn slots_deep(tree: &Tree) -> usize {
 #[test]
 fn deep_trees_are_as_deep_as_allowed() {
     for tree in deep_trees() {
-        let reading = read(&tree.frame).expect("the lengths agree");
-        let state = decode::state(&tree.frame, &reading);
+        let reading = read(EDITION, &tree.frame).expect("the lengths agree");
+        let state = decode::state(EDITION, &tree.frame, &reading);
         let root = state.tree.expect("there are records");
         assert_eq!(slots_deep(&root), 113, "{}", tree.name);
-        assert_eq!(store::look_up(&tree.frame, &tree.present).number, DONE, "{}", tree.name);
-        assert_eq!(store::put(&mut tree.frame.clone(), &tree.absent, b""), DONE, "{}", tree.name);
+        assert_eq!(
+            store::look_up(EDITION, &tree.frame, &tree.present).number,
+            DONE,
+            "{}",
+            tree.name
+        );
+        assert_eq!(
+            store::put(EDITION, &mut tree.frame.clone(), &tree.absent, b""),
+            DONE,
+            "{}",
+            tree.name
+        );
+    }
+}
+
+/// Of the 512 walked bytes of 255 bytes 0 the last two, the key's end, part from no
+/// other; a slot for each of the others and the Leaf. Behind the first byte 0 stands a
+/// Prefix and no node, since no key is empty.
+#[test]
+fn the_deepest_tree_of_edition_2_is_as_deep_as_allowed() {
+    let tree = deepest_of_edition_2();
+    let reading = read(Edition::Two, &tree.frame).expect("the lengths agree");
+    assert!(reading.good(), "{:?}", reading.broken);
+    let found = store::look_up(Edition::Two, &tree.frame, &tree.present);
+    assert_eq!((found.number, found.slots), (DONE, 511));
+    let mut frame = tree.frame.clone();
+    assert_eq!(store::put(Edition::Two, &mut frame, &tree.absent, b""), DONE);
+}
+
+/// The measured frames are good ones of edition 2, too, and its calls give the same.
+#[test]
+fn workloads_are_those_of_edition_2_but_for_the_number() {
+    for (f, n) in FRAMES {
+        for fill in Fill::ALL {
+            let workload = workload(f, n, fill);
+            let second = workload.in_edition_2();
+            assert_eq!(check(Edition::Two, &second.frame), DONE);
+            assert_eq!(store::records(&second.frame), store::records(&workload.frame));
+        }
     }
 }
 
 fn gives_the_numbers_it_tells(workload: &Workload, what: &str) {
     let f = workload.frame.len();
-    assert_eq!(check(&workload.frame), DONE);
+    assert_eq!(check(EDITION, &workload.frame), DONE);
     for task in &workload.tasks {
         let input = &task.inputs[0];
         let mut frame = workload.frame.clone();
         let number = match task.call {
-            Call::Format => store::format(&mut frame, f, workload.n),
-            Call::Check => check(&frame),
-            Call::LookUp => store::look_up(&frame, &input.key).number,
-            Call::Put => store::put(&mut frame, &input.key, &input.value),
-            Call::Replace => store::replace(&mut frame, &input.key, &input.value),
-            Call::Erase => store::erase(&mut frame, &input.key),
-            Call::Pack => store::pack(&frame, &mut vec![0; f]),
+            Call::Format => store::format(EDITION, &mut frame, f, workload.n),
+            Call::Check => check(EDITION, &frame),
+            Call::LookUp => store::look_up(EDITION, &frame, &input.key).number,
+            Call::Put => store::put(EDITION, &mut frame, &input.key, &input.value),
+            Call::Replace => store::replace(EDITION, &mut frame, &input.key, &input.value),
+            Call::Erase => store::erase(EDITION, &mut frame, &input.key),
+            Call::Pack => store::pack(EDITION, &frame, &mut vec![0; f]),
             Call::List => {
                 let asked = Asked { prefix: b"", start: None, delimiter: None };
-                list(&frame, &asked, &mut vec![0; f.min(PAGE_BYTES)]).number
+                list(EDITION, &frame, &asked, &mut vec![0; f.min(PAGE_BYTES)]).number
             }
         };
         assert_eq!(number, task.number, "{} of {f} bytes, {what}", task.name);
@@ -85,8 +126,8 @@ fn widths(tree: &Tree) -> Vec<usize> {
 fn wide_trees_have_the_width_they_tell() {
     for width in WIDTHS {
         let frame = wide(width).frame;
-        let reading = read(&frame).expect("the lengths agree");
-        let tree = decode::state(&frame, &reading).tree.expect("there are records");
+        let reading = read(EDITION, &frame).expect("the lengths agree");
+        let tree = decode::state(EDITION, &frame, &reading).tree.expect("there are records");
         let widths = widths(&tree);
         assert_eq!(widths.len(), width + 1, "the root's node and one below each byte");
         let narrower = widths.iter().map(|it| width - it).sum::<usize>();
@@ -99,7 +140,7 @@ fn full_frames_have_little_room_left() {
     for (f, n) in FRAMES {
         let workload = workload(f, n, Fill::Full);
         let value = vec![0; f / 16];
-        let number = store::put(&mut workload.frame.clone(), b"one more", &value);
+        let number = store::put(EDITION, &mut workload.frame.clone(), b"one more", &value);
         assert_eq!(number, NO_ROOM, "{f} bytes");
     }
 }

@@ -117,19 +117,25 @@ pub fn stops(number: u32) -> bool {
     !matches!(number, DONE | ABSENT | REPLACED | PRESENT)
 }
 
-fn make(frame: &mut [u8], change: &Change) -> u32 {
+fn make(edition: Edition, frame: &mut [u8], change: &Change) -> u32 {
     match change {
-        Change::Put { key, value } => store::put(frame, key, value),
-        Change::Replace { key, value } => store::replace(frame, key, value),
-        Change::Erase { key } => store::erase(frame, key),
+        Change::Put { key, value } => store::put(edition, frame, key, value),
+        Change::Replace { key, value } => store::replace(edition, frame, key, value),
+        Change::Erase { key } => store::erase(edition, frame, key),
     }
 }
 
 /// The number, and the place from 1 of the first change that is refused, else 0.
 /// The second frame is then as the changes before it left it; after a batch
 /// that is done it equals the first.
-pub fn apply(frame: &mut [u8], second: &mut [u8], batch: &[u8], answers: &mut [u8]) -> (u32, u64) {
-    let checked = check(frame);
+pub fn apply(
+    edition: Edition,
+    frame: &mut [u8],
+    second: &mut [u8],
+    batch: &[u8],
+    answers: &mut [u8],
+) -> (u32, u64) {
+    let checked = check(edition, frame);
     if checked != DONE {
         return (checked, 0);
     }
@@ -142,7 +148,7 @@ pub fn apply(frame: &mut [u8], second: &mut [u8], batch: &[u8], answers: &mut [u
     second.copy_from_slice(frame);
     let mut given = Vec::new();
     for (index, change) in changes.iter().enumerate() {
-        let number = make(second, change);
+        let number = make(edition, second, change);
         if stops(number) {
             return (number, index as u64 + 1);
         }

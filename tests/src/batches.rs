@@ -6,7 +6,7 @@
 //! byte of some batches changed, and every shorter part of them.
 
 use crate::batch::{self, laid};
-use crate::compare::{Compared, Comparer, Held};
+use crate::compare::{Compared, Comparer};
 use crate::crafted::{build, Spare};
 use crate::layout::*;
 use crate::random::Random;
@@ -14,9 +14,10 @@ use crate::slotless::ByKind;
 use crate::store;
 use crate::trees::{aimed, random_tree, small_value, Change};
 
-fn some_change(random: &mut Random, keys: &[Vec<u8>]) -> Change {
+fn some_change(edition: Edition, random: &mut Random, keys: &[Vec<u8>]) -> Change {
+    let too_long = vec![b'k'; edition.longest_key() + 1];
     let key = match random.below(60) {
-        0 => random.pick(&[&b""[..], b"a\0b", &[b'k'; 113]]).to_vec(),
+        0 => random.pick(&[&b""[..], b"a\0b", &too_long]).to_vec(),
         _ => random.pick(keys).clone(),
     };
     let value = match random.below(150) {
@@ -36,8 +37,10 @@ pub fn batches(comparer: &mut Comparer, seed: u64, rounds: u64) -> Compared<()> 
         comparer.begin(format!("batches of seed {seed}, round {round}"));
         let mut random = Random::new(seed.wrapping_mul(1_000_117).wrapping_add(round));
         let random = &mut random;
+        let edition = comparer.edition();
         let leaves = *random.pick(&[1, 3, 8, 20, 60]);
-        let tree = if random.one_in(10) { None } else { Some(random_tree(random, leaves)) };
+        let tree =
+            if random.one_in(10) { None } else { Some(random_tree(edition, random, leaves)) };
         let mut lists = ByKind::default();
         for kind in Kind::ALL {
             lists[kind.number()] = random.below(2);
@@ -45,11 +48,13 @@ pub fn batches(comparer: &mut Comparer, seed: u64, rounds: u64) -> Compared<()> 
         let roomy = Spare { slots: 60, bytes: 8_192 };
         let tight = Spare { slots: 6, bytes: 256 };
         let spare = if random.one_in(5) { tight } else { roomy };
-        let mut held = Held::new(build(random, &tree, &lists, 0, spare).0);
-        let keys: Vec<Vec<u8>> = (0..8).map(|_| aimed(random, &tree).key().to_vec()).collect();
+        let mut held = comparer.held(build(edition, random, &tree, &lists, 0, spare).0);
+        let keys: Vec<Vec<u8>> =
+            (0..8).map(|_| aimed(edition, random, &tree).key().to_vec()).collect();
         for _ in 0..3 {
             let some = random.below(24);
-            let changes: Vec<Change> = (0..some).map(|_| some_change(random, &keys)).collect();
+            let changes: Vec<Change> =
+                (0..some).map(|_| some_change(edition, random, &keys)).collect();
             let gap = if random.one_in(3) { random.from_to(1, 9) } else { 0 };
             let batch = laid(&changes, gap);
             if batch::changes(&batch).as_ref() != Ok(&changes) {
@@ -74,10 +79,10 @@ pub fn batches(comparer: &mut Comparer, seed: u64, rounds: u64) -> Compared<()> 
 }
 
 /// A frame of 1,024 bytes, and batches that are done on it.
-fn small_batches() -> (Vec<u8>, [Vec<Change>; 3]) {
+fn small_batches(edition: Edition) -> (Vec<u8>, [Vec<Change>; 3]) {
     let mut frame = vec![0; SHORTEST_FRAME];
-    assert_eq!(store::format(&mut frame, SHORTEST_FRAME, 20), number::DONE);
-    assert_eq!(store::put(&mut frame, b"a", b"1"), number::DONE);
+    assert_eq!(store::format(edition, &mut frame, SHORTEST_FRAME, 20), number::DONE);
+    assert_eq!(store::put(edition, &mut frame, b"a", b"1"), number::DONE);
     let put = |key: &[u8], value: &[u8]| Change::Put { key: key.into(), value: value.into() };
     let replace =
         |key: &[u8], value: &[u8]| Change::Replace { key: key.into(), value: value.into() };
@@ -94,8 +99,8 @@ fn small_batches() -> (Vec<u8>, [Vec<Change>; 3]) {
 pub fn damaged_batches(comparer: &mut Comparer) -> Compared<()> {
     const FLIPS: [u8; 10] = [1, 2, 4, 8, 16, 32, 64, 128, 3, 255];
     comparer.begin("damaged batches".to_string());
-    let (frame, batches) = small_batches();
-    let held = Held::new(frame);
+    let (frame, batches) = small_batches(comparer.edition());
+    let held = comparer.held(frame);
     let second = vec![0xEE; SHORTEST_FRAME];
     for (changes, gap) in batches.iter().zip([0, 3, 0]) {
         let batch = laid(changes, gap);

@@ -10,11 +10,11 @@ use crate::batch;
 use crate::check::{self, Reading, Rule};
 use crate::decode;
 use crate::image::image;
-use crate::layout::{key_refusal, number::*, Kind, END_BYTE, INFO_NUMBERS};
+use crate::layout::{number::*, Edition, Kind, ESCAPE, INFO_NUMBERS};
 use crate::names::{self, Asked, Page, LENGTH_BYTES};
 use crate::slotless::{bodies, State};
 use crate::store::{self, Found, Records};
-use crate::tally::{Batch, Call, Entry, Listing, Tally};
+use crate::tally::{Batch, Call, Entry, Key, Listing, Tally};
 use crate::touched;
 use crate::trees::Change;
 use std::collections::BTreeSet;
@@ -22,8 +22,9 @@ use std::fmt;
 use std::hint::black_box;
 
 /// The six calls of document 01, info, and those of document 02, as they are
-/// exported.
+/// exported, for the frames of one edition.
 pub trait Calls {
+    fn edition(&self) -> Edition;
     fn format(&self, frame: &mut [u8], f: usize, n: usize) -> u32;
     fn check(&self, frame: &[u8]) -> u32;
     /// All but the number is 0 of a refusal.
@@ -32,7 +33,7 @@ pub trait Calls {
     fn replace(&self, frame: &mut [u8], key: &[u8], value: &[u8]) -> u32;
     fn erase(&self, frame: &mut [u8], key: &[u8]) -> u32;
     fn pack(&self, frame: &[u8], out: &mut [u8]) -> u32;
-    /// A packing that still takes a frame from before Q-3.
+    /// A packing that still takes a frame from before Q-3, which edition 1 alone has.
     fn pack_before(&self, frame: &[u8], out: &mut [u8]) -> u32;
     /// The number, and what is told; all 0 of a refusal.
     fn info(&self, frame: &[u8]) -> (u32, [u64; INFO_NUMBERS]);
@@ -48,38 +49,42 @@ pub trait Calls {
 }
 
 /// The second store itself.
-pub struct Second;
+#[derive(Clone, Copy)]
+pub struct Second(pub Edition);
 
 impl Calls for Second {
+    fn edition(&self) -> Edition {
+        self.0
+    }
     fn format(&self, frame: &mut [u8], f: usize, n: usize) -> u32 {
-        store::format(frame, f, n)
+        store::format(self.0, frame, f, n)
     }
     fn check(&self, frame: &[u8]) -> u32 {
-        check::check(frame)
+        check::check(self.0, frame)
     }
     fn look_up(&self, frame: &[u8], key: &[u8]) -> Found {
-        store::look_up(frame, key)
+        store::look_up(self.0, frame, key)
     }
     fn put(&self, frame: &mut [u8], key: &[u8], value: &[u8]) -> u32 {
-        store::put(frame, key, value)
+        store::put(self.0, frame, key, value)
     }
     fn replace(&self, frame: &mut [u8], key: &[u8], value: &[u8]) -> u32 {
-        store::replace(frame, key, value)
+        store::replace(self.0, frame, key, value)
     }
     fn erase(&self, frame: &mut [u8], key: &[u8]) -> u32 {
-        store::erase(frame, key)
+        store::erase(self.0, frame, key)
     }
     fn pack(&self, frame: &[u8], out: &mut [u8]) -> u32 {
-        store::pack(frame, out)
+        store::pack(self.0, frame, out)
     }
     fn pack_before(&self, frame: &[u8], out: &mut [u8]) -> u32 {
         store::pack_before(frame, out)
     }
     fn info(&self, frame: &[u8]) -> (u32, [u64; INFO_NUMBERS]) {
-        store::info(frame)
+        store::info(self.0, frame)
     }
     fn list(&self, frame: &[u8], asked: &Asked, buffer: &mut [u8]) -> Page {
-        names::list(frame, asked, buffer)
+        names::list(self.0, frame, asked, buffer)
     }
     fn batch(
         &self,
@@ -88,7 +93,7 @@ impl Calls for Second {
         batch: &[u8],
         answers: &mut [u8],
     ) -> (u32, u64) {
-        batch::apply(frame, second, batch, answers)
+        batch::apply(self.0, frame, second, batch, answers)
     }
 }
 
@@ -104,9 +109,10 @@ impl fmt::Display for Difference {
 
 pub type Compared<T> = Result<T, Difference>;
 
-/// A frame with what is known of it.
+/// A frame with what is known of it, as one of an edition.
 #[derive(Clone)]
 pub struct Held {
+    edition: Edition,
     bytes: Vec<u8>,
     /// The model of a good frame, else the refusal that every call gives but the
     /// one that takes the old rule.
@@ -122,23 +128,23 @@ struct OnlyBefore {
 }
 
 impl Held {
-    pub fn new(bytes: Vec<u8>) -> Held {
-        let Some(reading) = check::read(&bytes) else {
-            return Held { bytes, known: Err(LENGTHS), before: None };
+    pub fn new(edition: Edition, bytes: Vec<u8>) -> Held {
+        let Some(reading) = check::read(edition, &bytes) else {
+            return Held { edition, bytes, known: Err(LENGTHS), before: None };
         };
         if reading.good() {
-            let state = decode::state(&bytes, &reading);
+            let state = decode::state(edition, &bytes, &reading);
             return Held::good(bytes, state);
         }
         let before = reading.good_before().then(|| OnlyBefore {
-            state: decode::state(&bytes, &reading),
+            state: decode::state(edition, &bytes, &reading),
             broken: reading.broken.into_keys().collect(),
         });
-        Held { bytes, known: Err(NOT_GOOD), before }
+        Held { edition, bytes, known: Err(NOT_GOOD), before }
     }
 
     fn good(bytes: Vec<u8>, state: State) -> Held {
-        Held { bytes, known: Ok(state), before: None }
+        Held { edition: state.edition, bytes, known: Ok(state), before: None }
     }
 
     pub fn bytes(&self) -> &[u8] {
@@ -163,7 +169,7 @@ impl Held {
     }
 
     fn reading(&self) -> Reading {
-        check::read(&self.bytes).expect("the lengths agree")
+        check::read(self.edition, &self.bytes).expect("the lengths agree")
     }
 }
 
@@ -227,9 +233,19 @@ impl<'a> Comparer<'a> {
         self.calls
     }
 
+    /// Of the frames that the calls are for.
+    pub fn edition(&self) -> Edition {
+        self.calls.edition()
+    }
+
+    /// Bytes, as a frame of this edition or not.
+    pub fn held(&self, bytes: Vec<u8>) -> Held {
+        Held::new(self.edition(), bytes)
+    }
+
     /// Steps are counted from here; a difference names the stage and the step.
     pub fn begin(&mut self, stage: String) {
-        self.stage = stage;
+        self.stage = format!("edition {}, {stage}", self.edition().number());
         self.step = 0;
     }
 
@@ -268,7 +284,7 @@ impl<'a> Comparer<'a> {
         self.step += 1;
         let call = format!("format of {} bytes with F {f}, N {n}", before.len());
         let mut expected = before.to_vec();
-        let number = store::format(&mut expected, f, n);
+        let number = store::format(self.edition(), &mut expected, f, n);
         let mut frame = self.lend(before);
         let given = self.calls.format(frame.part_mut(), f, n);
         self.margins(&call, &mut [&mut frame])?;
@@ -278,11 +294,11 @@ impl<'a> Comparer<'a> {
             self.unchanged(&call, "refused frame", &mut frame, before)?;
             return Ok(None);
         }
-        if expected != image(f, n, &Records::new()) {
+        if expected != image(self.edition(), f, n, &Records::new()) {
             return self.differs(format!("{call}: the two readings of format differ"));
         }
         self.unchanged(&call, "formatted frame as it should be", &mut frame, &expected)?;
-        Ok(Some(Held::good(expected, State::fresh(f, n))))
+        Ok(Some(Held::good(expected, State::fresh(self.edition(), f, n))))
     }
 
     pub fn check(&mut self, held: &Held) -> Compared<()> {
@@ -308,6 +324,35 @@ impl<'a> Comparer<'a> {
         }
     }
 
+    /// The sorts of keys that edition 2 alone has; the frame is the one before the
+    /// call, which is done.
+    fn count_key(&mut self, of: Call, state: &State, key: &[u8]) {
+        if state.edition == Edition::One {
+            return;
+        }
+        let zeros = key.iter().filter(|byte| **byte == 0).count();
+        let longest = key.len() == state.edition.longest_key();
+        let some_zeros = |key: &[u8]| key.iter().all(|byte| *byte == 0);
+        let behind = (1..key.len())
+            .rev()
+            .take_while(|end| some_zeros(&key[*end..]))
+            .any(|end| state.find(&key[..end]).is_ok());
+        let before = || {
+            let with = |more: usize| [key, &vec![0; more]].concat();
+            (1..=2).any(|more| state.find(&with(more)).is_ok())
+        };
+        let cases = [
+            (Key::LongestOfZeros, longest && zeros == key.len()),
+            (Key::LongestWithoutZero, longest && zeros == 0),
+            (Key::ZerosBehindAnother, behind),
+            (Key::BeforeAnother, before()),
+            (Key::Zero255, key.windows(2).any(|two| two == [0, ESCAPE])),
+        ];
+        for (case, _) in cases.into_iter().filter(|(_, holds)| *holds) {
+            self.tally.add(Entry::Key(of, case));
+        }
+    }
+
     /// Gives the slots that were visited.
     pub fn look_up(&mut self, held: &Held, key: &[u8]) -> Compared<u64> {
         self.step += 1;
@@ -317,7 +362,7 @@ impl<'a> Comparer<'a> {
         self.margins(&call, &mut [&mut frame, &mut lent_key])?;
         self.unchanged(&call, "frame", &mut frame, &held.bytes)?;
         self.unchanged(&call, "key", &mut lent_key, key)?;
-        let refused = held.refusal().or(key_refusal(key));
+        let refused = held.refusal().or(self.edition().key_refusal(key));
         let found = match (refused, &held.known) {
             (None, Ok(state)) => Some(state.find(key)),
             _ => None,
@@ -335,12 +380,13 @@ impl<'a> Comparer<'a> {
             (None, Ok(state)) => state.visits(key),
             _ => 0,
         };
-        let expected = store::look_up(&held.bytes, key);
+        let expected = store::look_up(self.edition(), &held.bytes, key);
         if (expected.number, expected.slots) != (number, visits as u64) {
             return self.differs(format!("{call}: the two readings of look-up differ"));
         }
-        // "at most the key's length plus 2 for every good frame"
-        let most = key.len() + 2;
+        // "at most the key's length plus 2 for every good frame", and in edition 2
+        // "restated over the walked length", which is one more than the key's there.
+        let most = self.edition().walked(key).len() + 1;
         self.demand(visits <= most, || format!("{call} visits {visits} slots"))?;
         if let Some(found) = &found {
             let present = found.is_ok();
@@ -349,7 +395,8 @@ impl<'a> Comparer<'a> {
             }
         }
         if let Some(Ok(value)) = found {
-            if store::value(&held.bytes, key) != &*value {
+            self.count_key(Call::LookUp, held.state(), key);
+            if store::value(self.edition(), &held.bytes, key) != &*value {
                 return self.differs(format!("{call}: the two readings of the value differ"));
             }
         }
@@ -417,11 +464,12 @@ impl<'a> Comparer<'a> {
             self.unchanged(&call, "frame left alone", &mut frame, &held.bytes)?;
             return Ok(number);
         };
+        self.count_key(of, held.state(), key);
         let was = held.reading();
         let touched = if replacing {
-            touched::by_replace(&held.bytes, &was, key, value)
+            touched::by_replace(self.edition(), &held.bytes, &was, key, value)
         } else {
-            touched::by_put(&held.bytes, key)
+            touched::by_put(self.edition(), &held.bytes, key)
         };
         let step = Step { of, call: &call, was, touched, predicted: state };
         self.stepped(held, step, frame.seen())?;
@@ -453,14 +501,15 @@ impl<'a> Comparer<'a> {
             self.unchanged(&call, "frame left alone", &mut frame, &held.bytes)?;
             return Ok(number);
         };
+        self.count_key(Call::Erase, held.state(), key);
         if state.r == 0 {
-            let formatted = image(state.f, state.n, &Records::new());
+            let formatted = image(state.edition, state.f, state.n, &Records::new());
             self.unchanged(&call, "frame as format leaves it", &mut frame, &formatted)?;
             *held = Held::good(formatted, state);
             return Ok(number);
         }
         let was = held.reading();
-        let touched = touched::by_erase(&held.bytes, &was, key);
+        let touched = touched::by_erase(self.edition(), &held.bytes, &was, key);
         let step = Step { of: Call::Erase, call: &call, was, touched, predicted: state };
         self.stepped(held, step, frame.seen())?;
         Ok(number)
@@ -469,13 +518,13 @@ impl<'a> Comparer<'a> {
     /// The frame after a put, a replacement or an erase that was done.
     fn stepped(&mut self, held: &mut Held, step: Step, after: &[u8]) -> Compared<()> {
         let Step { of, call, was, touched, predicted } = step;
-        let Some(is) = check::read(after) else {
+        let Some(is) = check::read(self.edition(), after) else {
             return self.differs(format!("{call} spoilt the frame's length"));
         };
         if !is.good() {
             return self.differs(format!("{call} left no good frame: {:?}", is.broken));
         }
-        let found = decode::state(after, &is);
+        let found = decode::state(self.edition(), after, &is);
         if found != predicted {
             let what = differing(&found, &predicted);
             return self.differs(format!("{call} left another frame: {what}"));
@@ -507,9 +556,13 @@ impl<'a> Comparer<'a> {
         self.packing(Call::Pack, held, out_before)
     }
 
-    /// The same by the old rule.
+    /// The same by the old rule; in edition 2 there are no frames from before, and
+    /// so no such call.
     pub fn pack_before(&mut self, held: &Held, out_before: &[u8]) -> Compared<Option<Held>> {
-        self.packing(Call::PackBefore, held, out_before)
+        match self.edition() {
+            Edition::One => self.packing(Call::PackBefore, held, out_before),
+            Edition::Two => Ok(None),
+        }
     }
 
     fn packing(&mut self, of: Call, held: &Held, out_before: &[u8]) -> Compared<Option<Held>> {
@@ -536,9 +589,9 @@ impl<'a> Comparer<'a> {
             self.unchanged(&call, "refused output", &mut out, out_before)?;
             return Ok(None);
         };
-        let expected = image(state.f, state.n, &state.records());
+        let expected = image(state.edition, state.f, state.n, &state.records());
         self.unchanged(&call, "output as it should be", &mut out, &expected)?;
-        let packed = Held::new(expected);
+        let packed = self.held(expected);
         if packed.refusal().is_some() || packed.state().records() != state.records() {
             return self.differs(format!("{call}: the image does not read back"));
         }
@@ -565,7 +618,7 @@ impl<'a> Comparer<'a> {
             let listed = Kind::ALL.into_iter().filter(|kind| state.list_lengths[kind.number()] > 0);
             listed.for_each(|kind| self.tally.add(Entry::Listed(kind)));
         }
-        if store::info(&held.bytes) != (number, expected) {
+        if store::info(self.edition(), &held.bytes) != (number, expected) {
             return self.differs(format!("{call}: the two readings of info differ"));
         }
         self.same_number(&call, given, number)?;
@@ -602,7 +655,8 @@ impl<'a> Comparer<'a> {
         self.unchanged(&call, "frame", &mut frame, &held.bytes)?;
         self.unchanged(&call, "prefix", &mut lent_prefix, prefix)?;
         self.unchanged(&call, "start key", &mut lent_start, asked.start.unwrap_or_default())?;
-        let expected = match (held.refusal().or(asked.refusal()), &held.known) {
+        let refused = held.refusal().or(asked.refusal(self.edition()));
+        let expected = match (refused, &held.known) {
             (None, Ok(state)) => {
                 let expected = Expected::of(state, asked, room);
                 for case in expected.cases(state, asked, room) {
@@ -620,7 +674,8 @@ impl<'a> Comparer<'a> {
         let text = expected.text();
         after[..text.len()].copy_from_slice(&text);
         let mut again = buffer.to_vec();
-        if (names::list(&held.bytes, asked, &mut again), &again) != (expected.page, &after) {
+        let page = names::list(self.edition(), &held.bytes, asked, &mut again);
+        if (page, &again) != (expected.page, &after) {
             return self.differs(format!("{call}: the two readings of a listing differ"));
         }
         let page = expected.page;
@@ -676,7 +731,7 @@ impl<'a> Comparer<'a> {
             self.unchanged(&call, "second frame", &mut lent_second, second)?;
             return Ok(expected);
         };
-        let worked = Held::new(lent_second.seen().to_vec());
+        let worked = self.held(lent_second.seen().to_vec());
         match &worked.known {
             Err(refused) => {
                 let what = format!("{call} left a second frame that is refused with {refused}");
@@ -879,7 +934,7 @@ impl Expected {
             ),
             (Listing::EndsWithGroup, last_group && self.left.is_empty()),
             (Listing::PrefixIsKey, keys.iter().any(|key| key == asked.prefix)),
-            (Listing::ZeroInPrefix, asked.prefix.contains(&END_BYTE)),
+            (Listing::ZeroInPrefix, asked.prefix.contains(&0)),
             (
                 Listing::DelimiterInPrefix,
                 !none && asked.delimiter.is_some_and(|byte| asked.prefix.contains(&byte)),
@@ -894,6 +949,23 @@ impl Expected {
             (
                 Listing::StartAbovePrefix,
                 started(&|start| outside(start) && start > asked.prefix) && !matching.is_empty(),
+            ),
+            (
+                Listing::ZeroInEntry,
+                self.written.iter().any(|entry| entry[..entry.len() - 1].contains(&0)),
+            ),
+            (
+                Listing::ZeroBehindEntry,
+                self.written.windows(2).any(|two| two[1] == [&two[0][..], &[0]].concat()),
+            ),
+            (
+                Listing::GroupByZero,
+                asked.delimiter == Some(0)
+                    && self.written.iter().any(|entry| stands_for(entry) > 1),
+            ),
+            (
+                Listing::ZeroInStart,
+                started(&|start| start.contains(&0) && matching.iter().any(|key| ***key < *start)),
             ),
         ];
         holds.into_iter().filter(|(_, holds)| *holds).map(|(case, _)| case).collect()

@@ -26,6 +26,7 @@ enum Part {
 /// even and not too small), at least `dead` bytes of dead extents (more if F
 /// would be too small) and exactly this spare room.
 pub fn build(
+    edition: Edition,
     random: &mut Random,
     tree: &Option<Rc<Tree>>,
     lists: &ByKind,
@@ -57,7 +58,7 @@ pub fn build(
     let b = d + body_sizes + extent_sizes + x;
     let f = b + spare.bytes;
     assert!(frame_length_allowed(f), "no frame has {f} bytes");
-    let state = State { f, n, b, u, r: records, x, list_lengths, tree: tree.clone() };
+    let state = State { edition, f, n, b, u, r: records, x, list_lengths, tree: tree.clone() };
     let frame = Builder::new(random, &state).finish(random);
     (frame, state)
 }
@@ -101,7 +102,8 @@ impl<'a> Builder<'a> {
     fn finish(mut self, random: &mut Random) -> Vec<u8> {
         let state = self.state;
         let d = data_start(state.n);
-        let fields = [EDITION as usize, state.f, state.n, d, state.b, state.u, state.r, state.x];
+        let fields =
+            [state.edition.number(), state.f, state.n, d, state.b, state.u, state.r, state.x];
         let places = [AT_EDITION, AT_F, AT_N, AT_D, AT_B, AT_U, AT_R, AT_X];
         for (place, field) in places.into_iter().zip(fields) {
             set32(&mut self.frame, place, field);
@@ -144,11 +146,14 @@ impl<'a> Builder<'a> {
             return;
         };
         tree.each(&mut |node| {
-            let slot = self.give(node.kind());
-            if let Tree::Leaf { key, value } = node {
-                self.parts.push(Part::Extent { slot, size: extent_bytes(key.len(), value.len()) });
+            for _ in 0..node.bodies() {
+                let slot = self.give(node.kind());
+                if let Tree::Leaf { key, value } = node {
+                    let size = extent_bytes(key.len(), value.len());
+                    self.parts.push(Part::Extent { slot, size });
+                }
+                live.push(slot);
             }
-            live.push(slot);
         });
     }
 
@@ -211,10 +216,22 @@ impl<'a> Builder<'a> {
                 self.frame[extent + key.len()..][..value.len()].copy_from_slice(value);
             }
             Tree::Prefix { bytes, below } => {
+                // A chain: all full but the last, which has the tree below.
+                let mut pieces = bytes.chunks(LONGEST_PREFIX);
+                let mut body = body;
+                loop {
+                    let piece = pieces.next().expect("as many pieces as bodies");
+                    set16(&mut self.frame, body + PREFIX_LENGTH, piece.len());
+                    self.frame[body + PREFIX_BYTES.start..][..piece.len()].copy_from_slice(piece);
+                    if pieces.len() == 0 {
+                        break;
+                    }
+                    let (next, next_body) = self.live_body(live.next(), kind);
+                    set32(&mut self.frame, body + PREFIX_CHILD, next);
+                    body = next_body;
+                }
                 let child = self.write(below, live);
                 set32(&mut self.frame, body + PREFIX_CHILD, child);
-                set16(&mut self.frame, body + PREFIX_LENGTH, bytes.len());
-                self.frame[body + PREFIX_BYTES.start..][..bytes.len()].copy_from_slice(bytes);
             }
             Tree::Inner { children, places, .. } => {
                 set16(&mut self.frame, body + INNER_COUNT, children.len());

@@ -1,4 +1,5 @@
-//! Named damages, each aimed at one rule of "A good frame".
+//! Named damages of frames of either edition, each aimed at one rule of "A good
+//! frame".
 //!
 //! Believed here: for each damage, the number every call must give, the rule
 //! it breaks, and mostly that it breaks no other. A damage that breaks one
@@ -12,7 +13,9 @@ use crate::crafted::{build, Spare};
 use crate::layout::*;
 use crate::random::Random;
 use crate::slotless::{inner, ByKind, Tree};
-use crate::store::{self, body_at, release, take, write_inner, write_prefix};
+use crate::store::{
+    self, body_at, children, release, take, write_chain, write_inner, write_prefix, Chain,
+};
 use crate::unused::soiled;
 use std::collections::BTreeMap;
 use std::ops::Range;
@@ -44,14 +47,27 @@ impl Damage {
     }
 }
 
-const LONG_VALUE: usize = 150;
 const DEAD: usize = 200;
-const SPARE: Spare = Spare { slots: 4, bytes: 512 };
 const LAYOUT_SEED: u64 = 20;
 /// The largest number of two and of four bytes.
 const MOST_16: usize = u16::MAX as usize;
 const MOST_32: usize = u32::MAX as usize;
 const MOST_UNITS: usize = OFFSET_MASK as usize;
+
+/// A value that a key which is too long can be made of.
+fn long_value(edition: Edition) -> usize {
+    match edition {
+        Edition::One => 150,
+        Edition::Two => 300,
+    }
+}
+
+fn spare(edition: Edition) -> Spare {
+    match edition {
+        Edition::One => Spare { slots: 4, bytes: 512 },
+        Edition::Two => Spare { slots: 10, bytes: 2_048 },
+    }
+}
 
 fn leaf(key: &[u8], value: &[u8]) -> Rc<Tree> {
     Rc::new(Tree::Leaf { key: key.into(), value: value.into() })
@@ -69,35 +85,71 @@ fn leaves(kind: Kind, path: &[u8], bytes: impl IntoIterator<Item = u8>) -> Rc<Tr
     Rc::new(inner(kind, children))
 }
 
+/// In edition 2, under "g": a shared beginning that two full Prefixes and one of
+/// one byte take. A byte 0 of the keys ends the second, with the 255 behind it.
+const CHAIN: [u8; 225] = {
+    let mut bytes = [b'u'; 225];
+    bytes[222] = 0;
+    bytes[223] = ESCAPE;
+    bytes
+};
+
+/// The keys below it.
+fn chained_key(last: u8) -> Vec<u8> {
+    let key =
+        |part: &[u8]| part.iter().copied().filter(|byte| *byte != ESCAPE).collect::<Vec<u8>>();
+    [b"g", &key(&CHAIN)[..], &[last]].concat()
+}
+
 /// All kinds, live and freed: Node16 at the root and under "h", a Prefix over
 /// a Node4 under "b", Node48 under "c", Node256 under "d", Node4 under "e".
-fn full_tree() -> Rc<Tree> {
+fn full_tree(edition: Edition) -> Rc<Tree> {
     let below = leaves(Kind::Node4, b"bxyz", [END_BYTE, b'm']);
-    let children = BTreeMap::from([
+    let mut children = BTreeMap::from([
         (b'a', leaf(b"apple", b"red")),
         (b'b', Rc::new(Tree::Prefix { bytes: b"xyz".to_vec(), below })),
         (b'c', leaves(Kind::Node48, b"c", [END_BYTE].into_iter().chain(b'A'..=b'L'))),
         (b'd', leaves(Kind::Node256, b"d", [END_BYTE].into_iter().chain(100..=136))),
         (b'e', leaves(Kind::Node4, b"e", [END_BYTE, b'a', b'b'])),
-        (b'f', leaf(b"f", &[b'v'; LONG_VALUE])),
+        (b'f', leaf(b"f", &vec![b'v'; long_value(edition)])),
         (b'h', leaves(Kind::Node16, b"h", [END_BYTE, b'a', b'b', b'c'])),
     ]);
+    if edition == Edition::Two {
+        let ends = [b'a', b'b'].map(|byte| (byte, leaf(&chained_key(byte), b"v")));
+        let below = Rc::new(inner(Kind::Node4, BTreeMap::from(ends)));
+        children.insert(b'g', Rc::new(Tree::Prefix { bytes: CHAIN.to_vec(), below }));
+    }
     Rc::new(inner(Kind::Node16, children))
 }
 
 /// A frame under the knife.
 struct Specimen {
+    edition: Edition,
     bytes: Vec<u8>,
 }
 
 impl Specimen {
-    fn of(tree: Option<Rc<Tree>>) -> Specimen {
+    fn of(edition: Edition, tree: Option<Rc<Tree>>) -> Specimen {
         let mut lists = ByKind::default();
         for kind in Kind::ALL {
             lists[kind.number()] = 2;
         }
-        let (bytes, _) = build(&mut Random::new(LAYOUT_SEED), &tree, &lists, DEAD, SPARE);
-        Specimen { bytes }
+        let random = &mut Random::new(LAYOUT_SEED);
+        let (bytes, _) = build(edition, random, &tree, &lists, DEAD, spare(edition));
+        Specimen { edition, bytes }
+    }
+
+    /// Not yet formatted.
+    fn blank(edition: Edition, length: usize) -> Specimen {
+        Specimen { edition, bytes: vec![0; length] }
+    }
+
+    fn reading(&self) -> check::Reading {
+        check::read(self.edition, &self.bytes).expect("the lengths agree")
+    }
+
+    fn walked(&self, key: &[u8]) -> Vec<u8> {
+        self.edition.walked(key)
     }
 
     fn get(&self, at: usize) -> usize {
@@ -118,7 +170,7 @@ impl Specimen {
 
     /// The lowest node of this kind on the way to a key.
     fn node(&self, key: &[u8], kind: Kind) -> usize {
-        let steps = store::walk(&self.bytes, &walked(key));
+        let steps = store::walk(&self.bytes, &self.walked(key));
         steps.iter().rfind(|step| step.kind == kind).expect("such a node is on the way").slot
     }
 
@@ -127,7 +179,7 @@ impl Specimen {
     }
 
     fn list(&self, kind: Kind) -> Vec<usize> {
-        check::read(&self.bytes).expect("the lengths agree").lists[kind.number()].clone()
+        self.reading().lists[kind.number()].clone()
     }
 
     fn set_head(&mut self, kind_number: usize, slot: usize) {
@@ -161,7 +213,7 @@ impl Specimen {
 
     /// Takes a Leaf out, and lets its parent stand as it is.
     fn take_out(&mut self, key: &[u8]) {
-        let string = walked(key);
+        let string = self.walked(key);
         let steps = store::walk(&self.bytes, &string);
         let [.., parent, leaf] = &steps[..] else {
             panic!("a Leaf under an inner node");
@@ -173,7 +225,7 @@ impl Specimen {
 
     /// The place in the frame of the field that leads to this key's Leaf.
     fn field_to(&self, key: &[u8]) -> usize {
-        let steps = store::walk(&self.bytes, &walked(key));
+        let steps = store::walk(&self.bytes, &self.walked(key));
         match steps[steps.len() - 1].link {
             store::Link::Child(at) => at,
             store::Link::Root => AT_ROOT,
@@ -191,16 +243,39 @@ impl Specimen {
 
     /// A formatted frame with so many bodies given out, the first the root.
     fn chain(&mut self, kind: Kind, bodies: usize) -> Vec<usize> {
-        store::format(&mut self.bytes, LONGEST_FRAME, MOST_SLOTS);
+        store::format(self.edition, &mut self.bytes, LONGEST_FRAME, MOST_SLOTS);
         release(&mut self.bytes, 1, Kind::EmptyRoot);
         let slots: Vec<usize> = (0..bodies).map(|_| take(&mut self.bytes, kind)).collect();
         set16(&mut self.bytes, AT_ROOT, slots[0]);
         slots
     }
 
+    /// The first Prefix of the chain under "g".
+    fn chain_top(&self) -> usize {
+        let steps = store::walk(&self.bytes, &self.walked(&chained_key(b'a')));
+        steps.iter().find(|step| step.kind == Kind::Prefix).expect("a chain is on the way").slot
+    }
+
+    /// The keys below that chain without the byte that its last Prefix has.
+    fn shorten_chained_keys(&mut self) {
+        for last in [b'a', b'b'] {
+            let node = store::chain(&self.bytes, self.chain_top()).below;
+            let (_, slot) = children(&self.bytes, node)
+                .into_iter()
+                .find(|(byte, _)| *byte == last)
+                .expect("a Leaf for each");
+            let old = chained_key(last);
+            let key = [&old[..old.len() - 2], &[last]].concat();
+            let fields = store::leaf_fields(&self.bytes, slot);
+            store::retire(&mut self.bytes, &fields);
+            let extent = store::write_extent(&mut self.bytes, &key, b"v");
+            store::write_leaf(&mut self.bytes, slot, extent, key.len(), 1);
+        }
+    }
+
     /// A dead part of so many bytes.
     fn dead_part(&self, size: usize) -> Range<usize> {
-        let reading = check::read(&self.bytes).expect("the lengths agree");
+        let reading = self.reading();
         let mut used: Vec<Range<usize>> = reading.extents.values().cloned().collect();
         let mut body = |slot: usize, kind: Kind| {
             let at = body_at(&self.bytes, slot);
@@ -222,6 +297,7 @@ impl Specimen {
 type Figure = fn(&Specimen) -> usize;
 
 struct Workshop {
+    edition: Edition,
     full_frame: Vec<u8>,
     empty_frame: Vec<u8>,
     damages: Vec<Damage>,
@@ -234,33 +310,37 @@ impl Workshop {
 
     /// A damage of the frame with all kinds.
     fn full(&mut self, aim: Aim, name: &str, hurt: impl FnOnce(&mut Specimen)) {
-        let mut specimen = Specimen { bytes: self.full_frame.clone() };
+        let mut specimen = Specimen { edition: self.edition, bytes: self.full_frame.clone() };
         hurt(&mut specimen);
         self.damage(aim, name, specimen);
     }
 
     /// A damage of the frame without records.
     fn empty(&mut self, aim: Aim, name: &str, hurt: impl FnOnce(&mut Specimen)) {
-        let mut specimen = Specimen { bytes: self.empty_frame.clone() };
+        let mut specimen = Specimen { edition: self.edition, bytes: self.empty_frame.clone() };
         hurt(&mut specimen);
         self.damage(aim, name, specimen);
     }
 }
 
 /// The frames that the damages start from; both are good.
-pub fn undamaged() -> [Vec<u8>; 2] {
-    [Specimen::of(Some(full_tree())).bytes, Specimen::of(None).bytes]
+pub fn undamaged(edition: Edition) -> [Vec<u8>; 2] {
+    [Some(full_tree(edition)), None].map(|tree| Specimen::of(edition, tree).bytes)
 }
 
-/// All damages, made once.
-pub fn all() -> &'static [Damage] {
-    static ALL: OnceLock<Vec<Damage>> = OnceLock::new();
-    ALL.get_or_init(make_all)
+/// All damages of frames of an edition, made once.
+pub fn all(edition: Edition) -> &'static [Damage] {
+    static ALL: [OnceLock<Vec<Damage>>; 2] = [OnceLock::new(), OnceLock::new()];
+    let made = match edition {
+        Edition::One => &ALL[0],
+        Edition::Two => &ALL[1],
+    };
+    made.get_or_init(|| make_all(edition))
 }
 
-fn make_all() -> Vec<Damage> {
-    let [full_frame, empty_frame] = undamaged();
-    let mut shop = Workshop { full_frame, empty_frame, damages: Vec::new() };
+fn make_all(edition: Edition) -> Vec<Damage> {
+    let [full_frame, empty_frame] = undamaged(edition);
+    let mut shop = Workshop { edition, full_frame, empty_frame, damages: Vec::new() };
     lengths(&mut shop);
     header(&mut shop);
     lists(&mut shop);
@@ -268,8 +348,11 @@ fn make_all() -> Vec<Damage> {
     places(&mut shop);
     inner_nodes(&mut shop);
     zeros(&mut shop);
-    prefixes(&mut shop);
+    single_prefixes(&mut shop);
     leaf_keys(&mut shop);
+    if edition == Edition::Two {
+        chains(&mut shop);
+    }
     records(&mut shop);
     unwiped(&mut shop);
     shop.damages
@@ -309,7 +392,8 @@ fn lengths(shop: &mut Workshop) {
 }
 
 fn header(shop: &mut Workshop) {
-    for edition in [0, 2, 257, (1 << 24) + 1, MOST_32] {
+    let (right, other) = (shop.edition.number(), shop.edition.other().number());
+    for edition in [0, other, 3, 256 + right, (1 << 24) + right, MOST_32] {
         let name = format!("edition {edition}");
         shop.full(Aim::Alone(Rule::Edition), &name, |s| s.set(AT_EDITION, edition));
     }
@@ -440,8 +524,8 @@ fn lists(shop: &mut Workshop) {
         s.set_high_bits(end, live);
     });
     // The root's kind reads as a link to slot 8, which heads the rest of list 8.
-    let mut specimen = Specimen { bytes: vec![0; SHORTEST_FRAME] };
-    store::format(&mut specimen.bytes, SHORTEST_FRAME, FEWEST_SLOTS);
+    let mut specimen = Specimen::blank(shop.edition, SHORTEST_FRAME);
+    store::format(shop.edition, &mut specimen.bytes, SHORTEST_FRAME, FEWEST_SLOTS);
     let freed: Vec<usize> =
         (2..=FEWEST_SLOTS).map(|_| take(&mut specimen.bytes, Kind::EmptyRoot)).collect();
     for slot in freed {
@@ -820,7 +904,7 @@ fn zeros(shop: &mut Workshop) {
     }
 }
 
-fn prefixes(shop: &mut Workshop) {
+fn single_prefixes(shop: &mut Workshop) {
     shop.full(Aim::Alone(Rule::PrefixLength), "a Prefix of no byte", |s| {
         let root = s.body(b"apple", Kind::Node16);
         let index = (0..s.get(root + INNER_COUNT) & MOST_16)
@@ -838,7 +922,7 @@ fn prefixes(shop: &mut Workshop) {
             set16(&mut s.bytes, body + PREFIX_LENGTH, length);
         });
     }
-    let mut specimen = Specimen { bytes: vec![0; LONGEST_FRAME] };
+    let mut specimen = Specimen::blank(shop.edition, LONGEST_FRAME);
     let chain = specimen.chain(Kind::Prefix, 3_000);
     for pair in chain.windows(2) {
         // As a Prefix of one byte; then without it.
@@ -848,13 +932,13 @@ fn prefixes(shop: &mut Workshop) {
         specimen.bytes[body + PREFIX_BYTES.start] = 0;
     }
     shop.damage(Aim::Among(Rule::PrefixLength), "thousands of Prefixes of no byte", specimen);
-    let mut specimen = Specimen { bytes: vec![0; LONGEST_FRAME] };
+    let mut specimen = Specimen::blank(shop.edition, LONGEST_FRAME);
     let chain = specimen.chain(Kind::Prefix, 3_000);
     for pair in chain.windows(2) {
         write_prefix(&mut specimen.bytes, pair[0], b"-", pair[1]);
     }
     shop.damage(Aim::Among(Rule::PrefixChild), "thousands of Prefixes in a row", specimen);
-    let mut specimen = Specimen { bytes: vec![0; LONGEST_FRAME] };
+    let mut specimen = Specimen::blank(shop.edition, LONGEST_FRAME);
     let chain = specimen.chain(Kind::Node4, 10_000);
     for three in chain.windows(3) {
         write_inner(&mut specimen.bytes, three[0], &[(1, three[1]), (2, three[2])]);
@@ -903,8 +987,10 @@ fn leaf_keys(shop: &mut Workshop) {
     };
     let rule = Aim::Alone(Rule::KeyLength);
     shop.full(rule, "a key of no byte", relength(b"f", 0));
-    shop.full(rule, "a key of 113 bytes", relength(b"f", 113));
-    shop.full(rule, "a key of 151 bytes", relength(b"f", LONG_VALUE + 1));
+    let most = shop.edition.longest_key();
+    for length in [most + 1, long_value(shop.edition) + 1] {
+        shop.full(rule, &format!("a key of {length} bytes"), relength(b"f", length));
+    }
     shop.full(Aim::Among(Rule::KeyLength), "a key of 65,535 bytes", |s| {
         let leaf = s.body(b"f", Kind::Leaf);
         set16(&mut s.bytes, leaf + LEAF_KEY_LENGTH, MOST_16);
@@ -915,10 +1001,16 @@ fn leaf_keys(shop: &mut Workshop) {
             s.bytes[extent + place] = byte;
         }
     };
-    let rule = Aim::Alone(Rule::KeyZero);
-    shop.full(rule, "a byte 0 within a key", set_byte(b"apple", 2, 0));
-    shop.full(rule, "a byte 0 at a key's end", set_byte(b"apple", 4, 0));
-    shop.full(Aim::Among(Rule::KeyZero), "a byte 0 at a key's start", set_byte(b"apple", 0, 0));
+    let at_start = match shop.edition {
+        Edition::One => Aim::Among(Rule::KeyZero),
+        Edition::Two => Aim::Alone(Rule::Path),
+    };
+    shop.full(at_start, "a byte 0 at a key's start", set_byte(b"apple", 0, 0));
+    if shop.edition == Edition::One {
+        let rule = Aim::Alone(Rule::KeyZero);
+        shop.full(rule, "a byte 0 within a key", set_byte(b"apple", 2, 0));
+        shop.full(rule, "a byte 0 at a key's end", set_byte(b"apple", 4, 0));
+    }
     let rule = Aim::Alone(Rule::Path);
     shop.full(rule, "another first byte in a key", set_byte(b"apple", 0, b'b'));
     shop.full(rule, "another byte where the Prefix stands", set_byte(b"bxyzm", 2, b'Y'));
@@ -960,7 +1052,12 @@ fn leaf_keys(shop: &mut Workshop) {
         let field = s.field_to(b"apple");
         let node = take(&mut s.bytes, Kind::Node4);
         let slots = [s.get(field), take(&mut s.bytes, Kind::Leaf)];
-        let key = [&b"apple"[..], &[b'x'; LONGEST_KEY - 5]].concat();
+        // As long as a walked string that begins with "a" can be.
+        let most = s.edition.longest_key();
+        let key = match s.edition {
+            Edition::One => [&b"apple"[..], &vec![b'x'; most - 5]].concat(),
+            Edition::Two => [&b"a"[..], &vec![0; most - 1]].concat(),
+        };
         let fields = store::leaf_fields(&s.bytes, slots[0]);
         store::retire(&mut s.bytes, &fields);
         for slot in slots {
@@ -968,10 +1065,135 @@ fn leaf_keys(shop: &mut Workshop) {
             store::write_leaf(&mut s.bytes, slot, extent, key.len(), 0);
         }
         write_inner(&mut s.bytes, node, &[(1, slots[0]), (2, slots[1])]);
-        s.set(field, node);
-        s.insert_prefix(field, &key[1..]);
+        let path = s.walked(&key)[1..].to_vec();
+        let ended = path.len() - usize::from(s.edition == Edition::One);
+        let bodies: Vec<usize> =
+            (0..prefixes(ended)).map(|_| take(&mut s.bytes, Kind::Prefix)).collect();
+        let top = write_chain(&mut s.bytes, &bodies, &path[..ended], node);
+        s.set(field, top);
         s.add(AT_R, 1);
     });
+}
+
+/// Chains of Prefixes, in edition 2.
+fn chains(shop: &mut Workshop) {
+    /// Cuts the shared beginning into other pieces, in more bodies if it takes them.
+    fn pieces(s: &mut Specimen, lengths: &[usize]) {
+        let Chain { mut slots, bytes, below } = store::chain(&s.bytes, s.chain_top());
+        while slots.len() < lengths.len() {
+            slots.push(take(&mut s.bytes, Kind::Prefix));
+        }
+        assert_eq!(lengths.iter().sum::<usize>(), bytes.len(), "the same bytes");
+        let (mut end, mut below) = (bytes.len(), below);
+        for (slot, length) in slots.into_iter().zip(lengths).rev() {
+            write_prefix(&mut s.bytes, slot, &bytes[end - length..end], below);
+            (end, below) = (end - length, slot);
+        }
+    }
+    let rule = Aim::Alone(Rule::PrefixChild);
+    for lengths in [
+        &[111, 112, 2][..],
+        &[112, 111, 2],
+        &[1, 112, 112],
+        &[112, 1, 112],
+        &[56, 57, 112],
+        &[112, 111, 1, 1],
+        &[111, 1, 112, 1],
+        &[110, 1, 1, 112, 1],
+    ] {
+        let name = format!("a chain of Prefixes of {lengths:?} bytes");
+        shop.full(rule, &name, |s| pieces(s, lengths));
+    }
+    shop.full(rule, "two full Prefixes over a Leaf", |s| {
+        let field = s.field_to(b"apple");
+        let (first, key) = (s.get(field), [&b"apple"[..], &[b'p'; 230]].concat());
+        let fields = store::leaf_fields(&s.bytes, first);
+        store::retire(&mut s.bytes, &fields);
+        let extent = store::write_extent(&mut s.bytes, &key, b"");
+        store::write_leaf(&mut s.bytes, first, extent, key.len(), 0);
+        let bodies = [take(&mut s.bytes, Kind::Prefix), take(&mut s.bytes, Kind::Prefix)];
+        let top = write_chain(&mut s.bytes, &bodies, &key[1..1 + 2 * LONGEST_PREFIX], first);
+        s.set(field, top);
+    });
+    shop.full(Aim::Alone(Rule::PrefixLength), "a chain that ends in a Prefix of no byte", |s| {
+        let Chain { slots, .. } = store::chain(&s.bytes, s.chain_top());
+        let last = slots[slots.len() - 1];
+        // The byte that it had goes into the keys no longer: both lose it.
+        let body = body_at(&s.bytes, last);
+        set16(&mut s.bytes, body + PREFIX_LENGTH, 0);
+        s.bytes[body + PREFIX_BYTES.start] = 0;
+        s.shorten_chained_keys();
+    });
+    shop.full(Aim::Among(Rule::PrefixChild), "a full Prefix over an EmptyRoot", |s| {
+        let Chain { slots, .. } = store::chain(&s.bytes, s.chain_top());
+        let root = take(&mut s.bytes, Kind::EmptyRoot);
+        let body = body_at(&s.bytes, slots[1]);
+        s.set(body + PREFIX_CHILD, root);
+    });
+    for (what, to) in [("itself", 1), ("the one above", 0)] {
+        let name = format!("a full Prefix over {what}");
+        shop.full(Aim::Among(Rule::ReachedOnce), &name, |s| {
+            let Chain { slots, .. } = store::chain(&s.bytes, s.chain_top());
+            let body = body_at(&s.bytes, slots[1]);
+            s.set(body + PREFIX_CHILD, slots[to]);
+        });
+    }
+    shop.full(Aim::Among(Rule::ReachedOnce), "a child that is a Prefix within a chain", |s| {
+        let field = s.field_to(b"eb");
+        s.free_leaf(b"eb");
+        let Chain { slots, .. } = store::chain(&s.bytes, s.chain_top());
+        s.set(field, slots[1]);
+    });
+    let rule = Aim::Alone(Rule::Path);
+    for (what, place, at) in [
+        ("first byte of its first", 0, 0),
+        ("last byte of its first", 0, 111),
+        ("first byte of its second", 1, 0),
+        ("byte 0 in its second", 1, 110),
+        ("byte 255 behind a byte 0 in its second", 1, 111),
+        ("byte of its last", 2, 0),
+    ] {
+        let name = format!("a chain with another {what} Prefix");
+        shop.full(rule, &name, |s| {
+            let Chain { slots, .. } = store::chain(&s.bytes, s.chain_top());
+            let body = body_at(&s.bytes, slots[place]);
+            s.bytes[body + PREFIX_BYTES.start + at] ^= 1;
+        });
+    }
+    shop.full(rule, "a chain without the byte 255 behind a byte 0", |s| {
+        let Chain { slots, bytes, below } = store::chain(&s.bytes, s.chain_top());
+        let bytes: Vec<u8> = bytes.into_iter().filter(|byte| *byte != ESCAPE).collect();
+        release(&mut s.bytes, slots[2], Kind::Prefix);
+        write_chain(&mut s.bytes, &slots[..2], &bytes, below);
+    });
+    shop.full(rule, "a chain with two of its Prefixes exchanged", |s| {
+        let Chain { slots, bytes, below } = store::chain(&s.bytes, s.chain_top());
+        let (first, rest) = bytes.split_at(LONGEST_PREFIX);
+        let (second, last) = rest.split_at(LONGEST_PREFIX);
+        write_chain(&mut s.bytes, &slots, &[second, first, last].concat(), below);
+    });
+    shop.full(rule, "a chain one Prefix short", |s| {
+        let Chain { slots, bytes, below } = store::chain(&s.bytes, s.chain_top());
+        release(&mut s.bytes, slots[2], Kind::Prefix);
+        write_chain(&mut s.bytes, &slots[..2], &bytes[..2 * LONGEST_PREFIX], below);
+    });
+    // A path through a byte 0 that is neither a key's nor its end.
+    shop.full(rule, "a key that goes on behind a byte 0 as if it were no other", |s| {
+        let field = s.field_to(b"e");
+        let (first, second) = (s.get(field), take(&mut s.bytes, Kind::Leaf));
+        let extent = store::write_extent(&mut s.bytes, b"e\0a", b"");
+        store::write_leaf(&mut s.bytes, second, extent, 3, 0);
+        let node = take(&mut s.bytes, Kind::Node4);
+        write_inner(&mut s.bytes, node, &[(0, first), (b'a', second)]);
+        s.set(field, node);
+        s.add(AT_R, 1);
+    });
+    let mut specimen = Specimen::blank(shop.edition, LONGEST_FRAME);
+    let row = specimen.chain(Kind::Prefix, 3_000);
+    for pair in row.windows(2) {
+        write_prefix(&mut specimen.bytes, pair[0], &[b'-'; LONGEST_PREFIX], pair[1]);
+    }
+    shop.damage(Aim::Among(Rule::Path), "thousands of full Prefixes in a row", specimen);
 }
 
 fn records(shop: &mut Workshop) {
@@ -1024,7 +1246,7 @@ fn unwiped(shop: &mut Workshop) {
     shop.full(rule, "a Leaf taken out, and its extent left as it was", |s| {
         let extent = store::leaf_fields(&s.bytes, s.node(b"hc", Kind::Leaf)).bytes();
         let left = s.bytes[extent.clone()].to_vec();
-        store::erase(&mut s.bytes, b"hc");
+        store::erase(s.edition, &mut s.bytes, b"hc");
         s.bytes[extent].copy_from_slice(&left);
     });
     shop.full(rule, "the last unit before B dead and not zero", |s| {
@@ -1049,14 +1271,14 @@ fn unwiped(shop: &mut Workshop) {
         shop.empty(rule, &format!("the byte {what} set, all freed"), set);
     }
     shop.full(Aim::Among(Rule::DeadExtent), "nothing wiped that was freed", |s| {
-        let reading = check::read(&s.bytes).expect("the lengths agree");
+        let reading = s.reading();
         s.bytes = soiled(&mut Random::new(LAYOUT_SEED), &s.bytes, &reading, &Rule::WIPED);
     });
     shop.full(
         Aim::Among(Rule::DeadExtent),
         "a freed body and a dead extent not zero, R wrong",
         |s| {
-            let reading = check::read(&s.bytes).expect("the lengths agree");
+            let reading = s.reading();
             let rules = [Rule::FreedBody, Rule::DeadExtent];
             s.bytes = soiled(&mut Random::new(LAYOUT_SEED), &s.bytes, &reading, &rules);
             s.add(AT_R, 1);

@@ -3,23 +3,26 @@
 //! Believed here: which parts of a frame document 01 settles apart from slots
 //! and places: the counters, the list lengths and the tree with the places of
 //! Node48 children. Two frames with equal models differ only in what is free.
-//! A frame from before Q-3 has a model too: what it has freed is no part of it.
+//! The Prefixes of a chain are one shared beginning: in a good frame its length
+//! says how it is cut into them. A frame from before Q-3 has a model too: what it has freed is no part of it.
 
 use crate::check::Reading;
 use crate::layout::*;
 use crate::slotless::{ByKind, State, Tree};
-use crate::store::{body_at, children, leaf_fields, prefix_bytes, prefix_child, slot_kind};
+use crate::store::{body_at, chain, children, leaf_fields, slot_kind};
 use std::collections::BTreeMap;
 use std::rc::Rc;
 
-/// `reading` is the frame's own, and breaks no rule, or none but those of Q-3.
-pub fn state(frame: &[u8], reading: &Reading) -> State {
+/// `reading` is the frame's own, as one of this edition, and breaks no rule, or
+/// none but those of Q-3.
+pub fn state(edition: Edition, frame: &[u8], reading: &Reading) -> State {
     assert!(reading.good_before(), "only a good frame has a model");
     let mut list_lengths = ByKind::default();
     for (length, list) in list_lengths.iter_mut().zip(&reading.lists) {
         *length = list.len();
     }
     State {
+        edition,
         f: get32(frame, AT_F),
         n: get32(frame, AT_N),
         b: get32(frame, AT_B),
@@ -41,10 +44,10 @@ fn tree(frame: &[u8], slot: usize) -> Option<Rc<Tree>> {
             let (key, value) = extent.split_at(leaf.key_length);
             Tree::Leaf { key: key.into(), value: value.into() }
         }
-        Kind::Prefix => Tree::Prefix {
-            bytes: prefix_bytes(frame, slot),
-            below: below(prefix_child(frame, slot)),
-        },
+        Kind::Prefix => {
+            let chain = chain(frame, slot);
+            Tree::Prefix { bytes: chain.bytes, below: below(chain.below) }
+        }
         kind => Tree::Inner {
             kind,
             children: children(frame, slot)

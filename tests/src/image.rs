@@ -1,17 +1,21 @@
 //! The packed image, built from a record set and nothing else.
 //!
-//! Believed here: the section "The packed image" of document 01. It knows no
-//! live frame and shares no writer with the store: it splits a sorted run of
-//! records, and each part is appended to the end of what is already there.
+//! Believed here: the section "The packed image" of document 01, and of Q-7 in
+//! document 02 that a shared beginning is a chain of Prefixes, each full but the
+//! last. It knows no live frame and shares no writer with the store: it splits a
+//! sorted run of records, and each part is appended to the end of what is already
+//! there.
 
 use crate::layout::*;
 use crate::store::Records;
 
 /// The bytes that packing any good frame with these records, F and N gives.
-pub fn image(f: usize, n: usize, records: &Records) -> Vec<u8> {
+pub fn image(edition: Edition, f: usize, n: usize, records: &Records) -> Vec<u8> {
+    let walked = |key: &[u8]| edition.walked(key);
     let sorted: Vec<Record> =
         records.iter().map(|(key, value)| Record { key, value, walked: walked(key) }).collect();
-    let mut image = Image { entries: Vec::new(), data: Vec::new(), start: data_start(n) };
+    let start = data_start(n);
+    let mut image = Image { edition, entries: Vec::new(), data: Vec::new(), start };
     if sorted.is_empty() {
         image.body(Kind::EmptyRoot);
     } else {
@@ -27,6 +31,7 @@ struct Record<'a> {
 }
 
 struct Image {
+    edition: Edition,
     entries: Vec<u32>,
     /// What stands from D on.
     data: Vec<u8>,
@@ -58,11 +63,13 @@ impl Image {
         if common == 0 {
             return self.inner(run, depth);
         }
+        // What is shared beyond one Prefix is in those below it.
+        let piece = common.min(LONGEST_PREFIX);
         let (slot, at) = self.body(Kind::Prefix);
-        let child = self.inner(run, depth + common);
+        let child = self.node(run, depth + piece);
         self.write(at + PREFIX_CHILD, &child.to_le_bytes());
-        self.write(at + PREFIX_LENGTH, &(common as u16).to_le_bytes());
-        self.write(at + PREFIX_BYTES.start, &first[..common]);
+        self.write(at + PREFIX_LENGTH, &(piece as u16).to_le_bytes());
+        self.write(at + PREFIX_BYTES.start, &first[..piece]);
         slot
     }
 
@@ -112,7 +119,7 @@ impl Image {
     fn finish(self, f: usize, n: usize, records: usize) -> Vec<u8> {
         let b = self.start + self.data.len();
         let mut frame = Vec::with_capacity(f);
-        for field in [EDITION as usize, f, n, self.start, b, self.entries.len(), records, 0] {
+        for field in [self.edition.number(), f, n, self.start, b, self.entries.len(), records, 0] {
             frame.extend_from_slice(&(field as u32).to_le_bytes());
         }
         let root: u16 = 1;

@@ -8,7 +8,7 @@
 use crate::compare::{Compared, Comparer, Held};
 use crate::crafted::{build, Spare};
 use crate::layout::number::{BUFFER, DONE};
-use crate::layout::LONGEST_KEY;
+use crate::layout::Edition;
 use crate::names::{Asked, LENGTH_BYTES};
 use crate::random::Random;
 use crate::slotless::ByKind;
@@ -18,30 +18,35 @@ use crate::trees::random_tree;
 const ROOM: Spare = Spare { slots: 8, bytes: 1_024 };
 
 /// A frame with records whose keys look like paths, or with any keys.
-fn some_frame(random: &mut Random) -> Held {
+fn some_frame(edition: Edition, random: &mut Random) -> Held {
     let leaves = *random.pick(&[1, 2, 5, 14, 40]);
     if random.one_in(3) {
-        let tree = if random.one_in(8) { None } else { Some(random_tree(random, leaves)) };
-        return Held::new(build(random, &tree, &ByKind::default(), 0, ROOM).0);
+        let tree = if random.one_in(8) { None } else { Some(random_tree(edition, random, leaves)) };
+        let (frame, _) = build(edition, random, &tree, &ByKind::default(), 0, ROOM);
+        return Held::new(edition, frame);
     }
     let (f, n) = (16_384, 300);
     let mut frame = vec![0; f];
-    assert_eq!(store::format(&mut frame, f, n), DONE);
-    let letters = *random.pick(&[&b"ab/"[..], b"a/.", b"\x01/\xff", b"/"]);
+    assert_eq!(store::format(edition, &mut frame, f, n), DONE);
+    let letters: &[&[u8]] = match edition {
+        Edition::One => &[b"ab/", b"a/.", b"\x01/\xff", b"/"],
+        Edition::Two => &[b"ab/", b"\0/.", b"\0\x01/\xff", b"\0", b"\0\xff"],
+    };
+    let letters = *random.pick(letters);
     let longest = *random.pick(&[2, 4, 8]);
     for _ in 0..leaves {
         let length = random.from_to(1, longest);
         let mut key: Vec<u8> = (0..length).map(|_| *random.pick(letters)).collect();
         if random.one_in(20) {
-            key.resize(LONGEST_KEY, *random.pick(letters));
+            key.resize(edition.longest_key(), *random.pick(letters));
         }
-        store::put(&mut frame, &key, b"");
+        store::put(edition, &mut frame, &key, b"");
     }
-    Held::new(frame)
+    Held::new(edition, frame)
 }
 
 /// A key of the set, cut or lengthened; sometimes no key at all.
-fn near_a_key(random: &mut Random, keys: &[Vec<u8>]) -> Vec<u8> {
+fn near_a_key(edition: Edition, random: &mut Random, keys: &[Vec<u8>]) -> Vec<u8> {
     if keys.is_empty() || random.one_in(12) {
         let length = random.below(4);
         return random.bytes(length);
@@ -50,7 +55,7 @@ fn near_a_key(random: &mut Random, keys: &[Vec<u8>]) -> Vec<u8> {
     match random.below(6) {
         0 | 1 => {}
         2 | 3 => key.truncate(random.below(key.len() + 1)),
-        4 => key.push(random.key_byte()),
+        4 => key.push(random.key_byte(edition)),
         _ => {
             let last = key.last_mut().expect("a key has a byte");
             *last = last.wrapping_add(*random.pick(&[1, 255]));
@@ -59,22 +64,22 @@ fn near_a_key(random: &mut Random, keys: &[Vec<u8>]) -> Vec<u8> {
     key
 }
 
-fn prefix(random: &mut Random, keys: &[Vec<u8>]) -> Vec<u8> {
+fn prefix(edition: Edition, random: &mut Random, keys: &[Vec<u8>]) -> Vec<u8> {
     match random.below(24) {
-        0 => vec![random.byte(); LONGEST_KEY + 1],
+        0 => vec![random.byte(); edition.longest_key() + 1],
         1 => vec![0],
         2..=6 => Vec::new(),
-        _ => near_a_key(random, keys),
+        _ => near_a_key(edition, random, keys),
     }
 }
 
-fn start(random: &mut Random, keys: &[Vec<u8>]) -> Option<Vec<u8>> {
+fn start(edition: Edition, random: &mut Random, keys: &[Vec<u8>]) -> Option<Vec<u8>> {
     match random.below(24) {
         0 => Some(Vec::new()),
-        1 => Some(vec![random.key_byte(); LONGEST_KEY + 1]),
+        1 => Some(vec![random.key_byte(edition); edition.longest_key() + 1]),
         2 => Some(b"a\0".to_vec()),
         3..=9 => None,
-        _ => Some(near_a_key(random, keys)),
+        _ => Some(near_a_key(edition, random, keys)),
     }
 }
 
@@ -122,19 +127,21 @@ pub fn listings(comparer: &mut Comparer, seed: u64, rounds: u64) -> Compared<()>
         comparer.begin(format!("listings of seed {seed}, round {round}"));
         let mut random = Random::new(seed.wrapping_mul(1_000_099).wrapping_add(round));
         let random = &mut random;
-        let held = some_frame(random);
+        let edition = comparer.edition();
+        let held = some_frame(edition, random);
         let keys: Vec<Vec<u8>> = held.state().records().into_keys().collect();
         for _ in 0..LISTINGS {
-            let (prefix, start) = (prefix(random, &keys), start(random, &keys));
+            let prefix = prefix(edition, random, &keys);
+            let start = start(edition, random, &keys);
             let delimiter = delimiter(random, &keys);
             let asked = Asked { prefix: &prefix, start: start.as_deref(), delimiter };
             let room = room(random, &held, &asked);
             let buffer = random.bytes(room);
             comparer.list(&held, &asked, &buffer)?;
         }
-        let prefix = near_a_key(random, &keys);
+        let prefix = near_a_key(edition, random, &keys);
         let delimiter = delimiter(random, &keys);
-        if prefix.len() <= LONGEST_KEY {
+        if prefix.len() <= edition.longest_key() {
             pages(comparer, random, &held, &prefix, delimiter)?;
             changing_pages(comparer, random, held, &prefix, delimiter)?;
         }
@@ -161,7 +168,7 @@ fn pages(
         let (page, entries) = comparer.list(held, &asked, &vec![0xEE; room])?;
         if page.number == BUFFER {
             // No entry is longer than a key.
-            least = LENGTH_BYTES + LONGEST_KEY;
+            least = LENGTH_BYTES + comparer.edition().longest_key();
             continue;
         }
         start = entries.last().cloned().or(start);
@@ -195,7 +202,7 @@ fn changing_pages(
         start = entries.last().cloned().or(start);
         let records: Records = held.state().records();
         let keys: Vec<Vec<u8>> = records.into_keys().collect();
-        comparer.put(&mut held, &near_a_key(random, &keys), b"")?;
+        comparer.put(&mut held, &near_a_key(comparer.edition(), random, &keys), b"")?;
         if let Some(key) = (!keys.is_empty()).then(|| random.pick(&keys)) {
             comparer.erase(&mut held, key)?;
         }

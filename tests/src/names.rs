@@ -39,11 +39,11 @@ pub const LENGTH_BYTES: usize = 2;
 
 impl Asked<'_> {
     /// The refusal that is earned before any key is looked at.
-    pub fn refusal(&self) -> Option<u32> {
-        if self.prefix.len() > LONGEST_KEY {
+    pub fn refusal(&self, edition: Edition) -> Option<u32> {
+        if self.prefix.len() > edition.longest_key() {
             return Some(KEY_LENGTH);
         }
-        self.start.and_then(key_refusal)
+        self.start.and_then(|start| edition.key_refusal(start))
     }
 
     /// The entry of a key that begins with the prefix.
@@ -54,12 +54,12 @@ impl Asked<'_> {
     }
 }
 
-pub fn list(frame: &[u8], asked: &Asked, buffer: &mut [u8]) -> Page {
-    let checked = check(frame);
+pub fn list(edition: Edition, frame: &[u8], asked: &Asked, buffer: &mut [u8]) -> Page {
+    let checked = check(edition, frame);
     if checked != DONE {
         return Page::refused(checked);
     }
-    if let Some(refused) = asked.refusal() {
+    if let Some(refused) = asked.refusal(edition) {
         return Page::refused(refused);
     }
     let mut last = asked.start.unwrap_or_default().to_vec();

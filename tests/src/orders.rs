@@ -10,7 +10,7 @@
 use crate::compare::{Calls, Compared, Comparer, Held};
 use crate::crafted::{build, Spare};
 use crate::layout::number::{ABSENT, DONE, PRESENT, REPLACED};
-use crate::layout::Kind;
+use crate::layout::{Edition, Kind};
 use crate::random::Random;
 use crate::slotless::ByKind;
 use crate::store::Records;
@@ -18,8 +18,8 @@ use crate::tally::Entry;
 use crate::trees::{aimed, random_tree, small_value, Change};
 use std::collections::BTreeMap;
 
-const F: usize = 32_768;
-const N: usize = 600;
+const F: usize = 131_072;
+const N: usize = 1_200;
 
 fn packed(comparer: &mut Comparer, held: &Held, fill: u8) -> Compared<Vec<u8>> {
     let image = comparer.pack(held, &vec![fill; held.bytes().len()])?;
@@ -31,11 +31,16 @@ fn fresh(comparer: &mut Comparer, fill: u8) -> Compared<Held> {
 }
 
 /// Nodes of all kinds, Prefixes, keys that are the beginning of others.
-fn some_records(random: &mut Random) -> Records {
+fn some_records(edition: Edition, random: &mut Random) -> Records {
     let mut records = Records::new();
+    // In edition 2 beginnings of bytes 0 take chains.
+    let starts: &[&[u8]] = match edition {
+        Edition::One => &[b"", b"line.", b"line.rate", b"z"],
+        Edition::Two => &[b"", b"line.", &[0; 57], &[0; 114], &[b'z'; 130]],
+    };
     for _ in 0..random.from_to(2, 120) {
-        let mut key = random.pick(&[&b""[..], b"line.", b"line.rate", b"z"]).to_vec();
-        key.extend((0..random.from_to(1, 2)).map(|_| random.key_byte()));
+        let mut key = random.pick(starts).to_vec();
+        key.extend((0..random.from_to(1, 2)).map(|_| random.key_byte(edition)));
         let length = random.below(20);
         records.insert(key, random.bytes(length));
     }
@@ -55,7 +60,7 @@ fn reach(comparer: &mut Comparer, random: &mut Random, records: &Records) -> Com
             comparer.put_or_replace(&mut held, key, b"another")?;
         }
         if random.one_in(4) {
-            let stranger = [&key[..], &[random.key_byte()]].concat();
+            let stranger = [&key[..], &[random.key_byte(comparer.edition())]].concat();
             if !records.contains_key(&stranger) {
                 comparer.put_or_replace(&mut held, &stranger, b"stranger")?;
                 strangers.push(stranger);
@@ -73,14 +78,15 @@ pub fn same_records(comparer: &mut Comparer, seed: u64, rounds: u64) -> Compared
     for round in 0..rounds {
         comparer.begin(format!("same records, seed {seed}, round {round}"));
         let mut random = Random::new(seed.wrapping_mul(15_485_863).wrapping_add(round));
-        let mut records = some_records(&mut random);
+        let mut records = some_records(comparer.edition(), &mut random);
         let one = reach(comparer, &mut random, &records)?;
         let other = reach(comparer, &mut random, &records)?;
         let image = packed(comparer, &one, 0xEE)?;
         if packed(comparer, &other, 0x11)? != image {
             return comparer.differs("two orders pack to two images".to_string());
         }
-        if packed(comparer, &Held::new(image.clone()), 0x55)? != image {
+        let again = comparer.held(image.clone());
+        if packed(comparer, &again, 0x55)? != image {
             return comparer.differs("a packed image packs to another".to_string());
         }
         let (key, mut value) = records.pop_last().expect("there are records");
@@ -103,7 +109,7 @@ pub fn any_order(comparer: &mut Comparer, seed: u64, rounds: u64) -> Compared<()
     for round in 0..rounds {
         comparer.begin(format!("any order, seed {seed}, round {round}"));
         let mut random = Random::new(seed.wrapping_mul(32_452_843).wrapping_add(round));
-        let (frame, changes) = some_changes(&mut random);
+        let (frame, changes) = some_changes(comparer.edition(), &mut random);
         let shuffled = shuffled_by_key(&mut random, &changes);
         let calls = comparer.calls();
         let (one, other) = (made(calls, &frame, &changes), made(calls, &frame, &shuffled));
@@ -137,9 +143,9 @@ pub fn any_order(comparer: &mut Comparer, seed: u64, rounds: u64) -> Compared<()
 
 /// A good frame, mostly with room for all, and changes on a few keys: some that
 /// it holds, some that part from them.
-fn some_changes(random: &mut Random) -> (Vec<u8>, Vec<Change>) {
+fn some_changes(edition: Edition, random: &mut Random) -> (Vec<u8>, Vec<Change>) {
     let leaves = *random.pick(&[1, 3, 8, 20, 60]);
-    let tree = if random.one_in(10) { None } else { Some(random_tree(random, leaves)) };
+    let tree = if random.one_in(10) { None } else { Some(random_tree(edition, random, leaves)) };
     let mut lists = ByKind::default();
     for kind in Kind::ALL {
         lists[kind.number()] = random.below(2);
@@ -147,9 +153,10 @@ fn some_changes(random: &mut Random) -> (Vec<u8>, Vec<Change>) {
     let roomy = Spare { slots: 80, bytes: 10_240 };
     let tight = Spare { slots: 8, bytes: 256 };
     let spare = if random.one_in(12) { tight } else { roomy };
-    let (frame, _) = build(random, &tree, &lists, 0, spare);
+    let (frame, _) = build(edition, random, &tree, &lists, 0, spare);
     let some_keys = random.from_to(2, 10);
-    let keys: Vec<Vec<u8>> = (0..some_keys).map(|_| aimed(random, &tree).key().to_vec()).collect();
+    let keys: Vec<Vec<u8>> =
+        (0..some_keys).map(|_| aimed(edition, random, &tree).key().to_vec()).collect();
     let some_calls = random.from_to(4, 40);
     let changes = (0..some_calls).map(|_| {
         let key = random.pick(&keys).clone();

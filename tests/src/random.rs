@@ -1,5 +1,7 @@
 //! A small random source (splitmix64) that a seed repeats exactly.
 
+use crate::layout::{Edition, ESCAPE};
+
 pub struct Random {
     state: u64,
 }
@@ -35,9 +37,18 @@ impl Random {
         self.draw() as u8
     }
 
-    /// A byte that a key can hold.
-    pub fn key_byte(&mut self) -> u8 {
+    pub fn byte_not_0(&mut self) -> u8 {
         self.from_to(1, usize::from(u8::MAX)) as u8
+    }
+
+    /// A byte that a key can hold; in edition 2 often 0 or 255, which walked
+    /// strings have a use for.
+    pub fn key_byte(&mut self, edition: Edition) -> u8 {
+        match (edition, self.below(6)) {
+            (Edition::Two, 0) => 0,
+            (Edition::Two, 1) => ESCAPE,
+            _ => self.byte_not_0(),
+        }
     }
 
     pub fn bytes(&mut self, length: usize) -> Vec<u8> {

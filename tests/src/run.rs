@@ -1,11 +1,12 @@
 //! The whole comparison, as the gate runs it.
 //!
-//! Believed here: that these stages together reach every case. Seeds are
-//! fixed unless the environment names others.
+//! Believed here: that these stages together reach every case. The quick ones come
+//! first. Seeds are fixed unless the environment names others.
 
 use crate::compare::{Calls, Compared, Comparer};
+use crate::layout::Edition;
 use crate::tally::Tally;
-use crate::{batches, damage, history, listings, orders, worked};
+use crate::{batches, chains, damage, history, listings, orders, worked};
 use std::env;
 
 /// Which random calls are made, and how many.
@@ -40,15 +41,19 @@ pub fn all_stages(calls: &dyn Calls, effort: Effort) -> Compared<Tally> {
     worked_cases(&mut comparer)?;
     damages(&mut comparer)?;
     limits(&mut comparer)?;
-    history::crafted_frames(&mut comparer, seed, rounds * 2_000)?;
-    history::histories(&mut comparer, seed, rounds * 12)?;
-    history::frames_before(&mut comparer, seed, rounds * 100)?;
-    history::scratched_frames(&mut comparer, seed, rounds * 100)?;
-    history::arbitrary_bytes(&mut comparer, seed, rounds * 500)?;
-    history::large_frames(&mut comparer, seed, rounds * 2)?;
+    if calls.edition() == Edition::Two {
+        chains::chains(&mut comparer, seed, rounds)?;
+    }
+    history::other_edition(&mut comparer, seed, rounds * 100)?;
     listings::listings(&mut comparer, seed, rounds * 250)?;
     batches::batches(&mut comparer, seed, rounds * 250)?;
     batches::damaged_batches(&mut comparer)?;
+    history::frames_before(&mut comparer, seed, rounds * 100)?;
+    history::arbitrary_bytes(&mut comparer, seed, rounds * 500)?;
+    history::scratched_frames(&mut comparer, seed, rounds * 100)?;
+    history::histories(&mut comparer, seed, rounds * 12)?;
+    history::crafted_frames(&mut comparer, seed, rounds * 2_000)?;
+    history::large_frames(&mut comparer, seed, rounds * 2)?;
     orders::same_records(&mut comparer, seed, rounds * 4)?;
     orders::any_order(&mut comparer, seed, rounds * 400)?;
     Ok(std::mem::take(&mut comparer.tally))
@@ -61,7 +66,11 @@ pub fn worked_cases(comparer: &mut Comparer) -> Compared<()> {
     worked::slots_visited(comparer)?;
     worked::worked_listings(comparer)?;
     worked::worked_batches(comparer)?;
-    worked::wiped_bytes(comparer)
+    worked::wiped_bytes(comparer)?;
+    if comparer.edition() == Edition::Two {
+        chains::worked_chains(comparer)?;
+    }
+    Ok(())
 }
 
 pub fn limits(comparer: &mut Comparer) -> Compared<()> {
@@ -72,10 +81,10 @@ pub fn limits(comparer: &mut Comparer) -> Compared<()> {
 }
 
 pub fn damages(comparer: &mut Comparer) -> Compared<()> {
-    for frame in damage::undamaged() {
+    for frame in damage::undamaged(comparer.edition()) {
         history::every_call(comparer, "the frame before any damage".to_string(), frame)?;
     }
-    for damage in damage::all() {
+    for damage in damage::all(comparer.edition()) {
         let stage = format!("damage: {}", damage.name);
         history::every_call(comparer, stage, damage.bytes.clone())?;
     }

@@ -2,9 +2,11 @@
 //!
 //! Believed here: how the tree changes with a put, a replacement and an erase, and that a
 //! call needs and frees, of each kind, exactly the bodies by which the tree
-//! after differs from the tree before. The model holds the tree, U, B, R, X
-//! and the eight list lengths, and predicts them with the number for each
-//! call. It is another reading of the documents than the store's list of needs.
+//! after differs from the tree before. A shared beginning is whole in the tree,
+//! however long it is; how many Prefixes it takes is a matter of its length
+//! . The model holds the tree, U, B, R, X and the eight list lengths, and
+//! predicts them with the number for each call. It is another reading of the
+//! documents than the store's list of needs.
 
 use crate::layout::number::*;
 use crate::layout::*;
@@ -23,6 +25,7 @@ pub enum Tree {
         key: Rc<[u8]>,
         value: Rc<[u8]>,
     },
+    /// A shared beginning of any length.
     Prefix {
         bytes: Vec<u8>,
         below: Rc<Tree>,
@@ -68,6 +71,19 @@ pub enum Case {
     EraseCollapses { survivor: Survivor, prefix_above: bool },
 }
 
+/// What a change does to shared beginnings, by their bytes.
+#[derive(Clone, Copy, PartialEq, Eq, PartialOrd, Ord, Debug)]
+pub enum Beginning {
+    /// A put shares so many with a Leaf.
+    Begun { bytes: usize },
+    /// A put leaves one at a byte, counted from 0.
+    Cut { bytes: usize, at: usize },
+    /// An erase leaves one byte between these; 0 is none.
+    Joined { above: usize, below: usize },
+    /// An erase leaves a Leaf alone below one.
+    Dropped { bytes: usize },
+}
+
 /// What the room rule compares.
 #[derive(Clone, Debug)]
 pub struct Room {
@@ -93,18 +109,26 @@ impl Room {
 pub struct Told {
     pub number: u32,
     pub case: Option<(Case, Room)>,
+    /// The Prefixes that the frame has more if the call is done.
+    pub prefixes: isize,
+    pub beginning: Option<Beginning>,
     /// Set with 8.
     pub end: Option<End>,
 }
 
 impl Told {
     fn only(number: u32) -> Told {
-        Told { number, case: None, end: None }
+        Told { number, case: None, prefixes: 0, beginning: None, end: None }
+    }
+
+    fn absent(end: End) -> Told {
+        Told { end: Some(end), ..Told::only(ABSENT) }
     }
 }
 
 #[derive(Clone, PartialEq, Eq, Debug)]
 pub struct State {
+    pub edition: Edition,
     pub f: usize,
     pub n: usize,
     pub b: usize,
@@ -117,8 +141,9 @@ pub struct State {
 
 impl State {
     /// As format leaves a frame.
-    pub fn fresh(f: usize, n: usize) -> State {
+    pub fn fresh(edition: Edition, f: usize, n: usize) -> State {
         State {
+            edition,
             f,
             n,
             b: data_start(n) + Kind::EmptyRoot.body_bytes(),
@@ -144,7 +169,7 @@ impl State {
 
     /// The value of a present key, or where the walk ends.
     pub fn find(&self, key: &[u8]) -> Result<Rc<[u8]>, End> {
-        let string = walked(key);
+        let string = self.edition.walked(key);
         let mut rest = &string[..];
         let mut tree = self.tree.as_ref().ok_or(End::EmptyFrame)?;
         loop {
@@ -164,18 +189,23 @@ impl State {
         }
     }
 
-    /// How many nodes the way of a key enters, the one where it ends included.
+    /// How many slots the way of a key enters, the one where it ends included.
     pub fn visits(&self, key: &[u8]) -> usize {
         fn below(tree: &Tree, rest: &[u8]) -> usize {
-            let next = match tree {
-                Tree::Leaf { .. } => None,
-                Tree::Prefix { bytes, below } => rest.strip_prefix(&bytes[..]).zip(Some(below)),
-                Tree::Inner { children, .. } => Some(&rest[1..]).zip(children.get(&rest[0])),
-            };
-            1 + next.map_or(0, |(rest, child)| below(child, rest))
+            match tree {
+                Tree::Leaf { .. } => 1,
+                Tree::Prefix { bytes, below: under } => match shared(rest, bytes) {
+                    all if all == bytes.len() => prefixes(all) + below(under, &rest[all..]),
+                    // Those that match, and the one that does not.
+                    some => some / LONGEST_PREFIX + 1,
+                },
+                Tree::Inner { children, .. } => {
+                    1 + children.get(&rest[0]).map_or(0, |child| below(child, &rest[1..]))
+                }
+            }
         }
         // An EmptyRoot is one slot too.
-        self.tree.as_ref().map_or(1, |tree| below(tree, &walked(key)))
+        self.tree.as_ref().map_or(1, |tree| below(tree, &self.edition.walked(key)))
     }
 
     /// All entries of a listing, whatever its buffer.
@@ -196,43 +226,49 @@ impl State {
     }
 
     pub fn put(&mut self, key: &[u8], value: &[u8]) -> Told {
-        if let Some(refused) = record_refusal(key, value) {
+        if let Some(refused) = self.record_refusal(key, value) {
             return Told::only(refused);
         }
         if self.find(key).is_ok() {
             return Told::only(PRESENT);
         }
-        let (case, after) = self.with(key, value);
-        self.settle(case, after, extent_bytes(key.len(), value.len()), 0, DONE)
+        let (change, after) = self.with(key, value);
+        self.settle(change, after, extent_bytes(key.len(), value.len()), 0, DONE)
     }
 
     pub fn replace(&mut self, key: &[u8], value: &[u8]) -> Told {
-        if let Some(refused) = record_refusal(key, value) {
+        if let Some(refused) = self.record_refusal(key, value) {
             return Told::only(refused);
         }
         let old = match self.find(key) {
-            Err(end) => return Told { number: ABSENT, case: None, end: Some(end) },
+            Err(end) => return Told::absent(end),
             Ok(old) => old,
         };
-        let (case, after) = self.with(key, value);
-        let (new_extent, retired) = match case {
-            Case::ReplaceSameLength => (0, 0),
+        let (change, after) = self.with(key, value);
+        let (new_extent, retired) = match change {
+            (Case::ReplaceSameLength, _) => (0, 0),
             _ => (extent_bytes(key.len(), value.len()), extent_bytes(key.len(), old.len())),
         };
-        self.settle(case, after, new_extent, retired, REPLACED)
+        self.settle(change, after, new_extent, retired, REPLACED)
+    }
+
+    /// The refusal that a put or a replacement earns by its key and its value.
+    fn record_refusal(&self, key: &[u8], value: &[u8]) -> Option<u32> {
+        let of_value = (value.len() > LONGEST_VALUE).then_some(VALUE_LENGTH);
+        self.edition.key_refusal(key).or(of_value)
     }
 
     /// The tree with this record, whatever value the key had.
-    fn with(&self, key: &[u8], value: &[u8]) -> (Case, Option<Rc<Tree>>) {
+    fn with(&self, key: &[u8], value: &[u8]) -> (Changed, Option<Rc<Tree>>) {
         let mut after = self.tree.clone();
-        let case = match &mut after {
+        let change = match &mut after {
             None => {
                 after = Some(leaf(key, value));
-                Case::PutInEmptyFrame
+                (Case::PutInEmptyFrame, None)
             }
-            Some(tree) => insert(Rc::make_mut(tree), &walked(key), 0, key, value),
+            Some(tree) => insert(self.edition, Rc::make_mut(tree), 0, key, value),
         };
-        (case, after)
+        (change, after)
     }
 
     pub fn make(&mut self, change: &Change) -> Told {
@@ -244,29 +280,29 @@ impl State {
     }
 
     pub fn erase(&mut self, key: &[u8]) -> Told {
-        if let Some(refused) = key_refusal(key) {
+        if let Some(refused) = self.edition.key_refusal(key) {
             return Told::only(refused);
         }
         let old = match self.find(key) {
-            Err(end) => return Told { number: ABSENT, case: None, end: Some(end) },
+            Err(end) => return Told::absent(end),
             Ok(old) => old,
         };
         if self.r == 1 {
             let room = self.room(&ByKind::default(), 0);
-            *self = State::fresh(self.f, self.n);
-            return Told { number: DONE, case: Some((Case::EraseOnlyRecord, room)), end: None };
+            *self = State::fresh(self.edition, self.f, self.n);
+            return Told { case: Some((Case::EraseOnlyRecord, room)), ..Told::only(DONE) };
         }
         let mut after = self.tree.clone();
         let tree = after.as_mut().expect("a key is present");
-        let case = remove(Rc::make_mut(tree), &walked(key), 0);
+        let change = remove(Rc::make_mut(tree), &self.edition.walked(key), 0);
         let retired = extent_bytes(key.len(), old.len());
-        self.settle(case, after, 0, retired, DONE)
+        self.settle(change, after, 0, retired, DONE)
     }
 
     /// Compares the needs with the room; takes and frees if there is enough.
     fn settle(
         &mut self,
-        case: Case,
+        (case, beginning): Changed,
         after: Option<Rc<Tree>>,
         new_extent: usize,
         retired: usize,
@@ -280,8 +316,14 @@ impl State {
             frees[kind] = had[kind].saturating_sub(has[kind]);
         }
         let room = self.room(&needs, new_extent);
-        if room.lacks_slots() || room.lacks_bytes() {
-            return Told { number: NO_ROOM, case: Some((case, room)), end: None };
+        let more = |kind: Kind| has[kind.number()] as isize - had[kind.number()] as isize;
+        let prefixes = more(Kind::Prefix);
+        let lacking = room.lacks_slots() || room.lacks_bytes();
+        let number = if lacking { NO_ROOM } else { given };
+        let told =
+            Told { number, case: Some((case, room.clone())), prefixes, beginning, end: None };
+        if lacking {
+            return told;
         }
         for kind in &room.from_list {
             self.list_lengths[kind.number()] -= 1;
@@ -294,7 +336,7 @@ impl State {
         self.x += retired;
         self.r = has[Kind::Leaf.number()];
         self.tree = after;
-        Told { number: given, case: Some((case, room)), end: None }
+        told
     }
 
     fn room(&self, needs: &ByKind, new_extent: usize) -> Room {
@@ -311,17 +353,15 @@ impl State {
     }
 }
 
-/// The refusal that a put or a replacement earns by its key and its value.
-fn record_refusal(key: &[u8], value: &[u8]) -> Option<u32> {
-    key_refusal(key).or((value.len() > LONGEST_VALUE).then_some(VALUE_LENGTH))
-}
+/// The case of a change, and what it does to shared beginnings.
+type Changed = (Case, Option<Beginning>);
 
 /// How many live bodies there are of each kind.
 pub fn bodies(tree: &Option<Rc<Tree>>) -> ByKind {
     let mut counts = ByKind::default();
     match tree {
         None => counts[Kind::EmptyRoot.number()] = 1,
-        Some(tree) => tree.each(&mut |node| counts[node.kind().number()] += 1),
+        Some(tree) => tree.each(&mut |node| counts[node.kind().number()] += node.bodies()),
     }
     counts
 }
@@ -332,6 +372,14 @@ impl Tree {
             Tree::Leaf { .. } => Kind::Leaf,
             Tree::Prefix { .. } => Kind::Prefix,
             Tree::Inner { kind, .. } => *kind,
+        }
+    }
+
+    /// How many bodies it stands in.
+    pub fn bodies(&self) -> usize {
+        match self {
+            Tree::Prefix { bytes, .. } => prefixes(bytes.len()),
+            Tree::Leaf { .. } | Tree::Inner { .. } => 1,
         }
     }
 
@@ -371,7 +419,8 @@ fn fork(one: (u8, Rc<Tree>), other: (u8, Rc<Tree>)) -> Rc<Tree> {
     Rc::new(inner(Kind::Node4, BTreeMap::from([one, other])))
 }
 
-fn insert(tree: &mut Tree, string: &[u8], depth: usize, key: &[u8], value: &[u8]) -> Case {
+fn insert(edition: Edition, tree: &mut Tree, depth: usize, key: &[u8], value: &[u8]) -> Changed {
+    let string = edition.walked(key);
     let rest = &string[depth..];
     match tree {
         Tree::Leaf { key: there, value: old } if **there == *key => {
@@ -383,30 +432,31 @@ fn insert(tree: &mut Tree, string: &[u8], depth: usize, key: &[u8], value: &[u8]
                 Case::ReplaceOtherLength { same_rounded }
             };
             *old = value.into();
-            case
+            (case, None)
         }
         Tree::Leaf { key: there, .. } => {
-            let other = walked(there);
+            let other = edition.walked(there);
             let other = &other[depth..];
             let q = shared(rest, other);
             let below = fork((other[q], Rc::new(tree.clone())), (rest[q], leaf(key, value)));
             *tree = (*prefixed(&rest[..q], below)).clone();
-            Case::PutSplitsLeaf { shared: q > 0 }
+            (Case::PutSplitsLeaf { shared: q > 0 }, Some(Beginning::Begun { bytes: q }))
         }
         Tree::Prefix { bytes, below } => {
             let q = shared(rest, bytes);
             if q == bytes.len() {
-                return insert(Rc::make_mut(below), string, depth + q, key, value);
+                return insert(edition, Rc::make_mut(below), depth + q, key, value);
             }
             let lower = prefixed(&bytes[q + 1..], below.clone());
             let below = fork((bytes[q], lower), (rest[q], leaf(key, value)));
             let case = Case::PutCutsPrefix { before: q > 0, after: q + 1 < bytes.len() };
+            let cut = Beginning::Cut { bytes: bytes.len(), at: q };
             *tree = (*prefixed(&rest[..q], below)).clone();
-            case
+            (case, Some(cut))
         }
         Tree::Inner { kind, children, places } => {
             if let Some(child) = children.get_mut(&rest[0]) {
-                return insert(Rc::make_mut(child), string, depth + 1, key, value);
+                return insert(edition, Rc::make_mut(child), depth + 1, key, value);
             }
             let full = children.len() == kind.most_children();
             let was = *kind;
@@ -425,21 +475,18 @@ fn insert(tree: &mut Tree, string: &[u8], depth: usize, key: &[u8], value: &[u8]
                 places.insert(rest[0], lowest_empty.expect("a place is left"));
             }
             children.insert(rest[0], leaf(key, value));
-            if full {
-                Case::PutGrows(was)
-            } else {
-                Case::PutAdds(was)
-            }
+            (if full { Case::PutGrows(was) } else { Case::PutAdds(was) }, None)
         }
     }
 }
 
 /// Takes away a key that is present and not the only one.
-fn remove(tree: &mut Tree, string: &[u8], depth: usize) -> Case {
+fn remove(tree: &mut Tree, string: &[u8], depth: usize) -> Changed {
     match tree {
         Tree::Leaf { .. } => panic!("the only record is not removed"),
         Tree::Prefix { bytes, below } => {
-            let mut case = remove(Rc::make_mut(below), string, depth + bytes.len());
+            let long = bytes.len();
+            let mut change = remove(Rc::make_mut(below), string, depth + long);
             // A Prefix stands only above an inner node: else it vanishes or joins.
             let joined = match &**below {
                 Tree::Inner { .. } => None,
@@ -450,12 +497,17 @@ fn remove(tree: &mut Tree, string: &[u8], depth: usize) -> Case {
                 }
             };
             if let Some(joined) = joined {
-                if let Case::EraseCollapses { prefix_above, .. } = &mut case {
+                if let Case::EraseCollapses { prefix_above, .. } = &mut change.0 {
                     *prefix_above = true;
+                }
+                match &mut change.1 {
+                    Some(Beginning::Joined { above, .. }) => *above = long,
+                    Some(Beginning::Dropped { bytes }) => *bytes = long,
+                    _ => {}
                 }
                 *tree = joined;
             }
-            case
+            change
         }
         Tree::Inner { kind, children, places } => {
             let byte = string[depth];
@@ -468,25 +520,31 @@ fn remove(tree: &mut Tree, string: &[u8], depth: usize) -> Case {
             let was = *kind;
             if children.len() == 1 {
                 let (byte, child) = children.pop_first().expect("one child is left");
-                let (survivor, left) = match &*child {
-                    Tree::Leaf { .. } => (Survivor::Leaf, (*child).clone()),
-                    Tree::Prefix { bytes, below } => {
-                        let bytes = [&[byte], &bytes[..]].concat();
-                        (Survivor::Prefix, Tree::Prefix { bytes, below: below.clone() })
+                let joined = |below: usize| Beginning::Joined { above: 0, below };
+                let (survivor, beginning, left) = match &*child {
+                    Tree::Leaf { .. } => {
+                        (Survivor::Leaf, Beginning::Dropped { bytes: 0 }, (*child).clone())
+                    }
+                    Tree::Prefix { bytes: lower, below } => {
+                        let bytes = [&[byte], &lower[..]].concat();
+                        let left = Tree::Prefix { bytes, below: below.clone() };
+                        (Survivor::Prefix, joined(lower.len()), left)
                     }
                     Tree::Inner { .. } => {
-                        (Survivor::Inner, Tree::Prefix { bytes: vec![byte], below: child.clone() })
+                        let left = Tree::Prefix { bytes: vec![byte], below: child.clone() };
+                        (Survivor::Inner, joined(0), left)
                     }
                 };
                 *tree = left;
-                return Case::EraseCollapses { survivor, prefix_above: false };
+                let case = Case::EraseCollapses { survivor, prefix_above: false };
+                return (case, Some(beginning));
             }
             if was.shrink_mark() == Some(children.len()) {
                 let smaller = was.smaller().expect("a kind with a mark has a smaller one");
                 *tree = inner(smaller, std::mem::take(children));
-                return Case::EraseShrinks(was);
+                return (Case::EraseShrinks(was), None);
             }
-            Case::EraseRemoves(was)
+            (Case::EraseRemoves(was), None)
         }
     }
 }

@@ -3,7 +3,10 @@
 //! Believed here: format, look-up, put, erase and pack of document 01, and info;
 //! of document 02 the replacement, the slots that a look-up visits,
 //! that whatever frees a body or an extent writes zero over it, and the packing
-//! that still takes the old rule.
+//! that still takes the old rule, and chains of Prefixes, of which a call
+//! needs or frees as many as the frame then has more or fewer. The edition
+//! says what keys and walked strings are; in edition 1 no chain is longer than
+//! one Prefix, because no shared beginning is longer than 112 bytes.
 //! Clear before fast: every call checks the whole frame, works out all it needs,
 //! compares that with the room left, and only then writes.
 
@@ -15,7 +18,7 @@ use std::ops::Range;
 
 pub type Records = BTreeMap<Vec<u8>, Vec<u8>>;
 
-pub fn format(frame: &mut [u8], f: usize, n: usize) -> u32 {
+pub fn format(edition: Edition, frame: &mut [u8], f: usize, n: usize) -> u32 {
     if !frame_length_allowed(f) || !slot_capacity_allowed(n) || frame.len() != f {
         return LENGTHS;
     }
@@ -24,7 +27,7 @@ pub fn format(frame: &mut [u8], f: usize, n: usize) -> u32 {
         return LENGTHS;
     }
     frame.fill(0);
-    set32(frame, AT_EDITION, EDITION as usize);
+    set32(frame, AT_EDITION, edition.number());
     set32(frame, AT_F, f);
     set32(frame, AT_N, n);
     set32(frame, AT_D, d);
@@ -44,11 +47,11 @@ pub struct Found {
     pub slots: u64,
 }
 
-pub fn look_up(frame: &[u8], key: &[u8]) -> Found {
-    if let Err(number) = refusal(frame, key) {
+pub fn look_up(edition: Edition, frame: &[u8], key: &[u8]) -> Found {
+    if let Err(number) = refusal(edition, frame, key) {
         return Found { number, place: 0, length: 0, slots: 0 };
     }
-    let steps = walk(frame, &walked(key));
+    let steps = walk(frame, &edition.walked(key));
     let slots = steps.len() as u64;
     match present(frame, &steps, key) {
         None => Found { number: ABSENT, place: 0, length: 0, slots },
@@ -60,19 +63,19 @@ pub fn look_up(frame: &[u8], key: &[u8]) -> Found {
 }
 
 /// The value as a part of the frame; an empty part at its start otherwise.
-pub fn value<'a>(frame: &'a [u8], key: &[u8]) -> &'a [u8] {
-    let Found { place, length, .. } = look_up(frame, key);
+pub fn value<'a>(edition: Edition, frame: &'a [u8], key: &[u8]) -> &'a [u8] {
+    let Found { place, length, .. } = look_up(edition, frame, key);
     &frame[place as usize..][..length as usize]
 }
 
 /// A record whose key is new; a present key is told, and nothing is needed.
-pub fn put(frame: &mut [u8], key: &[u8], value: &[u8]) -> u32 {
-    put_or_refuse(frame, key, value).unwrap_or_else(|refused| refused)
+pub fn put(edition: Edition, frame: &mut [u8], key: &[u8], value: &[u8]) -> u32 {
+    put_or_refuse(edition, frame, key, value).unwrap_or_else(|refused| refused)
 }
 
-fn put_or_refuse(frame: &mut [u8], key: &[u8], value: &[u8]) -> Result<u32, u32> {
-    record_refusal(frame, key, value)?;
-    let string = walked(key);
+fn put_or_refuse(edition: Edition, frame: &mut [u8], key: &[u8], value: &[u8]) -> Result<u32, u32> {
+    record_refusal(edition, frame, key, value)?;
+    let string = edition.walked(key);
     let steps = walk(frame, &string);
     if present(frame, &steps, key).is_some() {
         return Ok(PRESENT);
@@ -81,7 +84,7 @@ fn put_or_refuse(frame: &mut [u8], key: &[u8], value: &[u8]) -> Result<u32, u32>
     let record = NewRecord { key, value, rest: &string[end.depth..] };
     match end.kind {
         Kind::EmptyRoot => replace_empty_root(frame, end, &record)?,
-        Kind::Leaf => split_leaf(frame, end, &record)?,
+        Kind::Leaf => split_leaf(edition, frame, end, &record)?,
         Kind::Prefix => cut_prefix(frame, end, &record)?,
         _ => add_to_inner(frame, end, &record)?,
     }
@@ -103,6 +106,11 @@ impl NewRecord<'_> {
         room(frame, &bodies, extent_bytes(self.key.len(), self.value.len()))
     }
 
+    /// The same for a Node4 and so many Prefixes.
+    fn room_to_part(&self, frame: &[u8], prefixes: usize) -> Result<(), u32> {
+        self.room(frame, &[&[Kind::Node4][..], &vec![Kind::Prefix; prefixes]].concat())
+    }
+
     fn add_leaf(&self, frame: &mut [u8]) -> usize {
         add_leaf(frame, self.key, self.value)
     }
@@ -116,60 +124,47 @@ fn replace_empty_root(frame: &mut [u8], end: &Step, record: &NewRecord) -> Resul
     Ok(())
 }
 
-/// A Leaf with another key: a Node4, and a Prefix if they share bytes.
-fn split_leaf(frame: &mut [u8], end: &Step, record: &NewRecord) -> Result<(), u32> {
-    let there = leaf_walked(frame, end.slot);
+/// A Leaf with another key: a Node4, and as many Prefixes as the bytes that they
+/// share take.
+fn split_leaf(
+    edition: Edition,
+    frame: &mut [u8],
+    end: &Step,
+    record: &NewRecord,
+) -> Result<(), u32> {
+    let there = leaf_walked(edition, frame, end.slot);
     let there = &there[end.depth..];
     let q = shared(record.rest, there);
-    if q == 0 {
-        record.room(frame, &[Kind::Node4])?;
-    } else {
-        record.room(frame, &[Kind::Node4, Kind::Prefix])?;
-    }
+    record.room_to_part(frame, prefixes(q))?;
     let leaf = record.add_leaf(frame);
     let node = take(frame, Kind::Node4);
     write_inner(frame, node, &sorted([(there[q], end.slot), (record.rest[q], leaf)]));
-    if q == 0 {
-        set_link(frame, end.link, node);
-    } else {
-        let prefix = take(frame, Kind::Prefix);
-        write_prefix(frame, prefix, &there[..q], node);
-        set_link(frame, end.link, prefix);
-    }
+    let bodies: Vec<usize> = (0..prefixes(q)).map(|_| take(frame, Kind::Prefix)).collect();
+    let top = write_chain(frame, &bodies, &there[..q], node);
+    set_link(frame, end.link, top);
     Ok(())
 }
 
 /// A Prefix that does not match: a Node4 between the part before and the part
-/// after. If both have bytes, the part before keeps the old body.
+/// after, which has the bytes of the Prefixes below as well. The part before keeps
+/// the body that is cut; if there is none, and one body fewer is needed, that one
+/// is freed.
 fn cut_prefix(frame: &mut [u8], end: &Step, record: &NewRecord) -> Result<(), u32> {
-    let bytes = prefix_bytes(frame, end.slot);
-    let below = prefix_child(frame, end.slot);
+    let Chain { slots, bytes, below } = chain(frame, end.slot);
     let q = shared(record.rest, &bytes);
     let (before, after) = (&bytes[..q], &bytes[q + 1..]);
-    let both = !before.is_empty() && !after.is_empty();
-    if both {
-        record.room(frame, &[Kind::Node4, Kind::Prefix])?;
-    } else {
-        record.room(frame, &[Kind::Node4])?;
-    }
+    let now = prefixes(before.len()) + prefixes(after.len());
+    record.room_to_part(frame, now.saturating_sub(slots.len()))?;
     let leaf = record.add_leaf(frame);
     let node = take(frame, Kind::Node4);
-    let lower = if after.is_empty() {
-        below
-    } else {
-        let lower = if both { take(frame, Kind::Prefix) } else { end.slot };
-        write_prefix(frame, lower, after, below);
-        lower
-    };
+    let (freed, stay) = slots.split_at(slots.len().saturating_sub(now));
+    let bodies = with_new(frame, stay, now);
+    let (upper, lower) = bodies.split_at(prefixes(before.len()));
+    let lower = write_chain(frame, lower, after, below);
     write_inner(frame, node, &sorted([(bytes[q], lower), (record.rest[q], leaf)]));
-    if before.is_empty() {
-        set_link(frame, end.link, node);
-    } else {
-        write_prefix(frame, end.slot, before, node);
-    }
-    if before.is_empty() && after.is_empty() {
-        release(frame, end.slot, Kind::Prefix);
-    }
+    let top = write_chain(frame, upper, before, node);
+    set_link(frame, end.link, top);
+    freed.iter().for_each(|slot| release(frame, *slot, Kind::Prefix));
     Ok(())
 }
 
@@ -195,13 +190,18 @@ fn add_to_inner(frame: &mut [u8], end: &Step, record: &NewRecord) -> Result<(), 
 }
 
 /// Another value for a present key; an absent one is told, and nothing is needed.
-pub fn replace(frame: &mut [u8], key: &[u8], value: &[u8]) -> u32 {
-    replace_or_refuse(frame, key, value).unwrap_or_else(|refused| refused)
+pub fn replace(edition: Edition, frame: &mut [u8], key: &[u8], value: &[u8]) -> u32 {
+    replace_or_refuse(edition, frame, key, value).unwrap_or_else(|refused| refused)
 }
 
-fn replace_or_refuse(frame: &mut [u8], key: &[u8], value: &[u8]) -> Result<u32, u32> {
-    record_refusal(frame, key, value)?;
-    let steps = walk(frame, &walked(key));
+fn replace_or_refuse(
+    edition: Edition,
+    frame: &mut [u8],
+    key: &[u8],
+    value: &[u8],
+) -> Result<u32, u32> {
+    record_refusal(edition, frame, key, value)?;
+    let steps = walk(frame, &edition.walked(key));
     let leaf = present(frame, &steps, key).ok_or(ABSENT)?;
     if leaf.value_length == value.len() {
         frame[leaf.extent + leaf.key_length..][..value.len()].copy_from_slice(value);
@@ -214,18 +214,18 @@ fn replace_or_refuse(frame: &mut [u8], key: &[u8], value: &[u8]) -> Result<u32, 
     Ok(REPLACED)
 }
 
-pub fn erase(frame: &mut [u8], key: &[u8]) -> u32 {
-    erase_or_refuse(frame, key).unwrap_or_else(|refused| refused)
+pub fn erase(edition: Edition, frame: &mut [u8], key: &[u8]) -> u32 {
+    erase_or_refuse(edition, frame, key).unwrap_or_else(|refused| refused)
 }
 
-fn erase_or_refuse(frame: &mut [u8], key: &[u8]) -> Result<u32, u32> {
-    refusal(frame, key)?;
-    let string = walked(key);
+fn erase_or_refuse(edition: Edition, frame: &mut [u8], key: &[u8]) -> Result<u32, u32> {
+    refusal(edition, frame, key)?;
+    let string = edition.walked(key);
     let steps = walk(frame, &string);
     let leaf = present(frame, &steps, key).ok_or(ABSENT)?;
     if get32(frame, AT_R) == 1 {
         let (f, n) = (get32(frame, AT_F), get32(frame, AT_N));
-        return Ok(format(frame, f, n));
+        return Ok(format(edition, frame, f, n));
     }
     let [above @ .., node, leaf_step] = &steps[..] else {
         panic!("a Leaf beside others stands under an inner node");
@@ -251,59 +251,48 @@ fn erase_or_refuse(frame: &mut [u8], key: &[u8]) -> Result<u32, u32> {
     Ok(DONE)
 }
 
-/// A Node4 with one child left is freed, and its byte goes into a Prefix if
-/// the child is no Leaf.
+/// A Node4 with one child left is freed. If that child is a Leaf, so are the
+/// Prefixes just above; else its byte joins the last of them and those below.
 fn collapse(
     frame: &mut [u8],
     above: &[Step],
     node: &Step,
     (byte, child): (u8, usize),
 ) -> Result<(), u32> {
-    let upper = above.last().filter(|step| step.kind == Kind::Prefix);
-    match (slot_kind(frame, child), upper) {
-        (Kind::Leaf, None) => set_link(frame, node.link, child),
-        (Kind::Leaf, Some(upper)) => {
-            set_link(frame, upper.link, child);
-            release(frame, upper.slot, Kind::Prefix);
-        }
-        (Kind::Prefix, None) => {
-            let joined = [&[byte][..], &prefix_bytes(frame, child)].concat();
-            let below = prefix_child(frame, child);
-            write_prefix(frame, child, &joined, below);
-            set_link(frame, node.link, child);
-        }
-        (Kind::Prefix, Some(upper)) => {
-            let start = prefix_bytes(frame, upper.slot);
-            let joined = [&start[..], &[byte], &prefix_bytes(frame, child)].concat();
-            let below = prefix_child(frame, child);
-            write_prefix(frame, upper.slot, &joined, below);
-            release(frame, child, Kind::Prefix);
-        }
-        (_, None) => {
-            room(frame, &[Kind::Prefix], 0)?;
-            let prefix = take(frame, Kind::Prefix);
-            write_prefix(frame, prefix, &[byte], child);
-            set_link(frame, node.link, prefix);
-        }
-        (_, Some(upper)) => {
-            let start = prefix_bytes(frame, upper.slot);
-            write_prefix(frame, upper.slot, &[&start[..], &[byte]].concat(), child);
-        }
+    if slot_kind(frame, child) == Kind::Leaf {
+        let chain = above.iter().rev().take_while(|step| step.kind == Kind::Prefix);
+        let top = chain.clone().last().unwrap_or(node);
+        set_link(frame, top.link, child);
+        chain.for_each(|step| release(frame, step.slot, Kind::Prefix));
+    } else {
+        let upper = above.last().filter(|step| step.kind == Kind::Prefix);
+        let lower = chain(frame, child);
+        let start = upper.map_or(Vec::new(), |upper| prefix_bytes(frame, upper.slot));
+        let bytes = [&start[..], &[byte], &lower.bytes].concat();
+        let slots: Vec<usize> =
+            upper.map(|upper| upper.slot).into_iter().chain(lower.slots).collect();
+        let now = prefixes(bytes.len());
+        room(frame, &vec![Kind::Prefix; now.saturating_sub(slots.len())], 0)?;
+        let (stay, freed) = slots.split_at(now.min(slots.len()));
+        let bodies = with_new(frame, stay, now);
+        let top = write_chain(frame, &bodies, &bytes, lower.below);
+        set_link(frame, upper.unwrap_or(node).link, top);
+        freed.iter().for_each(|slot| release(frame, *slot, Kind::Prefix));
     }
     release(frame, node.slot, Kind::Node4);
     Ok(())
 }
 
-pub fn pack(frame: &[u8], out: &mut [u8]) -> u32 {
-    pack_if(check(frame), frame, out)
+pub fn pack(edition: Edition, frame: &[u8], out: &mut [u8]) -> u32 {
+    pack_if(check(edition, frame), edition, frame, out)
 }
 
-/// For a frame from before Q-3: the check is by the old rule.
+/// For a frame from before Q-3, so of edition 1: the check is by the old rule.
 pub fn pack_before(frame: &[u8], out: &mut [u8]) -> u32 {
-    pack_if(check_before(frame), frame, out)
+    pack_if(check_before(Edition::One, frame), Edition::One, frame, out)
 }
 
-fn pack_if(checked: u32, frame: &[u8], out: &mut [u8]) -> u32 {
+fn pack_if(checked: u32, edition: Edition, frame: &[u8], out: &mut [u8]) -> u32 {
     if checked != DONE {
         return checked;
     }
@@ -311,7 +300,7 @@ fn pack_if(checked: u32, frame: &[u8], out: &mut [u8]) -> u32 {
         return OUTPUT_LENGTH;
     }
     let (f, n) = (get32(frame, AT_F), get32(frame, AT_N));
-    assert_eq!(format(out, f, n), DONE, "a good frame's F and N can be formatted");
+    assert_eq!(format(edition, out, f, n), DONE, "a good frame's F and N can be formatted");
     let records = get32(frame, AT_R);
     if records > 0 {
         // Slot 1 and the bytes at D are given out anew, as format gave them.
@@ -327,9 +316,9 @@ fn pack_if(checked: u32, frame: &[u8], out: &mut [u8]) -> u32 {
 
 /// The number, and F, N, U, B, R, X and the lengths of the lists 1 to 8; all 0
 /// of a refusal.
-pub fn info(frame: &[u8]) -> (u32, [u64; INFO_NUMBERS]) {
+pub fn info(edition: Edition, frame: &[u8]) -> (u32, [u64; INFO_NUMBERS]) {
     let mut told = [0; INFO_NUMBERS];
-    let checked = check(frame);
+    let checked = check(edition, frame);
     if checked == DONE {
         let fields = [AT_F, AT_N, AT_U, AT_B, AT_R, AT_X].map(|at| get32(frame, at));
         let lists = (1..=LISTS).map(|kind| list_length(frame, kind));
@@ -406,33 +395,35 @@ fn gather(frame: &[u8], slot: usize, found: &mut Records) {
 
 // Refusals and room.
 
-fn refusal(frame: &[u8], key: &[u8]) -> Result<(), u32> {
-    match check(frame) {
-        DONE => key_refusal(key).map_or(Ok(()), Err),
+fn refusal(edition: Edition, frame: &[u8], key: &[u8]) -> Result<(), u32> {
+    match check(edition, frame) {
+        DONE => edition.key_refusal(key).map_or(Ok(()), Err),
         refused => Err(refused),
     }
 }
 
 /// Of a put or a replacement, whether the key is there or not.
-fn record_refusal(frame: &[u8], key: &[u8], value: &[u8]) -> Result<(), u32> {
-    refusal(frame, key)?;
+fn record_refusal(edition: Edition, frame: &[u8], key: &[u8], value: &[u8]) -> Result<(), u32> {
+    refusal(edition, frame, key)?;
     if value.len() > LONGEST_VALUE {
         return Err(VALUE_LENGTH);
     }
     Ok(())
 }
 
-/// Bodies come from their lists first; an extent always comes from B.
+/// Bodies come from their lists as long as these last; an extent always comes
+/// from B.
 fn room(frame: &[u8], bodies: &[Kind], extent: usize) -> Result<(), u32> {
-    let fresh: Vec<Kind> = bodies
-        .iter()
-        .copied()
-        .filter(|kind| get16(frame, list_head_at(kind.number())) == 0)
-        .collect();
-    let bytes = fresh.iter().map(|kind| kind.body_bytes()).sum::<usize>() + extent;
+    let (mut slots, mut bytes) = (0, extent);
+    for kind in Kind::ALL {
+        let needed = bodies.iter().filter(|body| **body == kind).count();
+        let fresh = needed.saturating_sub(list_length(frame, kind.number()));
+        slots += fresh;
+        bytes += fresh * kind.body_bytes();
+    }
     let slots_left = get32(frame, AT_N) - get32(frame, AT_U);
     let bytes_left = get32(frame, AT_F) - get32(frame, AT_B);
-    if fresh.len() > slots_left || bytes > bytes_left {
+    if slots > slots_left || bytes > bytes_left {
         Err(NO_ROOM)
     } else {
         Ok(())
@@ -500,7 +491,7 @@ fn present(frame: &[u8], steps: &[Step], key: &[u8]) -> Option<LeafFields> {
     (&frame[leaf.extent..][..leaf.key_length] == key).then_some(leaf)
 }
 
-fn linked(frame: &[u8], link: Link) -> usize {
+pub(crate) fn linked(frame: &[u8], link: Link) -> usize {
     match link {
         Link::Root => get16(frame, AT_ROOT),
         Link::Child(at) => get32(frame, at),
@@ -576,9 +567,9 @@ pub(crate) fn leaf_fields(frame: &[u8], slot: usize) -> LeafFields {
     }
 }
 
-pub(crate) fn leaf_walked(frame: &[u8], slot: usize) -> Vec<u8> {
+pub(crate) fn leaf_walked(edition: Edition, frame: &[u8], slot: usize) -> Vec<u8> {
     let leaf = leaf_fields(frame, slot);
-    walked(&frame[leaf.extent..][..leaf.key_length])
+    edition.walked(&frame[leaf.extent..][..leaf.key_length])
 }
 
 /// A new Leaf with a new extent.
@@ -620,7 +611,7 @@ fn clear_body(frame: &mut [u8], slot: usize, kind: Kind) -> usize {
     body
 }
 
-// Prefixes.
+// Prefixes, and chains of them.
 
 pub(crate) fn prefix_bytes(frame: &[u8], slot: usize) -> Vec<u8> {
     let body = body_at(frame, slot);
@@ -638,6 +629,41 @@ pub(crate) fn write_prefix(frame: &mut [u8], slot: usize, bytes: &[u8], child: u
     set32(frame, body + PREFIX_CHILD, child);
     set16(frame, body + PREFIX_LENGTH, bytes.len());
     frame[body + PREFIX_BYTES.start..][..bytes.len()].copy_from_slice(bytes);
+}
+
+/// The Prefixes from a slot down, with all their bytes and the slot below them.
+pub(crate) struct Chain {
+    pub slots: Vec<usize>,
+    pub bytes: Vec<u8>,
+    pub below: usize,
+}
+
+/// None and no byte, if the slot is no Prefix.
+pub(crate) fn chain(frame: &[u8], slot: usize) -> Chain {
+    let (mut slots, mut bytes, mut below) = (Vec::new(), Vec::new(), slot);
+    while slot_kind(frame, below) == Kind::Prefix {
+        slots.push(below);
+        bytes.extend(prefix_bytes(frame, below));
+        below = prefix_child(frame, below);
+    }
+    Chain { slots, bytes, below }
+}
+
+/// So many bodies of a chain: these, and new ones behind them.
+fn with_new(frame: &mut [u8], stay: &[usize], now: usize) -> Vec<usize> {
+    let mut slots = stay.to_vec();
+    slots.extend((stay.len()..now).map(|_| take(frame, Kind::Prefix)));
+    slots
+}
+
+/// Writes a shared beginning into these bodies, each full but the last; gives the
+/// slot of the first, or the one below if there is no byte.
+pub(crate) fn write_chain(frame: &mut [u8], slots: &[usize], bytes: &[u8], below: usize) -> usize {
+    assert_eq!(slots.len(), prefixes(bytes.len()), "as many bodies as the bytes take");
+    slots.iter().zip(bytes.chunks(LONGEST_PREFIX)).rev().fold(below, |below, (slot, piece)| {
+        write_prefix(frame, *slot, piece, below);
+        *slot
+    })
 }
 
 // Inner nodes.

@@ -5,9 +5,10 @@
 //! that entry, and fails.
 
 use crate::batch::Fault;
+use crate::chains;
 use crate::check::Rule;
-use crate::layout::{number::*, Kind};
-use crate::slotless::{Case, End, Survivor, Told};
+use crate::layout::{number::*, Edition, Kind};
+use crate::slotless::{Beginning, Case, End, Survivor, Told};
 use std::collections::BTreeMap;
 
 #[derive(Clone, Copy, PartialEq, Eq, PartialOrd, Ord, Debug)]
@@ -26,18 +27,42 @@ pub enum Call {
 }
 
 impl Call {
-    /// The calls on a frame that is there.
-    const ON_A_FRAME: [Call; 10] = [
+    /// The calls of both editions on a frame that is there.
+    const ON_A_FRAME: [Call; 9] = [
         Call::Check,
         Call::LookUp,
         Call::Put,
         Call::Replace,
         Call::Erase,
         Call::Pack,
-        Call::PackBefore,
         Call::Info,
         Call::List,
         Call::Batch,
+    ];
+}
+
+/// Keys that edition 2 alone has.
+#[derive(Clone, Copy, PartialEq, Eq, PartialOrd, Ord, Debug)]
+pub enum Key {
+    /// As long as can be, and every byte 0.
+    LongestOfZeros,
+    /// As long as can be, and no byte 0.
+    LongestWithoutZero,
+    /// Bytes 0 behind another key that is there.
+    ZerosBehindAnother,
+    /// Another key that is there is this one and bytes 0 behind it.
+    BeforeAnother,
+    /// A byte 0, and a byte 255 behind it.
+    Zero255,
+}
+
+impl Key {
+    pub const ALL: [Key; 5] = [
+        Key::LongestOfZeros,
+        Key::LongestWithoutZero,
+        Key::ZerosBehindAnother,
+        Key::BeforeAnother,
+        Key::Zero255,
     ];
 }
 
@@ -116,9 +141,23 @@ pub enum Listing {
     StartBelowPrefix,
     /// The start key does not begin with the prefix, and shuts all out.
     StartAbovePrefix,
+    /// In edition 2: an entry written has a byte 0, and does not end with it,
+    ZeroInEntry,
+    /// is one before it and a byte 0 behind it,
+    ZeroBehindEntry,
+    /// stands for a group that a byte 0 ends.
+    GroupByZero,
+    /// In edition 2: the start key has a byte 0, and shuts some out.
+    ZeroInStart,
 }
 
 impl Listing {
+    pub const OF_ZEROS: [Listing; 4] = [
+        Listing::ZeroInEntry,
+        Listing::ZeroBehindEntry,
+        Listing::GroupByZero,
+        Listing::ZeroInStart,
+    ];
     pub const ALL: [Listing; 18] = [
         Listing::NoneMatches,
         Listing::NoneAfterStart,
@@ -144,7 +183,18 @@ impl Listing {
 #[derive(Clone, Copy, PartialEq, Eq, PartialOrd, Ord, Debug)]
 pub enum Entry {
     Number(Call, u32),
-    Ended(Case, Outcome),
+    /// A case, and the Prefixes that the frame then has more, or would have.
+    Ended(Case, isize, Outcome),
+    /// What was done to a shared beginning.
+    Beginning(Beginning),
+    /// A put, a replacement, a look-up or an erase that was done.
+    Key(Call, Key),
+    /// Every call on a good frame of the other edition.
+    OtherEdition,
+    /// Every call on such a frame with the number of this edition in its header.
+    CalledThisEdition {
+        taken: bool,
+    },
     FromList(Call, Kind),
     Fresh(Call, Kind),
     Absent(Call, End),
@@ -206,15 +256,19 @@ impl Tally {
             (false, true) => Outcome::NoBytes,
             (false, false) => Outcome::Done,
         };
-        self.add(Entry::Ended(*case, outcome));
+        let ended = |outcome| Entry::Ended(*case, told.prefixes, outcome);
+        self.add(ended(outcome));
         if outcome != Outcome::Done {
             return;
         }
+        if let Some(beginning) = told.beginning {
+            self.add(Entry::Beginning(beginning));
+        }
         if !room.fresh.is_empty() && room.fresh.len() == room.slots_left {
-            self.add(Entry::Ended(*case, Outcome::DoneWithLastSlots));
+            self.add(ended(Outcome::DoneWithLastSlots));
         }
         if room.fresh_bytes > 0 && room.fresh_bytes == room.bytes_left {
-            self.add(Entry::Ended(*case, Outcome::DoneWithLastBytes));
+            self.add(ended(Outcome::DoneWithLastBytes));
         }
         for kind in &room.from_list {
             self.add(Entry::FromList(call, *kind));
@@ -228,37 +282,66 @@ impl Tally {
         self.counts.iter()
     }
 
-    pub fn never_reached(&self) -> Vec<Entry> {
-        expected().into_iter().filter(|entry| !self.counts.contains_key(entry)).collect()
+    pub fn never_reached(&self, edition: Edition) -> Vec<Entry> {
+        expected(edition).into_iter().filter(|entry| !self.counts.contains_key(entry)).collect()
     }
 }
 
-pub fn cases() -> Vec<Case> {
+/// Each with the Prefixes that the frame can then have more.
+fn cases(edition: Edition) -> Vec<(Case, isize)> {
     let mut all = vec![
-        Case::PutInEmptyFrame,
-        Case::ReplaceSameLength,
-        Case::ReplaceOtherLength { same_rounded: true },
-        Case::ReplaceOtherLength { same_rounded: false },
-        Case::EraseOnlyRecord,
+        (Case::PutInEmptyFrame, 0),
+        (Case::ReplaceSameLength, 0),
+        (Case::ReplaceOtherLength { same_rounded: true }, 0),
+        (Case::ReplaceOtherLength { same_rounded: false }, 0),
+        (Case::EraseOnlyRecord, 0),
     ];
     for kind in Kind::INNER {
-        all.extend([Case::PutAdds(kind), Case::EraseRemoves(kind)]);
-        all.extend(kind.larger().map(|_| Case::PutGrows(kind)));
-        all.extend(kind.smaller().map(|_| Case::EraseShrinks(kind)));
+        all.extend([(Case::PutAdds(kind), 0), (Case::EraseRemoves(kind), 0)]);
+        all.extend(kind.larger().map(|_| (Case::PutGrows(kind), 0)));
+        all.extend(kind.smaller().map(|_| (Case::EraseShrinks(kind), 0)));
     }
-    for yes in [false, true] {
-        all.push(Case::PutSplitsLeaf { shared: yes });
-        for after in [false, true] {
-            all.push(Case::PutCutsPrefix { before: yes, after });
-        }
-        for survivor in [Survivor::Leaf, Survivor::Prefix, Survivor::Inner] {
-            all.push(Case::EraseCollapses { survivor, prefix_above: yes });
-        }
+    all.push((Case::PutSplitsLeaf { shared: false }, 0));
+    let cut = |before, after| Case::PutCutsPrefix { before, after };
+    all.extend([
+        (cut(true, true), 1),
+        (cut(true, false), 0),
+        (cut(false, true), 0),
+        (cut(false, false), -1),
+    ]);
+    let left = |survivor, prefix_above| Case::EraseCollapses { survivor, prefix_above };
+    all.extend([
+        (left(Survivor::Leaf, false), 0),
+        (left(Survivor::Prefix, false), 0),
+        (left(Survivor::Prefix, true), -1),
+        (left(Survivor::Inner, false), 1),
+        (left(Survivor::Inner, true), 0),
+    ]);
+    // At most 509 bytes are shared, which five Prefixes hold.
+    let most = match edition {
+        Edition::One => 1,
+        Edition::Two => 5,
+    };
+    for prefixes in 1..=most {
+        all.push((Case::PutSplitsLeaf { shared: true }, prefixes));
+        all.push((left(Survivor::Leaf, true), -prefixes));
+    }
+    if edition == Edition::Two {
+        all.extend([
+            (cut(true, true), 0),
+            (cut(true, true), -1),
+            (cut(true, false), -1),
+            (cut(false, true), -1),
+            (left(Survivor::Prefix, false), 1),
+            (left(Survivor::Prefix, true), 0),
+            (left(Survivor::Prefix, true), 1),
+            (left(Survivor::Inner, true), 1),
+        ]);
     }
     all
 }
 
-fn needs_bodies(case: Case) -> bool {
+fn needs_bodies(case: Case, prefixes: isize) -> bool {
     match case {
         Case::PutInEmptyFrame
         | Case::PutSplitsLeaf { .. }
@@ -266,9 +349,7 @@ fn needs_bodies(case: Case) -> bool {
         | Case::PutGrows(_)
         | Case::PutCutsPrefix { .. }
         | Case::EraseShrinks(_) => true,
-        Case::EraseCollapses { survivor, prefix_above } => {
-            survivor == Survivor::Inner && !prefix_above
-        }
+        Case::EraseCollapses { .. } => prefixes > 0,
         Case::ReplaceSameLength
         | Case::ReplaceOtherLength { .. }
         | Case::EraseOnlyRecord
@@ -277,21 +358,26 @@ fn needs_bodies(case: Case) -> bool {
 }
 
 /// Everything a full run has to reach.
-pub fn expected() -> Vec<Entry> {
+pub fn expected(edition: Edition) -> Vec<Entry> {
     let mut all = Vec::new();
-    for case in cases() {
+    for (case, prefixes) in cases(edition) {
         let mut outcomes = vec![Outcome::Done];
-        if needs_bodies(case) {
+        if needs_bodies(case, prefixes) {
             outcomes.extend([
                 Outcome::DoneWithLastSlots,
                 Outcome::NoSlots,
                 Outcome::NoSlotsNorBytes,
             ]);
         }
-        if needs_bodies(case) || matches!(case, Case::ReplaceOtherLength { .. }) {
+        if needs_bodies(case, prefixes) || matches!(case, Case::ReplaceOtherLength { .. }) {
             outcomes.extend([Outcome::DoneWithLastBytes, Outcome::NoBytes]);
         }
-        all.extend(outcomes.into_iter().map(|outcome| Entry::Ended(case, outcome)));
+        all.extend(outcomes.into_iter().map(|outcome| Entry::Ended(case, prefixes, outcome)));
+    }
+    all.extend([Entry::OtherEdition, Entry::CalledThisEdition { taken: true }]);
+    match edition {
+        Edition::One => all.extend(of_edition_1()),
+        Edition::Two => all.extend(of_edition_2()),
     }
     let put = [Kind::Leaf, Kind::Prefix, Kind::Node4, Kind::Node16, Kind::Node48, Kind::Node256];
     let erase = [Kind::Prefix, Kind::Node4, Kind::Node16, Kind::Node48];
@@ -312,52 +398,25 @@ pub fn expected() -> Vec<Entry> {
     all.extend(Fault::ALL.map(Entry::BatchFault));
     all.extend(Batch::ALL.map(Entry::Batch));
     all.extend([DONE, ABSENT, REPLACED, PRESENT].map(Entry::WentOn));
-    let numbers: [(Call, &[u32]); 11] = [
+    let numbers: [(Call, &[u32]); 10] = [
         (Call::Format, &[DONE, LENGTHS]),
         (Call::Check, &[DONE, LENGTHS, NOT_GOOD]),
-        (Call::LookUp, &[DONE, ABSENT, LENGTHS, NOT_GOOD, KEY_LENGTH, KEY_HOLDS_ZERO]),
-        (
-            Call::Put,
-            &[DONE, PRESENT, LENGTHS, NOT_GOOD, KEY_LENGTH, KEY_HOLDS_ZERO, VALUE_LENGTH, NO_ROOM],
-        ),
-        (
-            Call::Replace,
-            &[
-                REPLACED,
-                ABSENT,
-                LENGTHS,
-                NOT_GOOD,
-                KEY_LENGTH,
-                KEY_HOLDS_ZERO,
-                VALUE_LENGTH,
-                NO_ROOM,
-            ],
-        ),
-        (Call::Erase, &[DONE, ABSENT, LENGTHS, NOT_GOOD, KEY_LENGTH, KEY_HOLDS_ZERO, NO_ROOM]),
+        (Call::LookUp, &[DONE, ABSENT, LENGTHS, NOT_GOOD, KEY_LENGTH]),
+        (Call::Put, &[DONE, PRESENT, LENGTHS, NOT_GOOD, KEY_LENGTH, VALUE_LENGTH, NO_ROOM]),
+        (Call::Replace, &[REPLACED, ABSENT, LENGTHS, NOT_GOOD, KEY_LENGTH, VALUE_LENGTH, NO_ROOM]),
+        (Call::Erase, &[DONE, ABSENT, LENGTHS, NOT_GOOD, KEY_LENGTH, NO_ROOM]),
         (Call::Pack, &[DONE, LENGTHS, NOT_GOOD, OUTPUT_LENGTH]),
-        (Call::PackBefore, &[DONE, LENGTHS, NOT_GOOD, OUTPUT_LENGTH]),
         (Call::Info, &[DONE, LENGTHS, NOT_GOOD]),
         (
             Call::Batch,
-            &[
-                DONE,
-                LENGTHS,
-                NOT_GOOD,
-                OUTPUT_LENGTH,
-                LAYOUT,
-                KEY_LENGTH,
-                KEY_HOLDS_ZERO,
-                VALUE_LENGTH,
-                NO_ROOM,
-            ],
+            &[DONE, LENGTHS, NOT_GOOD, OUTPUT_LENGTH, LAYOUT, KEY_LENGTH, VALUE_LENGTH, NO_ROOM],
         ),
-        (Call::List, &[DONE, LENGTHS, NOT_GOOD, KEY_LENGTH, KEY_HOLDS_ZERO, BUFFER]),
+        (Call::List, &[DONE, LENGTHS, NOT_GOOD, KEY_LENGTH, BUFFER]),
     ];
     for (call, given) in numbers {
         all.extend(given.iter().map(|number| Entry::Number(call, *number)));
     }
     all.extend(Kind::ALL.map(Entry::Listed));
-    let before = |call: Call| Rule::WIPED.map(|rule| Entry::Before(call, rule));
     all.extend(Call::ON_A_FRAME.into_iter().flat_map(before));
     // An EmptyRoot is zero as long as it is live.
     let put = [Kind::Prefix, Kind::Node4, Kind::Node16, Kind::Node48];
@@ -365,5 +424,30 @@ pub fn expected() -> Vec<Entry> {
     all.extend(put.map(|kind| Entry::WipedBody(Call::Put, kind)));
     all.extend(erase.map(|kind| Entry::WipedBody(Call::Erase, kind)));
     all.extend([Call::Replace, Call::Erase].map(Entry::WipedExtent));
+    all
+}
+
+fn before(call: Call) -> [Entry; 3] {
+    Rule::WIPED.map(|rule| Entry::Before(call, rule))
+}
+
+/// Refusal 4, the packing by the old rule, and frames that edition 2 alone has.
+fn of_edition_1() -> Vec<Entry> {
+    let with_a_key = [Call::LookUp, Call::Put, Call::Replace, Call::Erase, Call::Batch, Call::List];
+    let packed = [DONE, LENGTHS, NOT_GOOD, OUTPUT_LENGTH];
+    let mut all = with_a_key.map(|call| Entry::Number(call, KEY_HOLDS_ZERO)).to_vec();
+    all.extend(packed.map(|number| Entry::Number(Call::PackBefore, number)));
+    all.extend(before(Call::PackBefore));
+    all.push(Entry::CalledThisEdition { taken: false });
+    all
+}
+
+/// Shared beginnings at the ends of full Prefixes, and keys with bytes 0.
+fn of_edition_2() -> Vec<Entry> {
+    let mut all: Vec<Entry> = chains::expected().into_iter().map(Entry::Beginning).collect();
+    for call in [Call::LookUp, Call::Put, Call::Replace, Call::Erase] {
+        all.extend(Key::ALL.map(|key| Entry::Key(call, key)));
+    }
+    all.extend(Listing::OF_ZEROS.map(Entry::Listing));
     all
 }

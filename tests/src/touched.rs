@@ -7,10 +7,14 @@
 //! is taken, the places of fresh bodies and of the extent between the old B
 //! and the new, the links of a list that is touched, and what padding holds.
 //! Bytes that are freed change, and are zero after: a rule of the frame says so.
+//! Where a shared beginning is cut or joined, docs/FREEDOMS.md has it settled which
+//! body has which part: those that were there stand in the order in which they
+//! stood, and a new one below them; a cut frees the Prefix that is cut, a join the
+//! last one.
 
 use crate::check::Reading;
 use crate::layout::*;
-use crate::store::{self, Link, Step};
+use crate::store::{self, Chain, Link, Step};
 use std::collections::BTreeSet;
 use std::ops::Range;
 
@@ -19,14 +23,26 @@ use std::ops::Range;
 pub struct Touched {
     rewritten: Vec<usize>,
     freed: Vec<usize>,
+    beginning: Option<Beginning>,
     needed: Vec<Kind>,
     relinked: Option<Link>,
     extents: Vec<Range<usize>>,
 }
 
+/// A shared beginning that is cut or joined.
+#[derive(Debug)]
+struct Beginning {
+    /// The way to it and through it.
+    path: Vec<u8>,
+    /// The bytes of it that lead to the first body.
+    from: usize,
+    /// The bodies that stay, from the first on.
+    stay: Vec<usize>,
+}
+
 /// For a put that is done: the key is new.
-pub fn by_put(before: &[u8], key: &[u8]) -> Touched {
-    let string = walked(key);
+pub fn by_put(edition: Edition, before: &[u8], key: &[u8]) -> Touched {
+    let string = edition.walked(key);
     let steps = store::walk(before, &string);
     let Step { link, slot, kind, depth } = steps[steps.len() - 1];
     let rest = &string[depth..];
@@ -38,29 +54,27 @@ pub fn by_put(before: &[u8], key: &[u8]) -> Touched {
             ..Touched::default()
         },
         Kind::Leaf => {
-            let share_bytes = store::leaf_walked(before, slot)[depth] == rest[0];
-            let needed = if share_bytes {
-                vec![Kind::Leaf, Kind::Node4, Kind::Prefix]
-            } else {
-                vec![Kind::Leaf, Kind::Node4]
-            };
+            let there = store::leaf_walked(edition, before, slot);
+            let needed = parting(prefixes(shared(rest, &there[depth..])));
             Touched { needed, relinked: Some(link), ..Touched::default() }
         }
         Kind::Prefix => {
-            let bytes = store::prefix_bytes(before, slot);
+            let Chain { slots, bytes, .. } = store::chain(before, slot);
             let matched = shared(rest, &bytes);
-            let (before_part, after_part) = (matched > 0, matched + 1 < bytes.len());
-            let mut needed = vec![Kind::Leaf, Kind::Node4];
-            if before_part && after_part {
-                needed.push(Kind::Prefix);
-            }
-            let kept = before_part || after_part;
+            let (had, after_part) = (slots.len(), bytes.len() - matched - 1);
+            let now = prefixes(matched) + prefixes(after_part);
+            let (freed, stay) = slots.split_at(had.saturating_sub(now));
             Touched {
-                rewritten: if kept { vec![slot] } else { vec![] },
-                freed: if kept { vec![] } else { vec![slot] },
-                needed,
-                // With only a part before, the old body stays where it hangs.
-                relinked: if before_part && !after_part { None } else { Some(link) },
+                rewritten: stay.to_vec(),
+                freed: freed.to_vec(),
+                needed: parting(now.saturating_sub(had)),
+                // The part before stays where it hangs.
+                relinked: if matched > 0 { None } else { Some(link) },
+                beginning: Some(Beginning {
+                    path: [&string[..depth], &bytes].concat(),
+                    from: depth,
+                    stay: stay.to_vec(),
+                }),
                 ..Touched::default()
             }
         }
@@ -76,9 +90,20 @@ pub fn by_put(before: &[u8], key: &[u8]) -> Touched {
     }
 }
 
+/// A Leaf, a Node4 and so many Prefixes.
+fn parting(prefixes: usize) -> Vec<Kind> {
+    [&[Kind::Leaf, Kind::Node4][..], &vec![Kind::Prefix; prefixes]].concat()
+}
+
 /// For a replacement that is done: the key is present.
-pub fn by_replace(before: &[u8], reading: &Reading, key: &[u8], value: &[u8]) -> Touched {
-    let steps = store::walk(before, &walked(key));
+pub fn by_replace(
+    edition: Edition,
+    before: &[u8],
+    reading: &Reading,
+    key: &[u8],
+    value: &[u8],
+) -> Touched {
+    let steps = store::walk(before, &edition.walked(key));
     let Step { slot, .. } = steps[steps.len() - 1];
     let same_length = store::leaf_fields(before, slot).value_length == value.len();
     Touched {
@@ -89,8 +114,8 @@ pub fn by_replace(before: &[u8], reading: &Reading, key: &[u8], value: &[u8]) ->
 }
 
 /// For an erase that is not refused, of a key that is present beside others.
-pub fn by_erase(before: &[u8], reading: &Reading, key: &[u8]) -> Touched {
-    let string = walked(key);
+pub fn by_erase(edition: Edition, before: &[u8], reading: &Reading, key: &[u8]) -> Touched {
+    let string = edition.walked(key);
     let steps = store::walk(before, &string);
     let [above @ .., node, leaf] = &steps[..] else {
         panic!("a Leaf beside others stands under an inner node");
@@ -106,27 +131,13 @@ pub fn by_erase(before: &[u8], reading: &Reading, key: &[u8]) -> Touched {
         .filter(|child| *child != leaf.slot)
         .collect();
     if let [child] = left[..] {
-        let upper = above.last().filter(|step| step.kind == Kind::Prefix);
         touched.freed.push(node.slot);
-        match (reading.live[&child], upper) {
-            (Kind::Leaf, None) => touched.relinked = Some(node.link),
-            (Kind::Leaf, Some(upper)) => {
-                touched.freed.push(upper.slot);
-                touched.relinked = Some(upper.link);
-            }
-            (Kind::Prefix, None) => {
-                touched.rewritten.push(child);
-                touched.relinked = Some(node.link);
-            }
-            (Kind::Prefix, Some(upper)) => {
-                touched.rewritten.push(upper.slot);
-                touched.freed.push(child);
-            }
-            (_, None) => {
-                touched.needed.push(Kind::Prefix);
-                touched.relinked = Some(node.link);
-            }
-            (_, Some(upper)) => touched.rewritten.push(upper.slot),
+        let chain_above = above.iter().rev().take_while(|step| step.kind == Kind::Prefix);
+        if reading.live[&child] == Kind::Leaf {
+            touched.relinked = Some(chain_above.clone().last().unwrap_or(node).link);
+            touched.freed.extend(chain_above.map(|step| step.slot));
+        } else {
+            touched.join(before, chain_above.clone().next(), node, (&string, child));
         }
     } else if node.kind.shrink_mark() == Some(left.len()) {
         touched.freed.push(node.slot);
@@ -139,6 +150,31 @@ pub fn by_erase(before: &[u8], reading: &Reading, key: &[u8]) -> Touched {
 }
 
 impl Touched {
+    /// The byte that leads to the child joins the last Prefix above, if there is
+    /// one, and those below.
+    fn join(
+        &mut self,
+        before: &[u8],
+        upper: Option<&Step>,
+        node: &Step,
+        (string, child): (&[u8], usize),
+    ) {
+        let lower = store::chain(before, child);
+        let children = store::children(before, node.slot);
+        let byte = children.iter().find(|(_, slot)| *slot == child).expect("a child of it").0;
+        let from = upper.unwrap_or(node).depth;
+        let path = [&string[..node.depth], &[byte], &lower.bytes].concat();
+        let mut stay: Vec<usize> = upper.map(|upper| upper.slot).into_iter().collect();
+        stay.extend(lower.slots);
+        let now = prefixes(path.len() - from);
+        self.needed.extend(vec![Kind::Prefix; now.saturating_sub(stay.len())]);
+        self.freed.extend(stay.split_off(now.min(stay.len())));
+        self.rewritten.extend(&stay);
+        // A Prefix above stays where it hangs.
+        self.relinked = upper.is_none().then_some(node.link);
+        self.beginning = Some(Beginning { path, from, stay });
+    }
+
     /// The first way in which the frame after breaks off from what the step
     /// may change, if there is one. Both frames are good.
     pub fn overstepped(
@@ -150,6 +186,12 @@ impl Touched {
             was.live.keys().filter(|slot| !is.live.contains_key(slot)).copied().collect();
         if freed != self.freed.iter().copied().collect() {
             return Some(format!("slots {freed:?} were freed instead of {:?}", self.freed));
+        }
+        if let Some(Beginning { path, from, stay }) = &self.beginning {
+            let slots = prefixes_on(after, path, *from);
+            if !slots.starts_with(stay) {
+                return Some(format!("slots {slots:?} have what {stay:?} should have"));
+            }
         }
         if let Some(slot) = freed.iter().find(|s| !is.lists[was.live[s].number()].contains(s)) {
             return Some(format!("freed slot {slot} is not on the list of its kind"));
@@ -208,4 +250,14 @@ impl Touched {
         }
         may_change
     }
+}
+
+/// The Prefixes that a way goes through from so many bytes on.
+fn prefixes_on(frame: &[u8], path: &[u8], from: usize) -> Vec<usize> {
+    // It goes on somewhere, and ends before these bytes do.
+    let behind = [END_BYTE; Edition::Two.longest_walked()];
+    let steps = store::walk(frame, &[path, &behind].concat());
+    let on_it = |step: &&Step| (from..path.len()).contains(&step.depth);
+    let prefixes = steps.iter().filter(on_it).filter(|step| step.kind == Kind::Prefix);
+    prefixes.map(|step| step.slot).collect()
 }

@@ -58,7 +58,7 @@ pub fn soiled(random: &mut Random, frame: &[u8], reading: &Reading, rules: &[Rul
         parts(frame, reading).into_iter().filter(|part| rules.contains(&part.rule))
     {
         soiled[bytes.clone()].copy_from_slice(&random.bytes(bytes.len()));
-        soiled[bytes.start] = random.key_byte();
+        soiled[bytes.start] = random.byte_not_0();
     }
     soiled
 }
@@ -77,6 +77,6 @@ pub fn speckled(random: &mut Random, frame: &[u8], reading: &Reading) -> Option<
         _ => random.from_to(bytes.start, bytes.end - 1),
     };
     let mut speckled = frame.to_vec();
-    speckled[at] = random.key_byte();
+    speckled[at] = random.byte_not_0();
     Some(speckled)
 }

@@ -1,9 +1,10 @@
 //! The worked frames W1 to W11, everything under "Run and compared", and worked
 //! cases of document 02.
 //!
-//! Believed here: the figures document 01 prints, and what document 02 says of
-//! cases that can be told beforehand. They are literal, and do not come from
-//! any reading in this crate.
+//! Believed here: the figures document 01 prints, which hold in both editions since
+//! no key is longer there or has a byte 0, and what document 02 says of cases that
+//! can be told beforehand. They are literal, and do not come from any reading in
+//! this crate. Chains have a file of their own.
 
 use crate::batch::{laid, AT_KIND};
 use crate::compare::{Compared, Comparer, Held};
@@ -15,14 +16,14 @@ const SMALL: (usize, usize) = (1_024, 8);
 const LARGE: (usize, usize) = (524_288, 10_240);
 
 /// Number given and the fields after it.
-struct Figures {
-    name: &'static str,
-    number: u32,
-    fields: &'static [(usize, usize)],
+pub struct Figures {
+    pub name: &'static str,
+    pub number: u32,
+    pub fields: &'static [(usize, usize)],
 }
 
 impl Figures {
-    fn hold(&self, comparer: &Comparer, held: &Held, number: u32) -> Compared<()> {
+    pub fn hold(&self, comparer: &Comparer, held: &Held, number: u32) -> Compared<()> {
         if number != self.number {
             return comparer.differs(format!("{} gave {number}, not {}", self.name, self.number));
         }
@@ -37,12 +38,12 @@ impl Figures {
     }
 }
 
-fn formatted(comparer: &mut Comparer, (f, n): (usize, usize), fill: u8) -> Compared<Held> {
+pub fn formatted(comparer: &mut Comparer, (f, n): (usize, usize), fill: u8) -> Compared<Held> {
     let made = comparer.format(&vec![fill; f], f, n)?;
     Ok(made.expect("F and N are within the limits"))
 }
 
-fn put(
+pub fn put(
     comparer: &mut Comparer,
     held: &mut Held,
     key: &[u8],
@@ -132,15 +133,24 @@ pub fn lengths_at_the_limits(comparer: &mut Comparer) -> Compared<()> {
         put(comparer, &mut held, key.as_bytes(), &vec![length as u8; length], figures)?;
         comparer.look_up(&held, key.as_bytes())?;
     }
-    for (length, expected) in [(0, 3), (1, 0), (111, 0), (112, 0), (113, 3), (200, 3), (65_648, 3)]
-    {
+    let lengths: &[(usize, u32)] = match comparer.edition() {
+        Edition::One => &[(0, 3), (1, 0), (111, 0), (112, 0), (113, 3), (200, 3), (65_648, 3)],
+        Edition::Two => {
+            &[(0, 3), (1, 0), (112, 0), (113, 0), (254, 0), (255, 0), (256, 3), (65_791, 3)]
+        }
+    };
+    for (length, expected) in lengths.iter().copied() {
         let key = vec![b'k'; length];
         let figures = Figures { name: "a key's length", number: expected, fields: &[] };
         put(comparer, &mut held, &key, b"v", figures)?;
         comparer.look_up(&held, &key)?;
     }
-    for key in [&b"\0"[..], b"a\0", b"\0a", b"a\0b"] {
-        let figures = Figures { name: "a key with a byte 0", number: 4, fields: &[] };
+    let number = match comparer.edition() {
+        Edition::One => 4,
+        Edition::Two => 0,
+    };
+    for key in [&b"\0"[..], b"a\0", b"\0a", b"a\0b", b"\0\xff", &[0; 112]] {
+        let figures = Figures { name: "a key with a byte 0", number, fields: &[] };
         put(comparer, &mut held, key, b"v", figures)?;
         comparer.look_up(&held, key)?;
         comparer.erase(&mut held, key)?;
@@ -217,7 +227,11 @@ pub fn puts_and_replacements(comparer: &mut Comparer) -> Compared<()> {
     replace(comparer, &mut w2, b"b", b"2", figures("a replacement of an absent key", 8))?;
     replace(comparer, &mut w2, b"b", &long_value, figures("5 before 8", 5))?;
     replace(comparer, &mut w2, b"", b"2", figures("a replacement without a key", 3))?;
-    replace(comparer, &mut w2, b"b\0", b"2", figures("a replacement of a key with 0", 4))?;
+    let with_zero = match comparer.edition() {
+        Edition::One => 4,
+        Edition::Two => 8,
+    };
+    replace(comparer, &mut w2, b"b\0", b"2", figures("a replacement of a key with 0", with_zero))?;
     replace(comparer, &mut w2, b"a", b"2", figures("the same length", 9))?;
     let figures = Figures {
         name: "another length, though the size is the same",
@@ -285,25 +299,65 @@ pub fn slots_visited(comparer: &mut Comparer) -> Compared<()> {
         }
         visited(comparer, &held, key, slots)?;
         visited(comparer, &held, b"", 0)?;
-        visited(comparer, &held, b"\0", 0)?;
+        if comparer.edition() == Edition::One {
+            visited(comparer, &held, b"\0", 0)?;
+        }
         let mut not_good = held.bytes().to_vec();
         not_good[AT_X] ^= 8;
-        visited(comparer, &Held::new(not_good), key, 0)?;
-        visited(comparer, &Held::new(held.bytes()[..1_016].to_vec()), key, 0)?;
+        visited(comparer, &comparer.held(not_good), key, 0)?;
+        visited(comparer, &comparer.held(held.bytes()[..1_016].to_vec()), key, 0)?;
     }
-    // p, pp and so on, and q beside them: a node for every byte.
+    match comparer.edition() {
+        Edition::One => row_of_edition_1(comparer),
+        Edition::Two => row_of_edition_2(comparer),
+    }
+}
+
+fn in_the_row() -> Figures {
+    Figures { name: "a record of the row", number: 0, fields: &[] }
+}
+
+/// p, pp and so on, and q beside them: a node for every byte.
+fn row_of_edition_1(comparer: &mut Comparer) -> Compared<()> {
+    const MOST: usize = 112;
     let mut held = formatted(comparer, (32_768, 400), 0)?;
-    let figures = || Figures { name: "a record of the row", number: 0, fields: &[] };
-    put(comparer, &mut held, b"q", b"v", figures())?;
-    let row = vec![b'p'; LONGEST_KEY];
-    for length in 1..=LONGEST_KEY {
-        put(comparer, &mut held, &row[..length], b"v", figures())?;
+    put(comparer, &mut held, b"q", b"v", in_the_row())?;
+    let row = vec![b'p'; MOST];
+    for length in 1..=MOST {
+        put(comparer, &mut held, &row[..length], b"v", in_the_row())?;
     }
-    for length in 1..LONGEST_KEY {
+    for length in 1..MOST {
         visited(comparer, &held, &row[..length], length as u64 + 2)?;
     }
     // No longer key parts from it, so its Leaf hangs where its last byte leads.
-    visited(comparer, &held, &row, LONGEST_KEY as u64 + 1)
+    visited(comparer, &held, &row, MOST as u64 + 1)
+}
+
+/// The same, and behind each of them a byte 0, so that it parts at the second byte
+/// of its end.
+fn row_of_edition_2(comparer: &mut Comparer) -> Compared<()> {
+    const MOST: usize = 255;
+    let mut held = formatted(comparer, (131_072, 2_200), 0)?;
+    put(comparer, &mut held, b"q", b"v", in_the_row())?;
+    let row = vec![b'p'; MOST];
+    for length in 1..=MOST {
+        put(comparer, &mut held, &row[..length], b"v", in_the_row())?;
+        if length < MOST {
+            let with_zero = [&row[..length], &[0]].concat();
+            put(comparer, &mut held, &with_zero, b"v", in_the_row())?;
+        }
+    }
+    for length in [1, 2, 3, 111, 112, 113, 252, 253] {
+        visited(comparer, &held, &row[..length], length as u64 + 3)?;
+        visited(comparer, &held, &[&row[..length], &[0]].concat(), length as u64 + 3)?;
+    }
+    // Its two bytes 0 lead to no other key.
+    visited(comparer, &held, &row, MOST as u64 + 1)?;
+    for length in [1, 112, 253] {
+        comparer.erase(&mut held, &row[..length])?;
+        visited(comparer, &held, &row[..length], length as u64 + 2)?;
+    }
+    Ok(())
 }
 
 fn visited(comparer: &mut Comparer, held: &Held, key: &[u8], slots: u64) -> Compared<()> {
@@ -321,7 +375,7 @@ type Worked<'a> = (&'a [u8], Option<&'a [u8]>, Option<u8>, usize, u32, u64, &'a 
 
 const LISTED_KEYS: [&[u8]; 7] = [b"a", b"a/b", b"a/c", b"ab", b"b/x", b"b/y", b"c"];
 const SLASH: Option<u8> = Some(b'/');
-const LISTINGS: [Worked; 20] = [
+const LISTINGS: [Worked; 16] = [
     // 8 of 12 bytes; a/c needs 5
     (b"", None, None, 12, 0, 1, &[b"a", b"a/b"]),
     (b"", Some(b"a/b"), None, 8, 0, 1, &[b"a/c"]),
@@ -345,12 +399,38 @@ const LISTINGS: [Worked; 20] = [
     (b"", Some(b"c"), None, 0, 0, 0, &[]),
     // a byte 0 in the prefix is no fault
     (b"\0", None, None, 18, 0, 0, &[]),
-    (b"", Some(b"a\0"), None, 18, 4, 0, &[]),
     (b"", Some(b""), None, 18, 3, 0, &[]),
+];
+const LISTINGS_OF_EDITION_1: [Worked; 4] = [
+    (b"", Some(b"a\0"), None, 18, 4, 0, &[]),
     // the order of refusals
     (&[b'p'; 113], Some(b"a\0"), None, 0, 3, 0, &[]),
     (b"", Some(b"a\0"), None, 0, 4, 0, &[]),
     (&[b'p'; 112], None, None, 0, 0, 0, &[]),
+];
+const LISTINGS_OF_EDITION_2: [Worked; 5] = [
+    // 14 of 18 bytes; b/x needs 5
+    (b"", Some(b"a\0"), None, 18, 0, 1, &[b"a/b", b"a/c", b"ab"]),
+    (b"a", Some(&[0; 255]), None, 4, 0, 1, &[b"a"]),
+    (&[b'p'; 255], None, None, 0, 0, 0, &[]),
+    (&[b'p'; 256], None, None, 0, 3, 0, &[]),
+    (b"", Some(&[b'p'; 256]), None, 0, 3, 0, &[]),
+];
+
+/// A key sorts before itself and a byte 0, and that before every longer one.
+const ZERO_KEYS: [&[u8]; 7] = [b"\0", b"\0\0", b"\0\xff", b"\x01", b"a", b"a\0", b"a\0\0\xff"];
+const ZERO: Option<u8> = Some(0);
+const ZERO_LISTINGS: [Worked; 9] = [
+    (b"", None, None, 27, 0, 0, &ZERO_KEYS),
+    (b"", None, None, 26, 0, 1, &[b"\0", b"\0\0", b"\0\xff", b"\x01", b"a", b"a\0"]),
+    (b"\0", None, None, 11, 0, 0, &[b"\0", b"\0\0", b"\0\xff"]),
+    (b"\0", Some(b"\0"), None, 8, 0, 0, &[b"\0\0", b"\0\xff"]),
+    (b"\0", Some(b"\0\0"), None, 8, 0, 0, &[b"\0\xff"]),
+    (b"a", Some(b"a\0\0"), None, 6, 0, 0, &[b"a\0\0\xff"]),
+    // a byte 0 as delimiter: \0 stands for three keys, a\0 for two
+    (b"", None, ZERO, 13, 0, 0, &[b"\0", b"\x01", b"a", b"a\0"]),
+    (b"\0", None, ZERO, 11, 0, 0, &[b"\0", b"\0\0", b"\0\xff"]),
+    (b"a", Some(b"a"), ZERO, 4, 0, 0, &[b"a\0"]),
 ];
 
 /// Bytes of 128 and more sort last; a group that is the last entry.
@@ -364,7 +444,14 @@ const HIGH_LISTINGS: [Worked; 2] = [
 pub fn worked_listings(comparer: &mut Comparer) -> Compared<()> {
     comparer.begin("worked listings".to_string());
     listed(comparer, &LISTED_KEYS, &LISTINGS)?;
-    listed(comparer, &HIGH_KEYS, &HIGH_LISTINGS)
+    listed(comparer, &HIGH_KEYS, &HIGH_LISTINGS)?;
+    match comparer.edition() {
+        Edition::One => listed(comparer, &LISTED_KEYS, &LISTINGS_OF_EDITION_1),
+        Edition::Two => {
+            listed(comparer, &LISTED_KEYS, &LISTINGS_OF_EDITION_2)?;
+            listed(comparer, &ZERO_KEYS, &ZERO_LISTINGS)
+        }
+    }
 }
 
 fn listed(comparer: &mut Comparer, keys: &[&[u8]], listings: &[Worked]) -> Compared<()> {
@@ -404,12 +491,16 @@ pub fn worked_batches(comparer: &mut Comparer) -> Compared<()> {
     let fill = vec![7; 1_024];
     let was: Values = (Some(b"1"), None);
     let with_b: Values = (Some(b"1"), Some(b"2"));
+    let with_zero: Batched = match comparer.edition() {
+        Edition::One => (vec![put(b"b", b"2"), erase(b"a\0")], (4, 2), &[], was),
+        Edition::Two => (vec![put(b"b", b"2"), erase(b"a\0")], (0, 0), &[0, 8], with_b),
+    };
     let cases: [Batched; 9] = [
         (vec![], (0, 0), &[], was),
         (vec![put(b"a", b"2"), put(b"b", b"2")], (0, 0), &[11, 0], with_b),
         (vec![erase(b"c"), replace(b"a", b"3")], (0, 0), &[8, 9], (Some(b"3"), None)),
         (vec![put(b"b", b"2"), erase(b"")], (3, 2), &[], was),
-        (vec![put(b"b", b"2"), erase(b"a\0")], (4, 2), &[], was),
+        with_zero,
         (vec![put(b"b", &long)], (5, 1), &[], was),
         (vec![put(b"b", b"2"), erase(b"c"), replace(b"a", &fill)], (6, 3), &[], was),
         (
@@ -475,7 +566,8 @@ pub fn worked_batches(comparer: &mut Comparer) -> Compared<()> {
         (cut, 1_032, &unknown, 1),
         (w2.bytes().to_vec(), 1_024, &unknown[..3], 12),
     ] {
-        let call = comparer.batch(&mut Held::new(bytes), &vec![0xEE; second], batch, &[0xEE; 3])?;
+        let mut held = comparer.held(bytes);
+        let call = comparer.batch(&mut held, &vec![0xEE; second], batch, &[0xEE; 3])?;
         if call != (number, 0) {
             return comparer.differs(format!("a batch gave {call:?}, not {number}"));
         }
@@ -519,21 +611,7 @@ pub fn wiped_bytes(comparer: &mut Comparer) -> Compared<()> {
     // The same frame from before.
     let mut before = held.bytes().to_vec();
     before[secret[0]..][..8].copy_from_slice(b"hunter2!");
-    let before = Held::new(before);
-    comparer.check(&before)?;
-    let refused = comparer.pack(&before, &[0xEE; 2_048])?;
-    let moved = comparer.pack_before(&before, &[0xEE; 2_048])?;
-    let packed = comparer.pack(&held, &[0x11; 2_048])?.expect("a good frame packs");
-    let Some(moved) = moved.filter(|_| refused.is_none()) else {
-        return comparer.differs("a frame from before is packed by the old rule alone".to_string());
-    };
-    if moved.bytes() != packed.bytes() {
-        return comparer.differs("what was wiped is in no packed image".to_string());
-    }
-    let again = comparer.pack_before(&held, &[0x55; 2_048])?.expect("a good frame packs");
-    if again.bytes() != packed.bytes() {
-        return comparer.differs("a good frame packs alike by both rules".to_string());
-    }
+    from_before(comparer, &held, before)?;
 
     // A Leaf, a Node4, a Prefix and an extent at once.
     put(comparer, &mut held, b"subscriber.1", b"one", done())?;
@@ -560,10 +638,32 @@ pub fn wiped_bytes(comparer: &mut Comparer) -> Compared<()> {
     comparer.batch(&mut held, &frames[1], &laid(&changes, 0), &[0xEE; 2])?;
     let [first, second] = &mut frames;
     comparer.calls().batch(first, second, &laid(&changes, 0), &mut [0; 2]);
-    for frame in frames.map(Held::new).iter().chain([&held]) {
+    for frame in frames.map(|frame| comparer.held(frame)).iter().chain([&held]) {
         stands(comparer, frame, b"secret", 0)?;
         stands(comparer, frame, b"nobody", 0)?;
         stands(comparer, frame, b"open", 1)?;
+    }
+    Ok(())
+}
+
+/// A frame, and the same from before: every call but one refuses it, and there is
+/// no such call in edition 2.
+fn from_before(comparer: &mut Comparer, held: &Held, before: Vec<u8>) -> Compared<()> {
+    let before = comparer.held(before);
+    comparer.check(&before)?;
+    let refused = comparer.pack(&before, &[0xEE; 2_048])?;
+    let moved = comparer.pack_before(&before, &[0xEE; 2_048])?;
+    let by_both = comparer.edition() == Edition::One;
+    if refused.is_some() || moved.is_some() != by_both {
+        return comparer.differs("a frame from before is packed by the old rule alone".to_string());
+    }
+    let packed = comparer.pack(held, &[0x11; 2_048])?.expect("a good frame packs");
+    if moved.is_some_and(|moved| moved.bytes() != packed.bytes()) {
+        return comparer.differs("what was wiped is in no packed image".to_string());
+    }
+    let again = comparer.pack_before(held, &[0x55; 2_048])?;
+    if again.is_some_and(|again| again.bytes() != packed.bytes()) {
+        return comparer.differs("a good frame packs alike by both rules".to_string());
     }
     Ok(())
 }
@@ -609,9 +709,12 @@ pub fn order_of_refusals(comparer: &mut Comparer) -> Compared<()> {
     let mut before = full.bytes().to_vec();
     before[96] = 1;
     let long_value = vec![1; LONGEST_VALUE + 1];
-    let keys: [&[u8]; 6] = [b"", &[b'k'; 113], &[0; 113], b"a\0", b"b", b"a"];
+    let most = comparer.edition().longest_key();
+    let (long_key, long_prefix) = (vec![b'k'; most + 1], vec![b'p'; most + 1]);
+    let zeros = vec![0; most + 1];
+    let keys: [&[u8]; 6] = [b"", &long_key, &zeros, b"a\0", b"b", b"a"];
     for bytes in [full.bytes().to_vec(), not_good, wrong_length, before] {
-        let mut held = Held::new(bytes);
+        let mut held = comparer.held(bytes);
         for key in keys {
             for value in [&b""[..], b"v", &fill, &long_value] {
                 comparer.put(&mut held, key, value)?;
@@ -624,7 +727,7 @@ pub fn order_of_refusals(comparer: &mut Comparer) -> Compared<()> {
             comparer.pack(&held, &vec![0xEE; out])?;
             comparer.pack_before(&held, &vec![0xEE; out])?;
         }
-        for (prefix, start) in [(&[b'p'; 113][..], None), (b"", Some(&b""[..])), (b"", None)] {
+        for (prefix, start) in [(&long_prefix[..], None), (b"", Some(&b""[..])), (b"", None)] {
             comparer.list(&held, &Asked { prefix, start, delimiter: None }, &[])?;
         }
         comparer.check(&held)?;

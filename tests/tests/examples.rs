@@ -2,7 +2,7 @@
 //! archive; the settings files of both through torn and damaged saves.
 
 use second_store::check::{check, check_before, read, Rule};
-use second_store::layout::{number, AT_R};
+use second_store::layout::{number, Edition, AT_R};
 use second_store::random::Random;
 use second_store::unused::soiled;
 use std::fs;
@@ -10,6 +10,8 @@ use std::path::{Path, PathBuf};
 use std::process::{Command, Output};
 use std::sync::LazyLock;
 
+/// The edition of the examples' frames.
+const EDITION: Edition = Edition::One;
 /// Where the bindings found the archive.
 const ARCHIVE: &str = env!("FRAME_ARCHIVE");
 /// Names the compiler, if it is not `cc`.
@@ -58,12 +60,23 @@ fn scratch(name: &str) -> PathBuf {
     Path::new(env!("CARGO_TARGET_TMPDIR")).join(name)
 }
 
+/// An example, and the file beside it that has what it writes.
+fn writes_what_is_stored(example: &str, stored: &str) {
+    let ran = Command::new(built(example)).output().expect("the example starts");
+    assert!(ran.status.success(), "{}", told(&ran));
+    let stored = root().join("examples/c").join(stored);
+    let stored = fs::read_to_string(stored).expect("what it writes is stored");
+    assert_eq!(String::from_utf8_lossy(&ran.stdout), stored);
+}
+
 #[test]
 fn the_example_writes_what_is_stored() {
-    let ran = Command::new(built("example")).output().expect("the example starts");
-    assert!(ran.status.success(), "{}", told(&ran));
-    let stored = fs::read_to_string(root().join("examples/c/stdout")).expect("stdout is stored");
-    assert_eq!(String::from_utf8_lossy(&ran.stdout), stored);
+    writes_what_is_stored("example", "stdout");
+}
+
+#[test]
+fn the_example_of_edition_2_writes_what_is_stored() {
+    writes_what_is_stored("bridge", "bridge.stdout");
 }
 
 /// The words of a line of a pkg-config file, with the variables of the file
@@ -282,10 +295,13 @@ fn a_file_from_before_is_moved_over() {
         let mut before = settings.bytes();
         for generation in before.chunks_mut(GENERATION) {
             let frame = &mut generation[COUNTER..SUMMED];
-            let reading = read(frame).expect("the lengths agree");
+            let reading = read(EDITION, frame).expect("the lengths agree");
             let old = soiled(&mut Random::new(1), frame, &reading, &Rule::WIPED);
             frame.copy_from_slice(&old);
-            assert_eq!((check(frame), check_before(frame)), (number::NOT_GOOD, number::DONE));
+            assert_eq!(
+                (check(EDITION, frame), check_before(EDITION, frame)),
+                (number::NOT_GOOD, number::DONE)
+            );
             sum_up(generation);
         }
         assert_eq!(settings.holding(&before).get("rate"), value("new"));
@@ -293,11 +309,15 @@ fn a_file_from_before_is_moved_over() {
         assert_eq!(settings.run(&["init"]).0, REFUSED, "never over settings that stand");
         settings.does(&["set", "mode", "vdsl"]);
         let after = settings.bytes();
-        assert_eq!(check(frames(&after)[0]), number::DONE, "the generation that was saved");
+        assert_eq!(
+            check(EDITION, frames(&after)[0]),
+            number::DONE,
+            "the generation that was saved"
+        );
         assert!(after[GENERATION..] == before[GENERATION..], "what stood still stands");
         settings.does(&["compact"]);
         for frame in frames(&settings.bytes()) {
-            assert_eq!(check(frame), number::DONE);
+            assert_eq!(check(EDITION, frame), number::DONE);
         }
         assert_eq!((settings.get("rate"), settings.get("mode")), (value("new"), value("vdsl")));
 

@@ -3,6 +3,7 @@
 
 use second_store::compare::{Calls, Second};
 use second_store::exported::Exported;
+use second_store::layout::Edition;
 use second_store::random::Random;
 use second_store::run::Effort;
 use second_store::session::{output, script};
@@ -19,6 +20,9 @@ const STORED: [(&str, &str); 2] = [
 ];
 /// Names the built program, if it stands elsewhere.
 const PROGRAM_VARIABLE: &str = "FRAME_SESSION";
+/// The program is one of edition 1.
+const SECOND: Second = Second(Edition::One);
+const EXPORTED: Exported = Exported(Edition::One);
 const SCRIPTS: u64 = 60;
 
 fn root() -> PathBuf {
@@ -52,7 +56,7 @@ fn assert_same(found: &[u8], expected: &[u8], of: &str) {
 fn the_printed_example_is_answered_as_printed() {
     let input = b"f 1024 8\np a 1\np b 2\ng a\ne c\nk\n";
     let printed = b"frame session 1\n0\n0\n0\n0 1\n8\n0 3 168 2\n";
-    for calls in [&Second as &dyn Calls, &Exported] {
+    for calls in [&SECOND as &dyn Calls, &EXPORTED] {
         assert_same(&output(calls, input), printed, "the example of document 01");
     }
     let (stdin, stdout) = STORED[0];
@@ -67,7 +71,7 @@ fn stored_scripts_are_answered_as_stored() {
     let mut random = Random::new(seed);
     for (stdin, stdout) in STORED {
         let (input, expected) = (stored(stdin), stored(stdout));
-        for calls in [&Second as &dyn Calls, &Exported] {
+        for calls in [&SECOND as &dyn Calls, &EXPORTED] {
             assert_same(&output(calls, &input), &expected, stdin);
         }
         assert_same(&run(&program, &input, &mut random), &expected, stdin);
@@ -82,9 +86,9 @@ fn the_built_program_agrees_on_random_scripts() {
         let mut random = Random::new(seed.wrapping_mul(7_919).wrapping_add(round));
         let input = script(&mut random);
         let of = format!("script of seed {seed}, round {round}");
-        assert_same(&run(&program, &input, &mut random), &output(&Second, &input), &of);
+        assert_same(&run(&program, &input, &mut random), &output(&SECOND, &input), &of);
     }
-    assert_same(&run(&program, b"", &mut Random::new(seed)), &output(&Second, b""), "no input");
+    assert_same(&run(&program, b"", &mut Random::new(seed)), &output(&SECOND, b""), "no input");
 }
 
 /// What the program writes if its input comes in pieces of random lengths.

@@ -1,19 +1,26 @@
 //! The comparison catches every deliberately wrong store, and lets pass one
 //! that differs only where the documents leave it free.
 
-use second_store::compare::Comparer;
+use second_store::compare::{Calls, Comparer};
+use second_store::layout::Edition;
 use second_store::orders;
 use second_store::run::{all_stages, Effort};
 use second_store::wrong::{self, Altered};
+use second_store::wrong_editions;
 
 const FIXED: Effort = Effort { seed: 1, rounds: 1 };
 
-fn all_caught(stores: Vec<Altered>, at_least: usize) {
+/// The stores of both editions.
+fn all_caught(stores: fn(Edition) -> Vec<Altered>, at_least: usize) {
+    Edition::ALL.into_iter().for_each(|edition| caught(stores(edition), at_least));
+}
+
+fn caught(stores: Vec<Altered>, at_least: usize) {
     assert!(stores.len() >= at_least, "only {} wrong stores", stores.len());
     let mut missed = Vec::new();
     for store in &stores {
         match all_stages(store, FIXED) {
-            Ok(_) => missed.push(&store.name),
+            Ok(_) => missed.push((store.edition(), &store.name)),
             Err(difference) => {
                 let told = difference.to_string();
                 println!("{}: {}", store.name, told.lines().next().unwrap_or_default());
@@ -25,84 +32,108 @@ fn all_caught(stores: Vec<Altered>, at_least: usize) {
 
 #[test]
 fn wrong_checks_are_caught() {
-    all_caught(wrong::checks(), 52);
+    all_caught(wrong::checks, 51);
 }
 
 #[test]
 fn wrong_formats_are_caught() {
-    all_caught(wrong::formats(), 4);
+    all_caught(wrong::formats, 4);
 }
 
 #[test]
 fn wrong_look_ups_are_caught() {
-    all_caught(wrong::look_ups(), 14);
+    all_caught(wrong::look_ups, 14);
 }
 
 #[test]
 fn wrong_puts_are_caught() {
-    all_caught(wrong::puts(), 25);
+    all_caught(wrong::puts, 26);
 }
 
 #[test]
 fn wrong_replacements_are_caught() {
-    all_caught(wrong::replaces(), 11);
+    all_caught(wrong::replaces, 11);
 }
 
 #[test]
 fn wrong_erases_are_caught() {
-    all_caught(wrong::erases(), 11);
+    all_caught(wrong::erases, 11);
 }
 
 #[test]
 fn wrong_packs_are_caught() {
-    all_caught(wrong::packs(), 7);
+    all_caught(wrong::packs, 7);
 }
 
 #[test]
 fn wrong_packs_before_are_caught() {
-    all_caught(wrong::packs_before(), 10);
+    caught(wrong::packs_before(), 10);
 }
 
 #[test]
 fn what_is_not_wiped_as_it_should_be_is_caught() {
-    all_caught(wrong::wipes(), 19);
+    all_caught(wrong::wipes, 19);
 }
 
 #[test]
 fn calls_by_the_old_rule_are_caught() {
-    all_caught(wrong::by_the_old_rule(), 8);
+    all_caught(wrong::by_the_old_rule, 8);
 }
 
 #[test]
 fn wrong_listings_are_caught() {
-    all_caught(wrong::lists(), 28);
+    all_caught(wrong::lists, 28);
 }
 
 #[test]
 fn wrong_batches_are_caught() {
-    all_caught(wrong::batches(), 25);
+    all_caught(wrong::batches, 25);
 }
 
 #[test]
 fn wrong_infos_are_caught() {
-    all_caught(wrong::infos(), 9);
+    all_caught(wrong::infos, 9);
+}
+
+#[test]
+fn calls_by_the_other_edition_are_caught() {
+    all_caught(wrong_editions::by_the_other_edition, 12);
+}
+
+#[test]
+fn keys_of_edition_1_in_edition_2_are_caught() {
+    caught(wrong_editions::keys(), 11);
+}
+
+#[test]
+fn wrong_chains_are_caught() {
+    caught(wrong_editions::chains(), 14);
+}
+
+#[test]
+fn wrong_listings_of_edition_2_are_caught() {
+    caught(wrong_editions::lists(), 10);
 }
 
 /// Without any prediction, by two orders of the same calls.
 #[test]
 fn stores_bound_to_an_order_are_caught() {
-    let stores = wrong::bound_to_an_order();
-    assert!(stores.len() >= 4, "only {} wrong stores", stores.len());
-    for store in &stores {
-        let caught = orders::any_order(&mut Comparer::new(store), FIXED.seed, 400).is_err();
-        assert!(caught, "not caught: {}", store.name);
+    for edition in Edition::ALL {
+        let stores = wrong::bound_to_an_order(edition);
+        assert!(stores.len() >= 4, "only {} wrong stores", stores.len());
+        for store in &stores {
+            let caught = orders::any_order(&mut Comparer::new(store), FIXED.seed, 400).is_err();
+            assert!(caught, "not caught: {}", store.name);
+        }
     }
 }
 
 #[test]
 fn a_store_that_uses_every_freedom_passes() {
     let effort = Effort::from_environment();
-    if let Err(difference) = all_stages(&wrong::right_in_batches(), effort) {
-        panic!("{difference}");
+    for edition in Edition::ALL {
+        if let Err(difference) = all_stages(&wrong::right_in_batches(edition), effort) {
+            panic!("{difference}");
+        }
     }
 }

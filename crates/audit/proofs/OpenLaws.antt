@@ -4,7 +4,7 @@ use mathlib.Core.Path.{_≡_, refl, sym, ap, _∙_}
 use mathlib.Core.List.{List, [], _++_, append-assoc}
 use mathlib.Core.Bool.{true, false}
 use native.Mathlib.Omega.{arith}
-use Rattle.model.specs.Edition.{edition1}
+use Rattle.model.specs.Edition.{Edition}
 use Rattle.model.specs.Item.{Item, sum}
 use Rattle.model.specs.Frame.{items}
 use Rattle.model.proofs.ItemLaws.{sum-app}
@@ -98,9 +98,9 @@ row-back xs r =
     }
 
 -- a tree that was counted
-pub tree-opens : {K : List Item → Type 0} {f path : List ℕ} {s d u b : ℕ} {m : List ℕ} {t : Sums} {m' : List ℕ} {t' : Sums} → Told (TreeItems f path s) (TreeItems f path s) f d u b m t m' t' → t' .good ≡ true
-    → Opens K (Row (TreeItems f path s) K) f d u b m t m' t'
-tree-opens {K} {f} {path} T g =
+pub tree-opens : {Ed : Edition} {K : List Item → Type 0} {f path : List ℕ} {s d u b : ℕ} {m : List ℕ} {t : Sums} {m' : List ℕ} {t' : Sums} → Told (TreeItems Ed f path s) (TreeItems Ed f path s) f d u b m t m' t' → t' .good ≡ true
+    → Opens K (Row (TreeItems Ed f path s) K) f d u b m t m' t'
+tree-opens {Ed} {K} {f} {path} T g =
     let k = T .holds g in
     record {
       items = k .items;
@@ -110,7 +110,7 @@ tree-opens {K} {f} {path} T g =
       split = λ zs is Y r.
           let h = r .head in
           let j = k .are in
-          let same = tree-unique edition1 f path path (h .lay) (j .lay) (h .tree) (j .tree) (h .slot ∙ sym (j .slot)) in
+          let same = tree-unique Ed f path path (h .lay) (j .lay) (h .tree) (j .tree) (h .slot ∙ sym (j .slot)) in
           let x : r .first ≡ k .items = sym (h .are) ∙ ap items same ∙ j .are in
           (r .rest, r .tail, r .are ∙ ap (λ (l : List Item). l ++ r .rest) x);
     }

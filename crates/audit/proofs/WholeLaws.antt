@@ -10,7 +10,7 @@ use borrow.Author.Tests.{eqb-true, eqb-false}
 use Rattle.layout.specs.Number.{le}
 use Rattle.layout.specs.Place.{atN, atD, atB, atU, atR, atX, atRoot}
 use Rattle.layout.specs.Entry.{placeOf}
-use Rattle.model.specs.Edition.{Edition, edition1, before1}
+use Rattle.model.specs.Edition.{Edition}
 use Rattle.model.specs.State.{State}
 use Rattle.model.specs.Item.{Item, body, extent, inside, onSlot, cover, bulk, leafy, sum, Sound}
 use Rattle.model.specs.Frame.{Lay, LayKids, Root, bare, tree, items, itemsAll, Tree, Trees, RootAt, rootItems, Lists, freed, stateOf, Clean, Stands, Good}
@@ -20,7 +20,7 @@ use Rattle.model.specs.Promise.{CheckPromise}
 use Rattle.model.proofs.StringLaws.{clash}
 use Rattle.model.proofs.ItemLaws.{in-under, sum-app, sum-as}
 use Rattle.model.proofs.FormatLaws.{data-eight}
-use Rattle.model.proofs.CleanLaws.{stands-clean, root-now, root-before}
+use Rattle.model.proofs.CleanLaws.{stands-clean}
 use Rattle.model.proofs.UniqueLaws.{lists-same}
 use Rattle.model.proofs.StandsGood.{bodied, leafy-other, sound-bodies}
 use Rattle.claims.specs.Units.{Each, Eighth, Eighths, Within, Slotted, Seen}
@@ -32,9 +32,9 @@ use Rattle.census.specs.declared.Sums.{Sums}
 use Rattle.census.specs.Told.{isBody, isExtent, Limits, Ground, Tidy, Sited, Book, Held, Told}
 use Rattle.census.specs.Freed.{ListOf, ListsOf, FreedItems}
 use Rattle.census.proofs.ToldLaws.{tidy-same, tidy-part, each-app, grown-on, book-on}
-use Rattle.audit.specs.Audit.{byRule, HeaderFits, RootItems, Unmarked, Closed, Closes}
+use Rattle.audit.specs.Audit.{ruled, HeaderFits, RootItems, Unmarked, Closed, Closes}
 use Rattle.audit.proofs.RootLaws.{root-unique}
-use Rattle.audit.proofs.RuleLaws.{rule-before, rule-good}
+use Rattle.audit.proofs.RuleLaws.{root-as, rule-of, of-rule, rule-good}
 
 -- ---- sums over items
 
@@ -48,21 +48,21 @@ unfolding sum
 none-sum v = refl
 
 -- as many extents as Leaves
-module _ (f : List ℕ) where
+module _ (Ed : Edition) (f : List ℕ) where
   mutual
     unfolding Tree Trees items itemsAll sum leafy isExtent inside
 
-    leaves-items : (path : List ℕ) (l : Lay) → Tree edition1 f path l → sum isExtent (items l) ≡ sum leafy (items l)
+    leaves-items : (path : List ℕ) (l : Lay) → Tree Ed f path l → sum isExtent (items l) ≡ sum leafy (items l)
     leaves-items path (leaf s o e k v) T = refl
     leaves-items path (prefix s o p l) T = omega (arith, leaves-items (path ++ p) l (T .3))
     leaves-items path (node s o kind ks) T = let r = T .1 .inner .range in omega (arith, leafy-other s kind o (omega arith), leaves-all path ks (T .2))
 
-    leaves-all : (path : List ℕ) (ks : LayKids) → Trees edition1 f path ks → sum isExtent (itemsAll ks) ≡ sum leafy (itemsAll ks)
+    leaves-all : (path : List ℕ) (ks : LayKids) → Trees Ed f path ks → sum isExtent (itemsAll ks) ≡ sum leafy (itemsAll ks)
     leaves-all path nil T = refl
     leaves-all path (kid b j l ks) T =
         omega (arith, sum-app isExtent (items l) (itemsAll ks), sum-app leafy (items l) (itemsAll ks), leaves-items (path ++ b ∷ []) l (T .0), leaves-all path ks (T .1))
 
-  root-leaves : (r : Root) → RootAt edition1 f r → sum isExtent (rootItems r) ≡ sum leafy (rootItems r)
+  root-leaves : (r : Root) → RootAt Ed f r → sum isExtent (rootItems r) ≡ sum leafy (rootItems r)
   unfolding RootAt rootItems sum leafy isExtent inside
   root-leaves (bare s o) R = refl
   root-leaves (tree l) R = leaves-items [] l R
@@ -123,7 +123,7 @@ all-lists f ls L =
 
 -- ---- what the header says
 
-module _ {f : List ℕ} {d u b : ℕ} (H : HeaderFits f) (ed : d ≡ le 4 f atD) (eu : u ≡ le 4 f atU) (eb : b ≡ le 4 f atB) where
+module _ {Ed : Edition} {f : List ℕ} {d u b : ℕ} (H : HeaderFits Ed f) (ed : d ≡ le 4 f atD) (eu : u ≡ le 4 f atU) (eb : b ≡ le 4 f atB) where
   pub ground-of : Ground f d u b
   ground-of =
       let h = H .header in
@@ -153,7 +153,7 @@ module _ {f : List ℕ} {d u b : ℕ} (H : HeaderFits f) (ed : d ≡ le 4 f atD)
       (e, omega arith, omega arith, omega arith, omega arith)
 
   -- a good frame's items are tidy
-  stands-tidy : (s : State) (S : Stands before1 f s) → Tidy d u b (rootItems (S .root) ++ freed 1 (S .lists))
+  stands-tidy : (s : State) (S : Stands (ruled false Ed) f s) → Tidy d u b (rootItems (S .root) ++ freed 1 (S .lists))
   stands-tidy s S =
       let h = S .heap .header in
       let o = S .heap .sound in
@@ -170,18 +170,18 @@ module _ {f : List ℕ} {d u b : ℕ} (H : HeaderFits f) (ed : d ≡ le 4 f atD)
         few = omega (arith, sum-as isBody bodied body-is all, sound-bodies o);
       }
 
-  root-of : {E : Edition} {s : ℕ} (st : State) (S : Stands E f st) → s ≡ le 2 f atRoot → RootAt edition1 f (S .root) → RootItems f s (rootItems (S .root))
+  root-of : {E : Edition} {s : ℕ} (st : State) (S : Stands E f st) → s ≡ le 2 f atRoot → RootAt Ed f (S .root) → RootItems Ed f s (rootItems (S .root))
   root-of st S e R = record { root = S .root; at = R; slot = sym (S .rootIs) ∙ sym (S .heap .header .rootAt) ∙ sym e; are = refl }
 
-  root-old : {s : ℕ} (st : State) (S : Stands before1 f st) → s ≡ le 2 f atRoot → RootItems f s (rootItems (S .root))
-  root-old st S e = root-of st S e (root-now f (S .root) (S .rootAt))
+  root-old : {s : ℕ} (st : State) (S : Stands (ruled false Ed) f st) → s ≡ le 2 f atRoot → RootItems Ed f s (rootItems (S .root))
+  root-old st S e = root-of st S e (root-as (of-rule false Ed) f (S .root) (S .rootAt))
 
   module _ {s : ℕ} (es : s ≡ le 2 f atRoot) {m : List ℕ} {t : Sums} (fresh : Seen m []) (none : (t .slots ≡ 0) × (t .bytes ≡ 0) × (t .leaves ≡ 0)) where
     book : Book m t []
     unfolding sum
     book = record { seen = fresh; slots = none .0 }
 
-    pub whole-root : {m' : List ℕ} {r : Sums} → Told (RootItems f s) (RootItems f s) f d u b m t m' r → r .good ≡ false → Good before1 f → ⊥
+    pub whole-root : {m' : List ℕ} {r : Sums} → Told (RootItems Ed f s) (RootItems Ed f s) f d u b m t m' r → r .good ≡ false → Good (ruled false Ed) f → ⊥
     whole-root T n G =
         let S = G .1 in
         let xs = rootItems (S .root) in
@@ -189,7 +189,7 @@ module _ {f : List ℕ} {d u b : ℕ} (H : HeaderFits f) (ed : d ≡ le 4 f atD)
         T .fails n [] book xs (root-old (G .0) S es)
         (tidy-part ys (xs ++ []) (λ v. omega (arith, sum-app v xs ys, sum-app v ys (xs ++ []), sum-app v xs [], none-sum v)) (stands-tidy (G .0) S))
 
-    module _ {m' : List ℕ} {r : Sums} (K : Held (RootItems f s) f d u b m t m' r) where
+    module _ {m' : List ℕ} {r : Sums} (K : Held (RootItems Ed f s) f d u b m t m' r) where
       -- the map shows just what is live
       seen-live : Seen m' (K .items)
       seen-live = record { marks = λ v. omega (arith, K .grown .marks v, fresh .marks v, none-sum (cover (8 * v))) }
@@ -200,18 +200,18 @@ module _ {f : List ℕ} {d u b : ℕ} (H : HeaderFits f) (ed : d ≡ le 4 f atD)
       live-high : (a : ℕ) → b ≤ a → sum (cover a) (K .items) ≡ 0
       live-high = fits-seen seen-live live-eighths (each-as (Sited f d u b) (Within d b) (λ i h. h .within) (K .items) (K .sited)) .high
 
-      live-is : {xs : List Item} → RootItems f s xs → K .items ≡ xs
+      live-is : {xs : List Item} → RootItems Ed f s xs → K .items ≡ xs
       live-is {xs} R = root-unique f s (K .items) xs (K .are) R
 
       -- what it does not show is zero in a good frame
-      pub whole-unclean : (wiped : Bool) → (Unmarked wiped f m' d b → ⊥) → Good (byRule wiped) f → ⊥
+      pub whole-unclean : (wiped : Bool) → (Unmarked wiped f m' d b → ⊥) → Good (ruled wiped Ed) f → ⊥
       whole-unclean true n G =
           let S = G .1 in
           let C = stands-clean S refl in
-          n (record { swept = λ e. clean-swept seen-live live-eighths live-high (omega (arith, ground-of .order)) (clean-as (sym ed) (sym (live-is (root-of (G .0) S es (S .rootAt)))) C) })
+          n (record { swept = λ e. clean-swept seen-live live-eighths live-high (omega (arith, ground-of .order)) (clean-as (sym ed) (sym (live-is (root-of (G .0) S es (root-as (of-rule true Ed) f (S .root) (S .rootAt))))) C) })
       whole-unclean false n G = n (record { swept = λ e. clash (cc) })
 
-      pub whole-lists : {m'' : List ℕ} {q : Sums} → Told (FreedItems f 1) (FreedItems f 1) f d u b m' r m'' q → q .good ≡ false → Good before1 f → ⊥
+      pub whole-lists : {m'' : List ℕ} {q : Sums} → Told (FreedItems f 1) (FreedItems f 1) f d u b m' r m'' q → q .good ≡ false → Good (ruled false Ed) f → ⊥
       whole-lists T n G =
           let S = G .1 in
           let xs = rootItems (S .root) in
@@ -223,7 +223,7 @@ module _ {f : List ℕ} {d u b : ℕ} (H : HeaderFits f) (ed : d ≡ le 4 f atD)
 
       module _ {m'' : List ℕ} {q : Sums} (J : Held (FreedItems f 1) f d u b m' r m'' q) where
         -- the sums of a good frame close
-        pub whole-open : (Closed f (q .slots) (q .bytes) (r .leaves) → ⊥) → Good before1 f → ⊥
+        pub whole-open : (Closed f (q .slots) (q .bytes) (r .leaves) → ⊥) → Good (ruled false Ed) f → ⊥
         whole-open n G =
             let S = G .1 in
             let xs = rootItems (S .root) in
@@ -240,11 +240,11 @@ module _ {f : List ℕ} {d u b : ℕ} (H : HeaderFits f) (ed : d ≡ le 4 f atD)
             let free-same : J .items ≡ ys = sym (F .items) ∙ ap (freed 1) lists in
             n (record {
               slotsAre = omega (arith, K .grown .slots, J .grown .slots, ap (sum isBody) same, ap (sum isBody) free-same, sum-app isBody xs ys, sum-as isBody bodied body-is (xs ++ ys), sound-bodies o, h .givenAt, none .0);
-              leavesAre = omega (arith, K .grown .leaves, ap (sum isExtent) same, root-leaves f (S .root) (root-now f (S .root) (S .rootAt)), S .counted, h .recordsAt, none .2);
+              leavesAre = omega (arith, K .grown .leaves, ap (sum isExtent) same, root-leaves Ed f (S .root) (root-as (of-rule false Ed) f (S .root) (S .rootAt)), S .counted, h .recordsAt, none .2);
               accounted = omega (arith, K .grown .bytes, J .grown .bytes, ap (sum bulk) same, ap (sum bulk) free-same, sum-app bulk xs ys, o .accounted, h .dataAt, h .bumpAt, h .deadAt, none .1);
             })
 
-        stands-closed : Closed f (q .slots) (q .bytes) (r .leaves) → Good before1 f
+        stands-closed : Closed f (q .slots) (q .bytes) (r .leaves) → Good (ruled false Ed) f
         stands-closed C =
             let xs = K .items in
             let ys = J .items in
@@ -262,10 +262,10 @@ module _ {f : List ℕ} {d u b : ℕ} (H : HeaderFits f) (ed : d ≡ le 4 f atD)
             (omega (arith, G .slots, none .0, C .slotsAre, eu, sum-as isBody bodied body-is is)) in
             let sound = sound-made {x = le 4 f atX} slots fits (omega (arith, G .bytes, none .1, C .accounted, ed, eb)) in
             let h = H .header in (
-              stateOf (numbersOf before1 f) ls (W .root),
+              stateOf (numbersOf (ruled false Ed) f) ls (W .root),
               record {
                 bytes = H .bytes;
-                nums = numbersOf before1 f;
+                nums = numbersOf (ruled false Ed) f;
                 lists = ls;
                 root = W .root;
                 heap = record {
@@ -276,15 +276,15 @@ module _ {f : List ℕ} {d u b : ℕ} (H : HeaderFits f) (ed : d ≡ le 4 f atD)
                 };
                 editionIs = refl;
                 rootIs = sym es ∙ sym (W .slot);
-                rootAt = root-before f (W .root) (W .at);
-                counted = omega (arith, K .grown .leaves, none .2, C .leavesAre, ap (sum isExtent) (W .are), root-leaves f (W .root) (W .at));
+                rootAt = root-as (rule-of false Ed) f (W .root) (W .at);
+                counted = omega (arith, K .grown .leaves, none .2, C .leavesAre, ap (sum isExtent) (W .are), root-leaves Ed f (W .root) (W .at));
                 state = refl;
               },
             )
 
-        pub whole-good : (wiped : Bool) → Unmarked wiped f m' d b → Closed f (q .slots) (q .bytes) (r .leaves) → Good (byRule wiped) f
+        pub whole-good : (wiped : Bool) → Unmarked wiped f m' d b → Closed f (q .slots) (q .bytes) (r .leaves) → Good (ruled wiped Ed) f
         unfolding stands-closed
-        whole-good wiped Z C = rule-good wiped (stands-closed C) (λ e. clean-as ed (sym (K .are .are)) (swept-clean seen-live live-eighths live-high (Z .swept e)))
+        whole-good wiped Z C = rule-good wiped Ed (stands-closed C) (λ e. clean-as ed (sym (K .are .are)) (swept-clean seen-live live-eighths live-high (Z .swept e)))
 
 -- ---- the verdict
 
@@ -309,8 +309,8 @@ module _ {E : Edition} {f : List ℕ} {n : ℕ} where
   audit-good L G e = record { told = record { length1 = λ z. absurd (z (L .limits, L .stored)); bad2 = λ K z. absurd (z G); good = λ a b. G }; good0 = λ H. e }
 
 -- a header that no good frame has
-pub header-none : (wiped : Bool) {f : List ℕ} {g : Bool} → HeaderTold f g → g ≡ false → Good (byRule wiped) f → ⊥
-header-none wiped T n G = let S = rule-before wiped G .1 in T .fails n (S .nums) (S .heap .header) (ap (λ (E : Edition). E .number) (S .editionIs))
+pub header-none : (wiped : Bool) (Ed : Edition) {f : List ℕ} {g : Bool} → HeaderTold Ed f g → g ≡ false → Good (ruled wiped Ed) f → ⊥
+header-none wiped Ed T n G = let S = G .1 in T .fails n (S .nums) (S .heap .header) (ap (λ (E : Edition). E .number) (S .editionIs))
 
 -- ---- the sums compared
 

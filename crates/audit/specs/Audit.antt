@@ -6,8 +6,7 @@ use mathlib.Core.Bool.{Bool, true, false}
 use Rattle.layout.specs.Number.{le, Bytes}
 use Rattle.layout.specs.Place.{atD, atB, atU, atR, atX}
 use Rattle.layout.specs.Kind.{EmptyRoot}
-use Rattle.model.specs.Strings.{pick}
-use Rattle.model.specs.Edition.{Edition, edition1, before1}
+use Rattle.model.specs.Edition.{Edition, editionOf}
 use Rattle.model.specs.Item.{Item, body}
 use Rattle.model.specs.Body.{Zero}
 use Rattle.model.specs.Frame.{Root, RootAt, rootSlot, rootItems}
@@ -17,19 +16,23 @@ use Rattle.shape.specs.Shape.{numbersOf}
 use Rattle.census.specs.declared.Sums.{Sums}
 use Rattle.census.specs.Told.{Told}
 
--- edition 1 by the rule that what is freed is zero, or by the one from before
-abbrev pub byRule : Bool → Edition
-byRule wiped = pick wiped edition1 before1
+-- an edition by the rule that what is freed is zero, or by the one from before
+abbrev pub ruled : Bool → Edition → Edition
+ruled wiped E = record { number = E .number; keyFault = E .keyFault; walked = E .walked; longest = E .longest; wiped = wiped }
 
--- a slice of bytes with a good header of edition 1: the rules differ in nothing there
-pub record HeaderFits (f : List ℕ) : Type 0 where
+-- the same of an edition's number: by the rule in force it is the edition itself, and edition 1 by the one from before is `before1`
+abbrev pub byRule : ℕ → Bool → Edition
+byRule n wiped = ruled wiped (editionOf n)
+
+-- a slice of bytes with a good header of the edition: the rules differ in nothing there
+pub record HeaderFits (E : Edition) (f : List ℕ) : Type 0 where
   pub bytes : Bytes f
-  pub header : frame.Header f (numbersOf before1 f)
+  pub header : frame.Header f (numbersOf (ruled false E) f)
 
 -- the items of the root at slot s
-pub record RootItems (f : List ℕ) (s : ℕ) (xs : List Item) : Type 0 where
+pub record RootItems (E : Edition) (f : List ℕ) (s : ℕ) (xs : List Item) : Type 0 where
   pub root : Root
-  pub at : RootAt edition1 f root
+  pub at : RootAt E f root
   pub slot : rootSlot root ≡ s
   pub are : rootItems root ≡ xs
 

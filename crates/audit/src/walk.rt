@@ -1,5 +1,5 @@
 // The live tree, parent first and children in byte order, in one loop. The path that leads to a body stands in a buffer, and the inner
-// nodes whose children are not all counted yet wait in arrays, the root's node first: the stack does not grow with the tree.
+// nodes whose children are not all counted yet wait in an array, the root's node first: the stack does not grow with the tree.
 use census::Bounds;
 use census::Sums;
 use census::refused;
@@ -21,14 +21,10 @@ ghost use Rattle.layout.specs.Place.{prefixBytes};
 ghost use Rattle.layout.specs.Entry.{placeOf, highOf};
 ghost use Rattle.pieces.specs.Decides.{Decides};
 ghost use Rattle.census.specs.Told.{Ground, Limits, Tally, Told};
-ghost use Rattle.audit.specs.Walk.{InnerSlot, Kept, Extended, At, TreeItems, NodeTold, PrefixTold};
+ghost use Rattle.model.specs.Edition.{editionOf};
+ghost use Rattle.audit.specs.Walk.{BelowSlot, Arrays, waitOf, slotIn, depthIn, turnIn, Kept, Extended, At, TreeItems, NodeTold, PrefixTold};
 
-// The longest path to an inner node, and how many such paths there are, by length.
-const DEEPEST: usize = 112;
-
-const DEPTHS: usize = 113;
-
-// The slot of an inner node below a Prefix that is counted, and how many bytes lead to it. Not good: a refusal.
+// The slot below a Prefix that is counted, and how many bytes lead to it. Not good: a refusal.
 pub struct Inner {
     pub sums: Sums,
     pub slot: usize,
@@ -52,10 +48,42 @@ impl Inner {
     }
 }
 
-// A slot of 1 to u whose kind is an inner one.
-fn inner_slot(f: &[u8], s: usize, u: usize) -> bool
+// A node that waits: its slot, the bytes that lead to it, and the child that the walk is below. It is kept as one number.
+struct Wait {
+    slot: usize,
+    depth: usize,
+    turn: usize,
+}
+
+impl Wait {
+    // a node has at most 256 children, and fewer than 512 bytes lead to it
+    const DEPTH_UNIT: usize = 256;
+
+    const SLOT_UNIT: usize = 131072;
+
+    fn number(slot: usize, depth: usize, turn: usize) -> u32
+        requires { ⌜ (slot ≤ 10240) × (depth < 512) × (turn < 256) ⌝ }
+        ensures { λ r. ⌜ r ≡ waitOf slot depth turn ⌝ }
+    {
+        (slot * Wait::SLOT_UNIT + depth * Wait::DEPTH_UNIT + turn) as u32
+    }
+
+    fn read(number: u32) -> Wait
+        ensures { λ r. ⌜ (r .slot ≡ slotIn number) × (r .depth ≡ depthIn number) × (r .turn ≡ turnIn number) ⌝ }
+    {
+        let n = number as usize;
+        Wait {
+            slot: n / Wait::SLOT_UNIT,
+            depth: n % Wait::SLOT_UNIT / Wait::DEPTH_UNIT,
+            turn: n % Wait::DEPTH_UNIT,
+        }
+    }
+}
+
+// A slot of 1 to u that may stand below a Prefix of n bytes: an inner node, or below a full one the next of a chain.
+fn below_slot(f: &[u8], s: usize, u: usize, n: usize) -> bool
     requires { ⌜ 64 + 4 * u ≤ length (now f) ⌝ }
-    ensures { λ r. ⌜ Decides (InnerSlot (now (f .entry)) s u) r ⌝ }
+    ensures { λ r. ⌜ Decides (BelowSlot (now (f .entry)) s u n) r ⌝ }
 {
     if s < 1 {
         return false;
@@ -65,7 +93,10 @@ fn inner_slot(f: &[u8], s: usize, u: usize) -> bool
     }
     let e = Entry::read(f, s);
     if e.high < Kind::NODE4 {
-        return false;
+        if e.high != Kind::PREFIX {
+            return false;
+        }
+        return n == Prefix::MOST;
     }
     e.high <= Kind::NODE256
 }
@@ -91,9 +122,10 @@ fn leaf(
     o: usize,
     bounds: Bounds,
     t: Sums,
+    edition: usize,
 ) -> Sums
     requires { ⌜ Ground (now f) (bounds .start) (bounds .given) (bounds .next) × Limits (bounds .start) (bounds .given) (bounds .next) (length (now map)) × Tally (bounds .given) 0 t × (depth ≤ length (now path)) × (o % 8 ≡ 0) × (o < 1048576) ⌝ }
-    ensures { λ r. ⌜ At (now (f .entry)) (take depth (now (path .entry))) 1 o (bounds .start) (bounds .given) (bounds .next) (now (map .entry)) t (now (map .exit)) r ⌝ }
+    ensures { λ r. ⌜ At (editionOf edition) (now (f .entry)) (take depth (now (path .entry))) 1 o (bounds .start) (bounds .given) (bounds .next) (now (map .entry)) t (now (map .exit)) r ⌝ }
 {
     let start = bounds.start;
     let next = bounds.next;
@@ -101,14 +133,14 @@ fn leaf(
     if !r.good {
         return refused();
     }
-    let l = leaf_good(f, o, path, depth, start, next);
+    let l = leaf_good(f, o, path, depth, start, next, edition);
     if !l.good {
         return refused();
     }
     take::extent(map, l.extent, l.size, bounds, r)
 }
 
-// The inner node whose body lies at o: the body alone.
+// The inner node whose body lies at o: the body alone. A path to it is shorter than the limit.
 fn node(
     f: &[u8],
     map: &mut [u64],
@@ -117,9 +149,10 @@ fn node(
     o: usize,
     bounds: Bounds,
     t: Sums,
+    limit: usize,
 ) -> Sums
     requires { ⌜ Ground (now f) (bounds .start) (bounds .given) (bounds .next) × Limits (bounds .start) (bounds .given) (bounds .next) (length (now map)) × Tally (bounds .given) 0 t × (kind ≡ 1 → ⊥) × (kind ≡ 2 → ⊥) × (o % 8 ≡ 0) × (o < 1048576) ⌝ }
-    ensures { λ r. ⌜ NodeTold (now (f .entry)) depth kind o (bounds .start) (bounds .given) (bounds .next) (now (map .entry)) t (now (map .exit)) r ⌝ }
+    ensures { λ r. ⌜ NodeTold (now (f .entry)) limit depth kind o (bounds .start) (bounds .given) (bounds .next) (now (map .entry)) t (now (map .exit)) r ⌝ }
 {
     if kind < Kind::NODE4 {
         return refused();
@@ -131,7 +164,7 @@ fn node(
     if !r.good {
         return refused();
     }
-    if DEEPEST < depth {
+    if limit <= depth {
         return refused();
     }
     if !inner_good(f, o, kind) {
@@ -140,7 +173,7 @@ fn node(
     r
 }
 
-// The Prefix of slot s, whose body lies at o, and the way to the inner node below it.
+// The Prefix of slot s, whose body lies at o, and the way to what stands below it.
 fn past_prefix(
     f: &[u8],
     map: &mut [u64],
@@ -151,7 +184,7 @@ fn past_prefix(
     bounds: Bounds,
     t: Sums,
 ) -> Inner
-    requires { ⌜ Ground (now f) (bounds .start) (bounds .given) (bounds .next) × Limits (bounds .start) (bounds .given) (bounds .next) (length (now map)) × Tally (bounds .given) 0 t × (113 ≤ length (now path)) × (depth ≤ 113) × (1 ≤ s) × (s ≤ bounds .given) × (2 ≡ highOf (now f) s) × (o ≡ placeOf (now f) s) × (o < 1048576) ⌝ }
+    requires { ⌜ Ground (now f) (bounds .start) (bounds .given) (bounds .next) × Limits (bounds .start) (bounds .given) (bounds .next) (length (now map)) × Tally (bounds .given) 0 t × (length (now path) ≤ 512) × (depth ≤ length (now path)) × (1 ≤ s) × (s ≤ bounds .given) × (2 ≡ highOf (now f) s) × (o ≡ placeOf (now f) s) × (o < 1048576) ⌝ }
     ensures { λ r. ⌜ Kept depth (now (path .entry)) (now (path .exit)) × PrefixTold (now (f .entry)) (take depth (now (path .entry))) depth s (bounds .start) (bounds .given) (bounds .next) (now (map .entry)) t (now (path .exit)) (now (map .exit)) r ⌝ }
 {
     let given = bounds.given;
@@ -163,11 +196,11 @@ fn past_prefix(
         return Inner::none();
     }
     let n = Prefix::length(f, o);
-    if DEEPEST < depth + n {
+    if path.len() <= depth + n {
         return Inner::none();
     }
     let c = Prefix::child(f, o);
-    if !inner_slot(f, c, given) {
+    if !below_slot(f, c, given, n) {
         return Inner::none();
     }
     extend(path, depth, f, o, n);
@@ -184,16 +217,20 @@ fn past_prefix(
 // The tree at slot s, to which no path leads, of a kind other than a Leaf's. The walk arrives at a slot: a Prefix leads it to another, and a
 // node is counted. From then on it is at child i of a node: where that is a Leaf it is counted, else the node waits and the walk arrives at
 // it; after the last child the walk goes back to the node that waits.
-pub fn tree(f: &[u8], map: &mut [u64], s: usize, bounds: Bounds, t: Sums) -> Sums
-    requires { ⌜ Ground (now f) (bounds .start) (bounds .given) (bounds .next) × Limits (bounds .start) (bounds .given) (bounds .next) (length (now map)) × Tally (bounds .given) 0 t × (1 ≤ s) × (s ≤ bounds .given) × (highOf (now f) s ≡ 1 → ⊥) ⌝ }
-    ensures { λ r. ⌜ Told (TreeItems (now (f .entry)) [] s) (TreeItems (now (f .entry)) [] s) (now (f .entry)) (bounds .start) (bounds .given) (bounds .next) (now (map .entry)) t (now (map .exit)) r ⌝ }
+pub fn along(
+    f: &[u8],
+    map: &mut [u64],
+    path: &mut [u8],
+    waits: &mut [u32],
+    s: usize,
+    bounds: Bounds,
+    t: Sums,
+    edition: usize,
+) -> Sums
+    requires { ⌜ Ground (now f) (bounds .start) (bounds .given) (bounds .next) × Limits (bounds .start) (bounds .given) (bounds .next) (length (now map)) × Tally (bounds .given) 0 t × (1 ≤ s) × (s ≤ bounds .given) × (highOf (now f) s ≡ 1 → ⊥) × (bounds .given ≤ 10240) × Arrays (editionOf edition) (bounds .given) (length (now path)) (length (now waits)) ⌝ }
+    ensures { λ r. ⌜ Told (TreeItems (editionOf edition) (now (f .entry)) [] s) (TreeItems (editionOf edition) (now (f .entry)) [] s) (now (f .entry)) (bounds .start) (bounds .given) (bounds .next) (now (map .entry)) t (now (map .exit)) r ⌝ }
 {
     let given = bounds.given;
-    let mut path: [u8; DEPTHS] = [0; DEPTHS];
-    // of the nodes that wait: the slot, the bytes that lead to it, and the child that the walk is below
-    let mut slots: [u32; DEPTHS] = [0; DEPTHS];
-    let mut depths: [u8; DEPTHS] = [0; DEPTHS];
-    let mut turns: [u8; DEPTHS] = [0; DEPTHS];
     let mut waiting = 0;
     let mut sums = t;
     let top = Entry::read(f, s);
@@ -208,7 +245,7 @@ pub fn tree(f: &[u8], map: &mut [u64], s: usize, bounds: Bounds, t: Sums) -> Sum
     loop {
         if arriving {
             if kind == Kind::PREFIX {
-                let k = past_prefix(f, map, &mut path, depth, slot, place, bounds, sums);
+                let k = past_prefix(f, map, path, depth, slot, place, bounds, sums);
                 sums = k.sums;
                 if !sums.good {
                     return refused();
@@ -219,7 +256,7 @@ pub fn tree(f: &[u8], map: &mut [u64], s: usize, bounds: Bounds, t: Sums) -> Sum
                 depth = k.depth;
                 continue;
             }
-            sums = node(f, map, depth, kind, place, bounds, sums);
+            sums = node(f, map, depth, kind, place, bounds, sums, path.len());
             if !sums.good {
                 return refused();
             }
@@ -240,7 +277,7 @@ pub fn tree(f: &[u8], map: &mut [u64], s: usize, bounds: Bounds, t: Sums) -> Sum
             }
             let e = Entry::read(f, c.slot);
             if e.high == Kind::LEAF {
-                sums = leaf(f, map, &path, depth + 1, e.place, bounds, sums);
+                sums = leaf(f, map, path, depth + 1, e.place, bounds, sums, edition);
                 if !sums.good {
                     return refused();
                 }
@@ -248,9 +285,7 @@ pub fn tree(f: &[u8], map: &mut [u64], s: usize, bounds: Bounds, t: Sums) -> Sum
                 i += 1;
                 continue;
             }
-            slots[waiting] = slot as u32;
-            depths[waiting] = depth as u8;
-            turns[waiting] = i as u8;
+            waits[waiting] = Wait::number(slot, depth, i);
             waiting += 1;
             slot = c.slot;
             place = e.place;
@@ -263,9 +298,10 @@ pub fn tree(f: &[u8], map: &mut [u64], s: usize, bounds: Bounds, t: Sums) -> Sum
             return sums;
         }
         waiting -= 1;
-        slot = slots[waiting] as usize;
-        depth = depths[waiting] as usize;
-        i = turns[waiting] as usize + 1;
+        let w = Wait::read(waits[waiting]);
+        slot = w.slot;
+        depth = w.depth;
+        i = w.turn + 1;
         from = path[depth] as usize + 1;
         let e = Entry::read(f, slot);
         place = e.place;

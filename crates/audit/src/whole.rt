@@ -1,5 +1,5 @@
 // The root with all below it, the lists of freed slots, and the sums over both.
-use crate::walk::tree;
+use crate::walk::along;
 use census::Bounds;
 use census::Sums;
 use census::freed::lists;
@@ -16,11 +16,14 @@ ghost use mathlib.Core.Path.{_≡_};
 ghost use mathlib.Core.List.{[]};
 ghost use Prim.Native.Nat.{_+_, _-_, _*_, _%_, _<_, _≤_};
 ghost use lib.ListN.{length};
+ghost use Rattle.model.specs.Edition.{editionOf};
 ghost use Rattle.model.specs.Frame.{Good};
 ghost use Rattle.pieces.specs.Decides.{Decides};
 ghost use Rattle.claims.specs.Units.{Seen};
 ghost use Rattle.census.specs.Told.{Ground, Limits, Tally, Told};
-ghost use Rattle.audit.specs.Walk.{At};
+ghost use Rattle.layout.specs.Number.{le};
+ghost use Rattle.layout.specs.Place.{atU};
+ghost use Rattle.audit.specs.Walk.{At, Arrays};
 ghost use Rattle.audit.specs.Audit.{byRule, HeaderFits, RootItems, EmptyTold, Unmarked, Closes};
 
 // An EmptyRoot whose body lies at o.
@@ -39,9 +42,9 @@ fn empty(f: &[u8], map: &mut [u64], o: usize, bounds: Bounds, t: Sums) -> Sums
 }
 
 // A Leaf whose body lies at o, to which no path leads.
-fn lone(f: &[u8], map: &mut [u64], o: usize, bounds: Bounds, t: Sums) -> Sums
+fn lone(f: &[u8], map: &mut [u64], o: usize, bounds: Bounds, t: Sums, edition: usize) -> Sums
     requires { ⌜ Ground (now f) (bounds .start) (bounds .given) (bounds .next) × Limits (bounds .start) (bounds .given) (bounds .next) (length (now map)) × Tally (bounds .given) 0 t × (o % 8 ≡ 0) × (o < 1048576) ⌝ }
-    ensures { λ r. ⌜ At (now (f .entry)) [] 1 o (bounds .start) (bounds .given) (bounds .next) (now (map .entry)) t (now (map .exit)) r ⌝ }
+    ensures { λ r. ⌜ At (editionOf edition) (now (f .entry)) [] 1 o (bounds .start) (bounds .given) (bounds .next) (now (map .entry)) t (now (map .exit)) r ⌝ }
 {
     let start = bounds.start;
     let next = bounds.next;
@@ -49,7 +52,7 @@ fn lone(f: &[u8], map: &mut [u64], o: usize, bounds: Bounds, t: Sums) -> Sums
     if !r.good {
         return refused();
     }
-    let l = lone_good(f, o, start, next);
+    let l = lone_good(f, o, start, next, edition);
     if !l.good {
         return refused();
     }
@@ -57,9 +60,18 @@ fn lone(f: &[u8], map: &mut [u64], o: usize, bounds: Bounds, t: Sums) -> Sums
 }
 
 // The root slot: "EmptyRoot stands only at the root".
-fn root(f: &[u8], map: &mut [u64], s: usize, bounds: Bounds, t: Sums) -> Sums
-    requires { ⌜ Ground (now f) (bounds .start) (bounds .given) (bounds .next) × Limits (bounds .start) (bounds .given) (bounds .next) (length (now map)) × Tally (bounds .given) 0 t ⌝ }
-    ensures { λ r. ⌜ Told (RootItems (now (f .entry)) s) (RootItems (now (f .entry)) s) (now (f .entry)) (bounds .start) (bounds .given) (bounds .next) (now (map .entry)) t (now (map .exit)) r ⌝ }
+fn root(
+    f: &[u8],
+    map: &mut [u64],
+    path: &mut [u8],
+    waits: &mut [u32],
+    s: usize,
+    bounds: Bounds,
+    t: Sums,
+    edition: usize,
+) -> Sums
+    requires { ⌜ Ground (now f) (bounds .start) (bounds .given) (bounds .next) × Limits (bounds .start) (bounds .given) (bounds .next) (length (now map)) × Tally (bounds .given) 0 t × (bounds .given ≤ 10240) × Arrays (editionOf edition) (bounds .given) (length (now path)) (length (now waits)) ⌝ }
+    ensures { λ r. ⌜ Told (RootItems (editionOf edition) (now (f .entry)) s) (RootItems (editionOf edition) (now (f .entry)) s) (now (f .entry)) (bounds .start) (bounds .given) (bounds .next) (now (map .entry)) t (now (map .exit)) r ⌝ }
 {
     let given = bounds.given;
     if s < 1 {
@@ -73,9 +85,9 @@ fn root(f: &[u8], map: &mut [u64], s: usize, bounds: Bounds, t: Sums) -> Sums
         return empty(f, map, e.place, bounds, t);
     }
     if e.high == Kind::LEAF {
-        return lone(f, map, e.place, bounds, t);
+        return lone(f, map, e.place, bounds, t, edition);
     }
-    tree(f, map, s, bounds, t)
+    along(f, map, path, waits, s, bounds, t, edition)
 }
 
 // "B - D equals the sizes of all of them plus X", U slots in all, and R Leaves.
@@ -104,9 +116,16 @@ fn unmarked(f: &[u8], map: &[u64], bounds: Bounds, wiped: bool) -> bool
 }
 
 // All, with a map of units that is still zero. What nothing live has marked is looked at before the freed bodies are marked too.
-fn over(f: &[u8], map: &mut [u64], wiped: bool) -> bool
-    requires { ⌜ HeaderFits (now f) × (length (now f) ≤ 512 * length (now map)) × Seen (now map) [] ⌝ }
-    ensures { λ r. ⌜ Decides (Good (byRule wiped) (now (f .entry))) r ⌝ }
+fn over(
+    f: &[u8],
+    map: &mut [u64],
+    path: &mut [u8],
+    waits: &mut [u32],
+    edition: usize,
+    wiped: bool,
+) -> bool
+    requires { ⌜ HeaderFits (editionOf edition) (now f) × (length (now f) ≤ 512 * length (now map)) × Seen (now map) [] × Arrays (editionOf edition) (le 4 (now f) atU) (length (now path)) (length (now waits)) ⌝ }
+    ensures { λ r. ⌜ Decides (Good (byRule edition wiped) (now (f .entry))) r ⌝ }
 {
     let bounds = Bounds {
         start: Header::data_start(f),
@@ -119,7 +138,7 @@ fn over(f: &[u8], map: &mut [u64], wiped: bool) -> bool
         bytes: 0,
         leaves: 0,
     };
-    let r = root(f, map, Header::root(f), bounds, start);
+    let r = root(f, map, path, waits, Header::root(f), bounds, start, edition);
     if !r.good {
         return false;
     }
@@ -133,6 +152,58 @@ fn over(f: &[u8], map: &mut [u64], wiped: bool) -> bool
     closes(f, l.slots, l.bytes, r.leaves)
 }
 
+// How many lengths a path to an inner node can have, by the edition: so many nodes can wait.
+const DEPTHS: usize = 113;
+
+const DEPTHS_SECOND: usize = 512;
+
+// No more nodes wait than slots are given out; a frame of the least length has at most 238: 64 bytes before the entries of 4, and 8 behind them.
+const FEW_SLOTS: usize = 240;
+
+// The same with arrays for the paths of edition 1.
+fn near(f: &[u8], map: &mut [u64], edition: usize, wiped: bool) -> bool
+    requires { ⌜ HeaderFits (editionOf edition) (now f) × (length (now f) ≤ 512 * length (now map)) × Seen (now map) [] × (editionOf edition .longest ≤ 113) ⌝ }
+    ensures { λ r. ⌜ Decides (Good (byRule edition wiped) (now (f .entry))) r ⌝ }
+{
+    let mut path: [u8; DEPTHS] = [0; DEPTHS];
+    let mut waits: [u32; DEPTHS] = [0; DEPTHS];
+    over(f, map, &mut path, &mut waits, edition, wiped)
+}
+
+// The same with arrays for the paths of every edition, in a frame of few slots.
+fn few(f: &[u8], map: &mut [u64], edition: usize, wiped: bool) -> bool
+    requires { ⌜ HeaderFits (editionOf edition) (now f) × (length (now f) ≤ 512 * length (now map)) × Seen (now map) [] × (le 4 (now f) atU ≤ 240) ⌝ }
+    ensures { λ r. ⌜ Decides (Good (byRule edition wiped) (now (f .entry))) r ⌝ }
+{
+    let mut path: [u8; DEPTHS_SECOND] = [0; DEPTHS_SECOND];
+    let mut waits: [u32; FEW_SLOTS] = [0; FEW_SLOTS];
+    over(f, map, &mut path, &mut waits, edition, wiped)
+}
+
+// The same with arrays for the paths of every edition.
+fn far(f: &[u8], map: &mut [u64], edition: usize, wiped: bool) -> bool
+    requires { ⌜ HeaderFits (editionOf edition) (now f) × (length (now f) ≤ 512 * length (now map)) × Seen (now map) [] ⌝ }
+    ensures { λ r. ⌜ Decides (Good (byRule edition wiped) (now (f .entry))) r ⌝ }
+{
+    let mut path: [u8; DEPTHS_SECOND] = [0; DEPTHS_SECOND];
+    let mut waits: [u32; DEPTHS_SECOND] = [0; DEPTHS_SECOND];
+    over(f, map, &mut path, &mut waits, edition, wiped)
+}
+
+// The same with arrays on the stack that are no larger than they need be.
+fn fitted(f: &[u8], map: &mut [u64], edition: usize, wiped: bool) -> bool
+    requires { ⌜ HeaderFits (editionOf edition) (now f) × (length (now f) ≤ 512 * length (now map)) × Seen (now map) [] ⌝ }
+    ensures { λ r. ⌜ Decides (Good (byRule edition wiped) (now (f .entry))) r ⌝ }
+{
+    if edition == Header::SECOND_EDITION {
+        if Header::slots_given(f) <= FEW_SLOTS {
+            return few(f, map, edition, wiped);
+        }
+        return far(f, map, edition, wiped);
+    }
+    near(f, map, edition, wiped)
+}
+
 // Words of the map, 64 units each, and the longest frames that the smaller maps are for.
 const SMALLEST_MAP: usize = 8;
 
@@ -144,40 +215,40 @@ const SMALLEST_FRAME: usize = 4096;
 
 const SMALL_FRAME: usize = 16384;
 
-fn smallest(f: &[u8], wiped: bool) -> bool
-    requires { ⌜ HeaderFits (now f) × (length (now f) ≤ 4096) ⌝ }
-    ensures { λ r. ⌜ Decides (Good (byRule wiped) (now (f .entry))) r ⌝ }
+fn smallest(f: &[u8], edition: usize, wiped: bool) -> bool
+    requires { ⌜ HeaderFits (editionOf edition) (now f) × (length (now f) ≤ 4096) ⌝ }
+    ensures { λ r. ⌜ Decides (Good (byRule edition wiped) (now (f .entry))) r ⌝ }
 {
     let mut map: [u64; SMALLEST_MAP] = [0; SMALLEST_MAP];
-    over(f, &mut map, wiped)
+    fitted(f, &mut map, edition, wiped)
 }
 
-fn small(f: &[u8], wiped: bool) -> bool
-    requires { ⌜ HeaderFits (now f) × (length (now f) ≤ 16384) ⌝ }
-    ensures { λ r. ⌜ Decides (Good (byRule wiped) (now (f .entry))) r ⌝ }
+fn small(f: &[u8], edition: usize, wiped: bool) -> bool
+    requires { ⌜ HeaderFits (editionOf edition) (now f) × (length (now f) ≤ 16384) ⌝ }
+    ensures { λ r. ⌜ Decides (Good (byRule edition wiped) (now (f .entry))) r ⌝ }
 {
     let mut map: [u64; SMALL_MAP] = [0; SMALL_MAP];
-    over(f, &mut map, wiped)
+    fitted(f, &mut map, edition, wiped)
 }
 
-fn large(f: &[u8], wiped: bool) -> bool
-    requires { ⌜ HeaderFits (now f) ⌝ }
-    ensures { λ r. ⌜ Decides (Good (byRule wiped) (now (f .entry))) r ⌝ }
+fn large(f: &[u8], edition: usize, wiped: bool) -> bool
+    requires { ⌜ HeaderFits (editionOf edition) (now f) ⌝ }
+    ensures { λ r. ⌜ Decides (Good (byRule edition wiped) (now (f .entry))) r ⌝ }
 {
     let mut map: [u64; LARGE_MAP] = [0; LARGE_MAP];
-    over(f, &mut map, wiped)
+    fitted(f, &mut map, edition, wiped)
 }
 
 // All, with a map on the stack that is no larger than it need be.
-pub fn all(f: &[u8], wiped: bool) -> bool
-    requires { ⌜ HeaderFits (now f) ⌝ }
-    ensures { λ r. ⌜ Decides (Good (byRule wiped) (now (f .entry))) r ⌝ }
+pub fn all(f: &[u8], edition: usize, wiped: bool) -> bool
+    requires { ⌜ HeaderFits (editionOf edition) (now f) ⌝ }
+    ensures { λ r. ⌜ Decides (Good (byRule edition wiped) (now (f .entry))) r ⌝ }
 {
     if f.len() <= SMALLEST_FRAME {
-        return smallest(f, wiped);
+        return smallest(f, edition, wiped);
     }
     if f.len() <= SMALL_FRAME {
-        return small(f, wiped);
+        return small(f, edition, wiped);
     }
-    large(f, wiped)
+    large(f, edition, wiped)
 }

@@ -11,7 +11,7 @@ use lib.ListN.{length}
 use lib.Seq.{ext-getD}
 use lib.Dec.{lit<}
 use borrow.Author.Tests.{not-true, not-false}
-use Rattle.model.specs.Edition.{edition1}
+use Rattle.model.specs.Edition.{Edition}
 use Rattle.model.specs.Frame.{Good}
 use Rattle.model.specs.Promise.{CheckPromise}
 use Rattle.model.specs.Call.{Call}
@@ -31,14 +31,14 @@ pasted-all f g p P e =
     let n : length g ≡ length p = P .only .size ∙ e in
     ext-getD 0 g p n (λ i l. P .text i i (omega arith) (omega arith))
 
-pub ready : {f b : List ℕ} → Standing f → laid (changesOf b) ≡ true → Ready f b
+pub ready : {E : Edition} {f b : List ℕ} → Standing E f → laid (changesOf b) ≡ true → Ready E f b
 ready S e = record { good = S; whole = e }
 
 -- the second frame, pasted over with the first
-pub ready-second : {f b : List ℕ} (g : List ℕ) → g ≡ f → Standing f → laid (changesOf b) ≡ true → Ready g b
+pub ready-second : {E : Edition} {f b : List ℕ} (g : List ℕ) → g ≡ f → Standing E f → laid (changesOf b) ≡ true → Ready E g b
 ready-second g e S w = rw e (ready S w)
 
-pub tried-as : {x f b : List ℕ} {r : Ended} {g' : List ℕ} → x ≡ f → Tried x b r g' → Tried f b r g'
+pub tried-as : {E : Edition} {x f b : List ℕ} {r : Ended} {g' : List ℕ} → x ≡ f → Tried E x b r g' → Tried E f b r g'
 tried-as e T = rw e at T
 
 -- the test of the batch, by what it gave
@@ -48,12 +48,12 @@ is-laid b r e t = sym e ∙ not-false r t
 pub not-laid : (b : List ℕ) (r : Bool) → r ≡ laid (changesOf b) → not r ≡ true → laid (changesOf b) ≡ false
 not-laid b r e t = sym e ∙ not-true r t
 
-module _ (f g b lent : List ℕ) where
-  unchanged : Refused f g lent 0 f g lent
-  unchanged = record { place = refl; first = refl; second = refl; tells = refl }
+unchanged : (f g lent : List ℕ) → Refused f g lent 0 f g lent
+unchanged f g lent = record { place = refl; first = refl; second = refl; tells = refl }
 
+module _ (E : Edition) (f g b lent : List ℕ) where
   -- 1 or 2
-  pub bad-frame : (n : ℕ) → CheckPromise edition1 f n → n ≢ 0 → BatchPromise edition1 f g b lent n 0 f g lent × (n < 256) × (0 ≤ 4294967295)
+  pub bad-frame : (n : ℕ) → CheckPromise E f n → n ≢ 0 → BatchPromise E f g b lent n 0 f g lent × (n < 256) × (0 ≤ 4294967295)
   bad-frame n p ne = (
     record {
       told = p .told;
@@ -61,30 +61,30 @@ module _ (f g b lent : List ℕ) where
       layout12 = λ G. absurd (ne (p .good0 G));
       done = λ G. absurd (ne (p .good0 G));
       stopped = λ G. absurd (ne (p .good0 G));
-      bad = λ z. unchanged;
-      other = λ z. unchanged;
-      unlaid = λ z. unchanged;
+      bad = λ z. unchanged f g lent;
+      other = λ z. unchanged f g lent;
+      unlaid = λ z. unchanged f g lent;
     },
-    elim (ℕ-discrete n 1) [ yes e ↦ omega arith | no m ↦ (let e = check-two f n p ne m in omega arith) ],
+    elim (ℕ-discrete n 1) [ yes e ↦ omega arith | no m ↦ (let e = check-two E f n p ne m in omega arith) ],
     omega arith,
   )
 
-  module _ (S : Standing f) where
-    good : Good edition1 f
+  module _ (S : Standing E f) where
+    good : Good E f
     good = (S .st, S .stands)
 
     -- 7
-    pub other-length : length g ≢ length f → BatchPromise edition1 f g b lent 7 0 f g lent × (7 < 256) × (0 ≤ 4294967295)
+    pub other-length : length g ≢ length f → BatchPromise E f g b lent 7 0 f g lent × (7 < 256) × (0 ≤ 4294967295)
     other-length ne = (
       record {
-        told = told-good f 7 good;
+        told = told-good E f 7 good;
         length7 = λ G z. refl;
         layout12 = λ G z. absurd (ne z);
         done = λ G z. absurd (ne z);
         stopped = λ G z. absurd (ne z);
         bad = λ z. absurd (z good);
-        other = λ z. unchanged;
-        unlaid = λ z. unchanged;
+        other = λ z. unchanged f g lent;
+        unlaid = λ z. unchanged f g lent;
       },
       lit< tt,
       omega arith,
@@ -99,17 +99,17 @@ module _ (f g b lent : List ℕ) where
 
     module _ (equal : length g ≡ length f) where
       -- 12
-      pub no-batch : laid (changesOf b) ≡ false → BatchPromise edition1 f g b lent 12 0 f g lent × (12 < 256) × (0 ≤ 4294967295)
+      pub no-batch : laid (changesOf b) ≡ false → BatchPromise E f g b lent 12 0 f g lent × (12 < 256) × (0 ≤ 4294967295)
       no-batch e = let z = none-laid (changesOf b) e in (
         record {
-          told = told-good f 12 good;
+          told = told-good E f 12 good;
           length7 = λ G n. absurd (n equal);
           layout12 = λ G n q. refl;
           done = λ G n cs q t. not-both (changesOf b) z q;
           stopped = λ G n cs q t. not-both (changesOf b) z q;
           bad = λ y. absurd (y good);
           other = λ n. absurd (n equal);
-          unlaid = λ q. unchanged;
+          unlaid = λ q. unchanged f g lent;
         },
         lit< tt,
         omega arith,
@@ -120,10 +120,10 @@ module _ (f g b lent : List ℕ) where
         none-not q = let z : false ≡ true = rw q at whole in clash (cc)
 
         -- a change was refused
-        pub halted-at : (r : Ended) (g' : List ℕ) → Tried f b r g' → (r .place ≡ 0 → ⊥) → BatchPromise edition1 f g b lent (r .number) (r .place) f g' lent × (r .number < 256) × (r .place ≤ 4294967295)
+        pub halted-at : (r : Ended) (g' : List ℕ) → Tried E f b r g' → (r .place ≡ 0 → ⊥) → BatchPromise E f g b lent (r .number) (r .place) f g' lent × (r .number < 256) × (r .place ≤ 4294967295)
         halted-at r g' T ne = let H = T .halted ne in (
           record {
-            told = told-good f (r .number) good;
+            told = told-good E f (r .number) good;
             length7 = λ G n. absurd (n equal);
             layout12 = λ G n q. none-not q;
             done = λ G n cs q t. clash (cc);
@@ -144,18 +144,18 @@ module _ (f g b lent : List ℕ) where
             orNone (some cs) = cs
 
         -- none was
-        pub carried : (r : Ended) (g1 : List ℕ) → Tried f b r g1 → r .place ≡ 0 → (ns f' : List ℕ) → All f b ns f' → (lent' g' : List ℕ) → lent' ≡ told ns lent → g' ≡ f'
-            → BatchPromise edition1 f g b lent (r .number) (r .place) f' g' lent' × (r .number < 256) × (r .place ≤ 4294967295)
+        pub carried : (r : Ended) (g1 : List ℕ) → Tried E f b r g1 → r .place ≡ 0 → (ns f' : List ℕ) → All E f b ns f' → (lent' g' : List ℕ) → lent' ≡ told ns lent → g' ≡ f'
+            → BatchPromise E f g b lent (r .number) (r .place) f' g' lent' × (r .number < 256) × (r .place ≤ 4294967295)
         carried r g1 T e ns f' A lent' g' l d =
             let U = T .through e in
             let M = U .1 .1 in
             let c : M .calls ≡ A .calls = same-calls (changesOf b) (M .whole) (A .whole) in
-            let x = made-told f (M .calls) (U .1 .0) g1 (S .st) (S .stands) (M .made) in
-            let y = made-told f (A .calls) ns f' (S .st) (S .stands) (A .made) in
+            let x = made-told E f (M .calls) (U .1 .0) g1 (S .st) (S .stands) (M .made) in
+            let y = made-told E f (A .calls) ns f' (S .st) (S .stands) (A .made) in
             let q : U .1 .0 ≡ ns = x ∙ rw c (sym y) in
             let u : Unrefused ns = rw q at (U .1 .2) in (
               record {
-                told = told-good f (r .number) good;
+                told = told-good E f (r .number) good;
                 length7 = λ G n. absurd (n equal);
                 layout12 = λ G n z. none-not z;
                 done = λ G n cs z t.

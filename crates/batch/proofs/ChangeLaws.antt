@@ -9,7 +9,7 @@ use lib.ListN.{length, take, drop}
 use lib.Dec.{lit<}
 use borrow.Author.Tests.{eq-eqb, ne-eqb, lt-ltb, le-ltb}
 use Rattle.layout.specs.Number.{Bytes}
-use Rattle.model.specs.Edition.{edition1, valueFault}
+use Rattle.model.specs.Edition.{Edition, editionOf, valueFault}
 use Rattle.model.specs.State.{Write}
 use Rattle.model.specs.Promise.{CheckPromise, WritePromise, PutPromise, ReplacePromise, ErasePromise}
 use Rattle.model.specs.Call.{Called}
@@ -61,79 +61,82 @@ erase-small (gone.Refused r) = refusal-small r
 
 -- ---- the frame is good: the check would pass
 
-module _ {f : List ℕ} (S : Standing f) where
-  passes : CheckPromise edition1 f 0
-  passes = record { told = told-good f 0 (S .st, S .stands); good0 = λ g. refl }
+module _ (ed : ℕ) {f : List ℕ} (S : Standing (editionOf ed) f) where
+  abbrev E : Edition
+  E = editionOf ed
+
+  passes : CheckPromise E f 0
+  passes = record { told = told-good E f 0 (S .st, S .stands); good0 = λ g. refl }
 
   -- ---- put and replacement
 
-  module _ (k v : List ℕ) (e : ℕ) (fault : e ≡ faultOf k v) where
-    key-first : edition1 .keyFault k ≢ 0 → e ≡ edition1 .keyFault k
-    key-first n = fault ∙ rw (ne-eqb (edition1 .keyFault k) 0 n) refl
+  module _ (k v : List ℕ) (e : ℕ) (fault : e ≡ faultOf E k v) where
+    key-first : E .keyFault k ≢ 0 → e ≡ E .keyFault k
+    key-first n = fault ∙ rw (ne-eqb (E .keyFault k) 0 n) refl
 
-    value-next : edition1 .keyFault k ≡ 0 → e ≡ valueFault v
-    value-next z = fault ∙ rw (eq-eqb (edition1 .keyFault k) 0 z) refl
+    value-next : E .keyFault k ≡ 0 → e ≡ valueFault v
+    value-next z = fault ∙ rw (eq-eqb (E .keyFault k) 0 z) refl
 
-    pub barred : (e ≡ 0 → ⊥) → (a : Write) → WritePromise edition1 a f k v e f × (e < 256)
-    barred n a = eqb-cases (edition1 .keyFault k) 0
+    pub barred : (e ≡ 0 → ⊥) → (a : Write) → WritePromise E a f k v e f × (e < 256)
+    barred n a = eqb-cases (E .keyFault k) 0
         (λ t z. ltb-cases 65535 (length v)
-        (λ u l. let q : e ≡ 5 = value-next z ∙ rw u refl in rw q (bar-five f k v passes refl (sym z) refl l a, lit< tt))
+        (λ u l. let q : e ≡ 5 = value-next z ∙ rw u refl in rw q (bar-five ed f k v passes refl (sym z) refl l a, lit< tt))
         (λ u l. absurd (n (value-next z ∙ rw u refl))))
         (λ t m. let q = key-first m in elim (ℕ-discrete e 3) [
-          | yes h ↦ rw h (bar-three f k v passes refl (sym h ∙ q) refl a, lit< tt)
-          | no h ↦ let x : e ≡ 4 = q ∙ key-four k m (λ y. h (q ∙ y)) in rw x (bar-four f k v passes refl (sym x ∙ q) (λ y. omega arith) (λ y. omega arith) a, lit< tt)
+          | yes h ↦ rw h (bar-three ed f k v passes refl (sym h ∙ q) refl a, lit< tt)
+          | no h ↦ let x : e ≡ 4 = q ∙ key-four ed k m (λ y. h (q ∙ y)) in rw x (bar-four ed f k v passes refl (sym x ∙ q) (λ y. omega arith) (λ y. omega arith) a, lit< tt)
         ])
 
-    pub legal-key : e ≡ 0 → edition1 .keyFault k ≡ 0
-    legal-key z = eqb-cases (edition1 .keyFault k) 0 (λ t y. y) (λ t m. sym (key-first m) ∙ z)
+    pub legal-key : e ≡ 0 → E .keyFault k ≡ 0
+    legal-key z = eqb-cases (E .keyFault k) 0 (λ t y. y) (λ t m. sym (key-first m) ∙ z)
 
-    pub asked : e ≡ 0 → Bytes k → Bytes v → put-core.Asked f k v
+    pub asked : e ≡ 0 → Bytes k → Bytes v → put-core.Asked E f k v
     asked z bk bv =
         let y = legal-key z in
         ltb-cases 65535 (length v)
         (λ u l. let q : e ≡ 5 = value-next y ∙ rw u refl in absurd (omega arith))
-        (λ u l. bar-none f k v passes refl (sym y) refl (omega arith) bk bv)
+        (λ u l. bar-none ed f k v passes refl (sym y) refl (omega arith) bk bv)
 
   -- ---- erase
 
-  module _ (k : List ℕ) (e : ℕ) (fault : e ≡ edition1 .keyFault k) where
-    pub erase-barred : (e ≡ 0 → ⊥) → ErasePromise edition1 f k e f × (e < 256)
+  module _ (k : List ℕ) (e : ℕ) (fault : e ≡ E .keyFault k) where
+    pub erase-barred : (e ≡ 0 → ⊥) → ErasePromise E f k e f × (e < 256)
     erase-barred n = elim (ℕ-discrete e 3) [
-      | yes h ↦ rw h (erase-three f k passes refl (sym h ∙ fault) refl, lit< tt)
-      | no h ↦ let x : e ≡ 4 = fault ∙ key-four k (λ y. n (fault ∙ y)) (λ y. h (fault ∙ y)) in rw x (erase-four f k passes refl (sym x ∙ fault) (λ y. omega arith) (λ y. omega arith), lit< tt)
+      | yes h ↦ rw h (erase-three ed f k passes refl (sym h ∙ fault) refl, lit< tt)
+      | no h ↦ let x : e ≡ 4 = fault ∙ key-four ed k (λ y. n (fault ∙ y)) (λ y. h (fault ∙ y)) in rw x (erase-four ed f k passes refl (sym x ∙ fault) (λ y. omega arith) (λ y. omega arith), lit< tt)
     ]
 
-    pub erase-ready : e ≡ 0 → Bytes k → erase-core.Asked f k
-    erase-ready z bk = erase-asked f k passes refl fault z bk
+    pub erase-ready : e ≡ 0 → Bytes k → erase-core.Asked E f k
+    erase-ready z bk = erase-asked ed f k passes refl fault z bk
 
-    pub erase-done : e ≡ 0 → {n : ℕ} {f' : List ℕ} → erase-core.EraseMade f k n f' → ErasePromise edition1 f k n f'
-    erase-done z M = erase-made f k passes refl fault z M
+    pub erase-done : e ≡ 0 → {n : ℕ} {f' : List ℕ} → erase-core.EraseMade E f k n f' → ErasePromise E f k n f'
+    erase-done z M = erase-made ed f k passes refl fault z M
 
-pub write-done : (f k v : List ℕ) (a : Write) {n : ℕ} {f' : List ℕ} → put-core.Asked f k v → put-core.WriteMade a f k v n f' → WritePromise edition1 a f k v n f'
-write-done f k v a A M = made f k v a A M
+pub write-done : (E : Edition) (f k v : List ℕ) (a : Write) {n : ℕ} {f' : List ℕ} → put-core.Asked E f k v → put-core.WriteMade E a f k v n f' → WritePromise E a f k v n f'
+write-done E f k v a A M = made E f k v a A M
 
 -- ---- the fault by its tests
 
-module _ (k v : List ℕ) where
-  pub fault-key : (e : ℕ) → e ≡ edition1 .keyFault k → (e ≡ 0 → ⊥) → e ≡ faultOf k v
-  fault-key e q n = q ∙ rw (ne-eqb (edition1 .keyFault k) 0 (λ z. n (q ∙ z))) refl
+module _ (E : Edition) (k v : List ℕ) where
+  pub fault-key : (e : ℕ) → e ≡ E .keyFault k → (e ≡ 0 → ⊥) → e ≡ faultOf E k v
+  fault-key e q n = q ∙ rw (ne-eqb (E .keyFault k) 0 (λ z. n (q ∙ z))) refl
 
-  pub fault-value : (e : ℕ) → e ≡ edition1 .keyFault k → e ≡ 0 → 65535 < length v → 5 ≡ faultOf k v
-  fault-value e q z l = rw (eq-eqb (edition1 .keyFault k) 0 (sym q ∙ z), lt-ltb 65535 (length v) l) refl
+  pub fault-value : (e : ℕ) → e ≡ E .keyFault k → e ≡ 0 → 65535 < length v → 5 ≡ faultOf E k v
+  fault-value e q z l = rw (eq-eqb (E .keyFault k) 0 (sym q ∙ z), lt-ltb 65535 (length v) l) refl
 
-  pub fault-free : (e : ℕ) → e ≡ edition1 .keyFault k → e ≡ 0 → length v ≤ 65535 → 0 ≡ faultOf k v
-  fault-free e q z l = rw (eq-eqb (edition1 .keyFault k) 0 (sym q ∙ z), le-ltb 65535 (length v) l) refl
+  pub fault-free : (e : ℕ) → e ≡ E .keyFault k → e ≡ 0 → length v ≤ 65535 → 0 ≡ faultOf E k v
+  fault-free e q z l = rw (eq-eqb (E .keyFault k) 0 (sym q ∙ z), le-ltb 65535 (length v) l) refl
 
 -- ---- which call it is
 
-module _ (f b : List ℕ) (o : ℕ) (n : ℕ) (f' : List ℕ) where
-  pub call-put : kindAt b o ≡ isPut → {k v : List ℕ} → PutPromise edition1 f k v n f' → k ≡ keyAt b o → v ≡ valueAt b o → Called edition1 f (callAt b o) n f'
+module _ (E : Edition) (f b : List ℕ) (o : ℕ) (n : ℕ) (f' : List ℕ) where
+  pub call-put : kindAt b o ≡ isPut → {k v : List ℕ} → PutPromise E f k v n f' → k ≡ keyAt b o → v ≡ valueAt b o → Called E f (callAt b o) n f'
   call-put e P p q = rw (eq-eqb (kindAt b o) isPut e) (rw (p, q) at P)
 
-  pub call-replace : (kindAt b o ≡ isPut → ⊥) → kindAt b o ≡ isReplacement → {k v : List ℕ} → ReplacePromise edition1 f k v n f' → k ≡ keyAt b o → v ≡ valueAt b o → Called edition1 f (callAt b o) n f'
+  pub call-replace : (kindAt b o ≡ isPut → ⊥) → kindAt b o ≡ isReplacement → {k v : List ℕ} → ReplacePromise E f k v n f' → k ≡ keyAt b o → v ≡ valueAt b o → Called E f (callAt b o) n f'
   call-replace m e P p q = rw (ne-eqb (kindAt b o) isPut m, eq-eqb (kindAt b o) isReplacement e) (rw (p, q) at P)
 
-  pub call-erase : (kindAt b o ≡ isPut → ⊥) → (kindAt b o ≡ isReplacement → ⊥) → {k : List ℕ} → ErasePromise edition1 f k n f' → k ≡ keyAt b o → Called edition1 f (callAt b o) n f'
+  pub call-erase : (kindAt b o ≡ isPut → ⊥) → (kindAt b o ≡ isReplacement → ⊥) → {k : List ℕ} → ErasePromise E f k n f' → k ≡ keyAt b o → Called E f (callAt b o) n f'
   call-erase m e P p = rw (ne-eqb (kindAt b o) isPut m, ne-eqb (kindAt b o) isReplacement e) (rw p at P)
 
 -- the parts that the code lends

@@ -8,7 +8,7 @@ use native.Mathlib.Omega.{arith}
 use lib.ListN.{length, set, length-append}
 use lib.Dec.{eqb}
 use borrow.Author.Tests.{ne-eqb}
-use Rattle.model.specs.Edition.{edition1}
+use Rattle.model.specs.Edition.{Edition}
 use Rattle.model.specs.Order.{isRefusal}
 use Rattle.model.specs.State.{State}
 use Rattle.model.specs.Frame.{Stands}
@@ -71,26 +71,26 @@ next b n i low rest e = bool-cases (sound b low (offsetOf b i))
 
 -- ---- numbers and calls
 
-made-more : (f : List ℕ) (cs : List Call) (ns g : List ℕ) (c : Call) (n : ℕ) (g' : List ℕ) → Made edition1 f cs ns g → Called edition1 g c n g' → Made edition1 f (cs ++ c ∷ []) (ns ++ n ∷ []) g'
-made-more f [] [] g c n g' e C = (g', rw e C, refl)
-made-more f [] (m ∷ ns) g c n g' M C = absurd M
-made-more f (d ∷ cs) [] g c n g' M C = absurd M
-made-more f (d ∷ cs) (m ∷ ns) g c n g' M C = (M .0, M .1, made-more (M .0) cs ns g c n g' (M .2) C)
+made-more : (E : Edition) (f : List ℕ) (cs : List Call) (ns g : List ℕ) (c : Call) (n : ℕ) (g' : List ℕ) → Made E f cs ns g → Called E g c n g' → Made E f (cs ++ c ∷ []) (ns ++ n ∷ []) g'
+made-more E f [] [] g c n g' e C = (g', rw e C, refl)
+made-more E f [] (m ∷ ns) g c n g' M C = absurd M
+made-more E f (d ∷ cs) [] g c n g' M C = absurd M
+made-more E f (d ∷ cs) (m ∷ ns) g c n g' M C = (M .0, M .1, made-more E (M .0) cs ns g c n g' (M .2) C)
 
-made-long : (f : List ℕ) (cs : List Call) (ns g : List ℕ) → Made edition1 f cs ns g → length ns ≡ length cs
-made-long f [] [] g M = refl
-made-long f [] (m ∷ ns) g M = absurd M
-made-long f (d ∷ cs) [] g M = absurd M
-made-long f (d ∷ cs) (m ∷ ns) g M = ap suc (made-long (M .0) cs ns g (M .2))
+made-long : (E : Edition) (f : List ℕ) (cs : List Call) (ns g : List ℕ) → Made E f cs ns g → length ns ≡ length cs
+made-long E f [] [] g M = refl
+made-long E f [] (m ∷ ns) g M = absurd M
+made-long E f (d ∷ cs) [] g M = absurd M
+made-long E f (d ∷ cs) (m ∷ ns) g M = ap suc (made-long E (M .0) cs ns g (M .2))
 
 -- the numbers are the state's
-pub made-told : (f : List ℕ) (cs : List Call) (ns g : List ℕ) (s : State) → Stands edition1 f s → Made edition1 f cs ns g → ns ≡ callNumbers edition1 s cs
-made-told f [] [] g s w M = refl
-made-told f [] (m ∷ ns) g s w M = absurd M
-made-told f (d ∷ cs) [] g s w M = absurd M
-made-told f (d ∷ cs) (m ∷ ns) g s w M =
-    let p = called-stands edition1 f d m (M .0) s w (M .1) in
-    ap (λ (x : ℕ). x ∷ ns) (p .0) ∙ ap (λ (x : List ℕ). onCall edition1 s d .answer ∷ x) (made-told (M .0) cs ns g (onCall edition1 s d .state) (p .1) (M .2))
+pub made-told : (E : Edition) (f : List ℕ) (cs : List Call) (ns g : List ℕ) (s : State) → Stands E f s → Made E f cs ns g → ns ≡ callNumbers E s cs
+made-told E f [] [] g s w M = refl
+made-told E f [] (m ∷ ns) g s w M = absurd M
+made-told E f (d ∷ cs) [] g s w M = absurd M
+made-told E f (d ∷ cs) (m ∷ ns) g s w M =
+    let p = called-stands E f d m (M .0) s w (M .1) in
+    ap (λ (x : ℕ). x ∷ ns) (p .0) ∙ ap (λ (x : List ℕ). onCall E s d .answer ∷ x) (made-told E (M .0) cs ns g (onCall E s d .state) (p .1) (M .2))
 
 unrefused-more : (ns : List ℕ) (n : ℕ) → Unrefused ns → isRefusal n ≡ false → Unrefused (ns ++ n ∷ [])
 unrefused-more [] n U e = (e, tt)
@@ -102,10 +102,10 @@ still n e = eqb-cases n 0
     (λ t q. let z : false ≡ true = rw q at e in clash (cc))
     (λ t m. eqb-cases n 9 (λ u q. let z : false ≡ true = rw q at e in clash (cc)) (λ u k. rw (t, u) refl))
 
-kept-by : (f : List ℕ) (c : Call) (n : ℕ) (f' : List ℕ) → Called edition1 f c n f' → isRefusal n ≡ true → f' ≡ f
-kept-by f (put k v) n f' C e = C .kept (still n e)
-kept-by f (replace k v) n f' C e = C .kept (still n e)
-kept-by f (erase k) n f' C e = C .kept (still n e)
+kept-by : (E : Edition) (f : List ℕ) (c : Call) (n : ℕ) (f' : List ℕ) → Called E f c n f' → isRefusal n ≡ true → f' ≡ f
+kept-by E f (put k v) n f' C e = C .kept (still n e)
+kept-by E f (replace k v) n f' C e = C .kept (still n e)
+kept-by E f (erase k) n f' C e = C .kept (still n e)
 
 -- ---- the answers told
 
@@ -136,41 +136,41 @@ one-told ns lent l l' n i e d T =
 
 -- ---- the start, and one change more
 
-module _ (f b : List ℕ) (R : Ready f b) where
-  start : Far f b 0 f
+module _ {E : Edition} (f b : List ℕ) (R : Ready E f b) where
+  start : Far E f b 0 f
   start =
       let H = headed-of b (R .whole) in
       let z : countIn b - 0 ≡ countIn b = omega arith in
       record { before = []; rest = H .calls; low = offsetAt (countIn b); split = H .is; left = rw z (H .from); long = refl; few = omega arith; numbers = []; made = refl; good = R .good }
 
-  pub trial-start : (F : Far f b 0 f) × Unrefused (F .numbers)
+  pub trial-start : (F : Far E f b 0 f) × Unrefused (F .numbers)
   unfolding start
   trial-start = (start, tt)
 
-  pub carry-start : (lent : List ℕ) → (F : Far f b 0 f) × (lent ≡ told (F .numbers) lent)
+  pub carry-start : (lent : List ℕ) → (F : Far E f b 0 f) × (lent ≡ told (F .numbers) lent)
   unfolding start
   carry-start lent = (start, refl)
 
-module _ {f b : List ℕ} {i : ℕ} {f' : List ℕ} (F : Far f b i f') where
+module _ {E : Edition} {f b : List ℕ} {i : ℕ} {f' : List ℕ} (F : Far E f b i f') where
   coming : i < countIn b → Next b (countIn b - (i + 1)) i (F .low) (F .rest)
   coming h =
       let z : countIn b - i ≡ suc (countIn b - (i + 1)) = omega arith in
       next b (countIn b - (i + 1)) i (F .low) (F .rest) (rw z at (F .left))
 
-  pub far-at : i < countIn b → (o : ℕ) → o ≡ offsetOf b i → o < 4294967296 → Standing f' × At b o
+  pub far-at : i < countIn b → (o : ℕ) → o ≡ offsetOf b i → o < 4294967296 → Standing E f' × At b o
   far-at h o e n =
       let S = sound-has b (F .low) (offsetOf b i) (coming h .fits) in
       (F .good, rw e record { near = rw e at n; head = S .head; ends = S .ends })
 
   pub far-long : length (F .numbers) ≡ i
-  far-long = made-long f (F .before) (F .numbers) f' (F .made) ∙ F .long
+  far-long = made-long E f (F .before) (F .numbers) f' (F .made) ∙ F .long
 
-  pub far-more : i < countIn b → (o : ℕ) → o ≡ offsetOf b i → (m : ℕ) (f'' : List ℕ) → Called edition1 f' (callAt b o) m f'' → (G : Far f b (i + 1) f'') × (G .numbers ≡ F .numbers ++ m ∷ [])
+  pub far-more : i < countIn b → (o : ℕ) → o ≡ offsetOf b i → (m : ℕ) (f'' : List ℕ) → Called E f' (callAt b o) m f'' → (G : Far E f b (i + 1) f'') × (G .numbers ≡ F .numbers ++ m ∷ [])
   far-more h o e m f'' C0 =
       let N = coming h in
       let c = callAt b (offsetOf b i) in
-      let C : Called edition1 f' c m f'' = rw e at C0 in
-      let w = called-stands edition1 f' c m f'' (F .good .st) (F .good .stands) C in (
+      let C : Called E f' c m f'' = rw e at C0 in
+      let w = called-stands E f' c m f'' (F .good .st) (F .good .stands) C in (
         record {
           before = F .before ++ c ∷ [];
           rest = N .calls;
@@ -180,44 +180,44 @@ module _ {f b : List ℕ} {i : ℕ} {f' : List ℕ} (F : Far f b i f') where
           long = omega (arith, length-append (F .before) (c ∷ []), F .long);
           few = omega arith;
           numbers = F .numbers ++ m ∷ [];
-          made = made-more f (F .before) (F .numbers) f' c m f'' (F .made) C;
-          good = record { st = onCall edition1 (F .good .st) c .state; stands = w .1 };
+          made = made-more E f (F .before) (F .numbers) f' c m f'' (F .made) C;
+          good = record { lawful = F .good .lawful; st = onCall E (F .good .st) c .state; stands = w .1 };
         },
         refl,
       )
 
-  pub trial-more : Unrefused (F .numbers) → i < countIn b → (o : ℕ) → o ≡ offsetOf b i → (m : ℕ) (f'' : List ℕ) → Called edition1 f' (callAt b o) m f'' × (m < 256) → isRefusal m ≡ false
-      → (G : Far f b (i + 1) f'') × Unrefused (G .numbers)
+  pub trial-more : Unrefused (F .numbers) → i < countIn b → (o : ℕ) → o ≡ offsetOf b i → (m : ℕ) (f'' : List ℕ) → Called E f' (callAt b o) m f'' × (m < 256) → isRefusal m ≡ false
+      → (G : Far E f b (i + 1) f'') × Unrefused (G .numbers)
   trial-more U h o e m f'' D t = let G = far-more h o e m f'' (D .0) in (G .0, rw (G .1) (unrefused-more (F .numbers) m U t))
 
-  pub carry-more : (lent l l' : List ℕ) → l ≡ told (F .numbers) lent → i < countIn b → (o : ℕ) → o ≡ offsetOf b i → (m : ℕ) (f'' : List ℕ) → Called edition1 f' (callAt b o) m f'' × (m < 256) → ToldAt l i m l'
-      → (G : Far f b (i + 1) f'') × (l' ≡ told (G .numbers) lent)
+  pub carry-more : (lent l l' : List ℕ) → l ≡ told (F .numbers) lent → i < countIn b → (o : ℕ) → o ≡ offsetOf b i → (m : ℕ) (f'' : List ℕ) → Called E f' (callAt b o) m f'' × (m < 256) → ToldAt l i m l'
+      → (G : Far E f b (i + 1) f'') × (l' ≡ told (G .numbers) lent)
   carry-more lent l l' e0 h o e m f'' D T = let G = far-more h o e m f'' (D .0) in (G .0, rw (G .1) (one-told (F .numbers) lent l l' m i e0 far-long T))
 
   -- ---- the end
 
-  pub far-end : i ≡ countIn b → All f b (F .numbers) f'
+  pub far-end : i ≡ countIn b → All E f b (F .numbers) f'
   far-end e =
       let z : countIn b - i ≡ 0 = omega arith in
       let l : some [] ≡ some (F .rest) = rw z at (F .left) in
       let r : F .rest ≡ [] = sym (some-same l) in
       record { calls = F .before; whole = F .split ∙ ap some (ap (λ (x : List Call). F .before ++ x) r ∙ append-nil (F .before)); made = F .made }
 
-  pub carry-end : (lent l : List ℕ) → i ≡ countIn b → l ≡ told (F .numbers) lent → CarriedOut f b lent f' l
+  pub carry-end : (lent l : List ℕ) → i ≡ countIn b → l ≡ told (F .numbers) lent → CarriedOut E f b lent f' l
   carry-end lent l e q = record { numbers = F .numbers; all = far-end e; tells = q }
 
-  pub tried-through : Unrefused (F .numbers) → i ≡ countIn b → Tried f b (record { number = 0; place = 0 }) f'
+  pub tried-through : Unrefused (F .numbers) → i ≡ countIn b → Tried E f b (record { number = 0; place = 0 }) f'
   tried-through U e = record { bounded = (omega arith, omega arith); through = λ z. (refl, (F .numbers, far-end e, U)); halted = λ z. absurd (z refl) }
 
   -- ---- the first that is refused
 
-  pub tried-halted : Unrefused (F .numbers) → i < countIn b → i < 4294967295 → (o : ℕ) → o ≡ offsetOf b i → (m : ℕ) (f'' : List ℕ) → Called edition1 f' (callAt b o) m f'' × (m < 256) → isRefusal m ≡ true
-      → Tried f b (record { number = m; place = i + 1 }) f''
+  pub tried-halted : Unrefused (F .numbers) → i < countIn b → i < 4294967295 → (o : ℕ) → o ≡ offsetOf b i → (m : ℕ) (f'' : List ℕ) → Called E f' (callAt b o) m f'' × (m < 256) → isRefusal m ≡ true
+      → Tried E f b (record { number = m; place = i + 1 }) f''
   tried-halted U h small o e m f'' D t =
       let N = coming h in
       let c = callAt b (offsetOf b i) in
-      let C : Called edition1 f' c m f'' = rw e at (D .0) in
-      let k = kept-by f' c m f'' C t in
+      let C : Called E f' c m f'' = rw e at (D .0) in
+      let k = kept-by E f' c m f'' C t in
       record {
         bounded = (D .1, omega arith);
         through = λ z. absurd (omega arith);

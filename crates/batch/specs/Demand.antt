@@ -7,7 +7,7 @@ use mathlib.Core.Logic.{_≢_}
 use mathlib.Core.List.{List, [], _∷_}
 use mathlib.Core.Option.{none}
 use lib.ListN.{length}
-use Rattle.model.specs.Edition.{edition1}
+use Rattle.model.specs.Edition.{Edition}
 use Rattle.demands.specs.Words.{Refusal, Ground, FirstOf, wrongLength, notGood}
 use Rattle.batch.specs.Layout.{changesOf}
 use Rattle.batch.specs.Batch.{BatchPromise}
@@ -20,6 +20,6 @@ secondLength f g = record { number = 7; applies = length g ≢ length f }
 abbrev pub notLaid : List ℕ → Ground
 notLaid b = record { number = 12; applies = changesOf b ≡ none }
 
-pub record BatchDemand1 : Type 0 where
-  pub batch : (f g b lent : List ℕ) (n at : ℕ) (f' g' lent' : List ℕ) → BatchPromise edition1 f g b lent n at f' g' lent'
-      → FirstOf (wrongLength f ∷ notGood f ∷ secondLength f g ∷ notLaid b ∷ []) (0 ∷ 3 ∷ 4 ∷ 5 ∷ 6 ∷ []) n × (Refusal n → (f' ≡ f) × (lent' ≡ lent))
+pub record BatchDemand1 (E : Edition) : Type 0 where
+  pub batch : (f g b lent : List ℕ) (n at : ℕ) (f' g' lent' : List ℕ) → BatchPromise E f g b lent n at f' g' lent'
+      → FirstOf (wrongLength f ∷ notGood E f ∷ secondLength f g ∷ notLaid b ∷ []) (0 ∷ 3 ∷ 4 ∷ 5 ∷ 6 ∷ []) n × (Refusal n → (f' ≡ f) × (lent' ≡ lent))

@@ -3,7 +3,7 @@ use Prim.Native.Nat.{ℕ}
 use mathlib.Core.List.{List}
 use lib.Dec.{eqb}
 use Rattle.model.specs.Strings.{pick}
-use Rattle.model.specs.Edition.{edition1, Value, valueFault}
+use Rattle.model.specs.Edition.{Edition, Value, valueFault}
 
-abbrev pub faultOf : List ℕ → Value → ℕ
-faultOf k v = pick (eqb (edition1 .keyFault k) 0) (valueFault v) (edition1 .keyFault k)
+abbrev pub faultOf : Edition → List ℕ → Value → ℕ
+faultOf E k v = pick (eqb (E .keyFault k) 0) (valueFault v) (E .keyFault k)

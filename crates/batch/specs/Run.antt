@@ -5,7 +5,7 @@ use mathlib.Core.List.{List, _++_}
 use mathlib.Core.Bool.{true}
 use mathlib.Core.Option.{some}
 use lib.ListN.{length, set}
-use Rattle.model.specs.Edition.{edition1}
+use Rattle.model.specs.Edition.{Edition}
 use Rattle.model.specs.Order.{isRefusal}
 use Rattle.model.specs.Call.{Call}
 use Rattle.descent.specs.Spot.{Standing}
@@ -21,12 +21,12 @@ pub record At (b : List ℕ) (o : ℕ) : Type 0 where
   pub ends : endOf b o ≤ length b
 
 -- a good frame, and a batch
-pub record Ready (f b : List ℕ) : Type 0 where
-  pub good : Standing f
+pub record Ready (E : Edition) (f b : List ℕ) : Type 0 where
+  pub good : Standing E f
   pub whole : laid (changesOf b) ≡ true
 
 -- from f the first i changes are made, which gave these numbers and left f'
-pub record Far (f b : List ℕ) (i : ℕ) (f' : List ℕ) : Type 0 where
+pub record Far (E : Edition) (f b : List ℕ) (i : ℕ) (f' : List ℕ) : Type 0 where
   pub before : List Call
   pub rest : List Call
   pub low : ℕ
@@ -35,14 +35,14 @@ pub record Far (f b : List ℕ) (i : ℕ) (f' : List ℕ) : Type 0 where
   pub long : length before ≡ i
   pub few : i ≤ countIn b
   pub numbers : List ℕ
-  pub made : Made edition1 f before numbers f'
-  pub good : Standing f'
+  pub made : Made E f before numbers f'
+  pub good : Standing E f'
 
 -- all changes are made
-pub record All (f b : List ℕ) (numbers f' : List ℕ) : Type 0 where
+pub record All (E : Edition) (f b : List ℕ) (numbers f' : List ℕ) : Type 0 where
   pub calls : List Call
   pub whole : changesOf b ≡ some calls
-  pub made : Made edition1 f calls numbers f'
+  pub made : Made E f calls numbers f'
 
 -- the answer n to change i is told, if there is room
 pub record ToldAt (lent : List ℕ) (i n : ℕ) (lent' : List ℕ) : Type 0 where
@@ -50,13 +50,13 @@ pub record ToldAt (lent : List ℕ) (i n : ℕ) (lent' : List ℕ) : Type 0 wher
   pub past : length lent ≤ i → lent' ≡ lent
 
 -- all changes were made, and their answers told
-pub record CarriedOut (f b lent f' lent' : List ℕ) : Type 0 where
+pub record CarriedOut (E : Edition) (f b lent f' lent' : List ℕ) : Type 0 where
   pub numbers : List ℕ
-  pub all : All f b numbers f'
+  pub all : All E f b numbers f'
   pub tells : lent' ≡ told numbers lent
 
 -- all changes were made and none refused, or one was, the first such
-pub record Tried (f b : List ℕ) (r : Ended) (f' : List ℕ) : Type 0 where
+pub record Tried (E : Edition) (f b : List ℕ) (r : Ended) (f' : List ℕ) : Type 0 where
   pub bounded : (r .number < 256) × (r .place ≤ 4294967295)
-  pub through : r .place ≡ 0 → (r .number ≡ 0) × ((numbers : List ℕ) × All f b numbers f' × Unrefused numbers)
-  pub halted : (r .place ≡ 0 → ⊥) → (isRefusal (r .number) ≡ true) × ((cs : List Call) (lent : List ℕ) → changesOf b ≡ some cs → Stopped edition1 f cs lent (r .number) (r .place) f f' lent)
+  pub through : r .place ≡ 0 → (r .number ≡ 0) × ((numbers : List ℕ) × All E f b numbers f' × Unrefused numbers)
+  pub halted : (r .place ≡ 0 → ⊥) → (isRefusal (r .number) ≡ true) × ((cs : List Call) (lent : List ℕ) → changesOf b ≡ some cs → Stopped E f cs lent (r .number) (r .place) f f' lent)

@@ -1,10 +1,9 @@
 // One change on a good frame: what the single call gives and leaves, without its check.
 use crate::laid;
 use answers;
-use descent::key;
 ghost use Prim.Native.Nat.{_<_};
 ghost use mathlib.Core.Path.{_≡_};
-ghost use Rattle.model.specs.Edition.{edition1};
+ghost use Rattle.model.specs.Edition.{editionOf};
 ghost use Rattle.model.specs.Promise.{PutPromise, ReplacePromise, ErasePromise};
 ghost use Rattle.model.specs.Call.{Called};
 ghost use Rattle.descent.specs.Spot.{Standing};
@@ -18,10 +17,10 @@ const LONGEST_VALUE: usize = 65535;
 const LONG_VALUE: usize = 5;
 
 // The refusal that a key and a value get, and 0 if both are legal.
-fn fault(key: &[u8], value: &[u8]) -> usize
-    ensures { λ r. ⌜ r ≡ faultOf (now (key .entry)) (now (value .entry)) ⌝ }
+fn fault(key: &[u8], value: &[u8], edition: usize) -> usize
+    ensures { λ r. ⌜ r ≡ faultOf (editionOf edition) (now (key .entry)) (now (value .entry)) ⌝ }
 {
-    let e = key::fault(key);
+    let e = keys::fault(key, edition);
     if e != 0 {
         return e;
     }
@@ -31,53 +30,53 @@ fn fault(key: &[u8], value: &[u8]) -> usize
     0
 }
 
-fn put(f: &mut [u8], key: &[u8], value: &[u8]) -> usize
-    requires { ⌜ Standing (now f) ⌝ }
-    ensures { λ n. ⌜ PutPromise edition1 (now (f .entry)) (now (key .entry)) (now (value .entry)) n (now (f .exit)) × (n < 256) ⌝ }
+fn put(f: &mut [u8], key: &[u8], value: &[u8], edition: usize) -> usize
+    requires { ⌜ Standing (editionOf edition) (now f) ⌝ }
+    ensures { λ n. ⌜ PutPromise (editionOf edition) (now (f .entry)) (now (key .entry)) (now (value .entry)) n (now (f .exit)) × (n < 256) ⌝ }
 {
-    let e = fault(key, value);
+    let e = fault(key, value, edition);
     if e != 0 {
         return e;
     }
-    answers::put_number(put_core::put_new(f, key, value)) as usize
+    answers::put_number(put_core::put_new(f, key, value, edition)) as usize
 }
 
-fn replace(f: &mut [u8], key: &[u8], value: &[u8]) -> usize
-    requires { ⌜ Standing (now f) ⌝ }
-    ensures { λ n. ⌜ ReplacePromise edition1 (now (f .entry)) (now (key .entry)) (now (value .entry)) n (now (f .exit)) × (n < 256) ⌝ }
+fn replace(f: &mut [u8], key: &[u8], value: &[u8], edition: usize) -> usize
+    requires { ⌜ Standing (editionOf edition) (now f) ⌝ }
+    ensures { λ n. ⌜ ReplacePromise (editionOf edition) (now (f .entry)) (now (key .entry)) (now (value .entry)) n (now (f .exit)) × (n < 256) ⌝ }
 {
-    let e = fault(key, value);
+    let e = fault(key, value, edition);
     if e != 0 {
         return e;
     }
-    answers::replace_number(put_core::replace(f, key, value)) as usize
+    answers::replace_number(put_core::replace(f, key, value, edition)) as usize
 }
 
-fn erase(f: &mut [u8], key: &[u8]) -> usize
-    requires { ⌜ Standing (now f) ⌝ }
-    ensures { λ n. ⌜ ErasePromise edition1 (now (f .entry)) (now (key .entry)) n (now (f .exit)) × (n < 256) ⌝ }
+fn erase(f: &mut [u8], key: &[u8], edition: usize) -> usize
+    requires { ⌜ Standing (editionOf edition) (now f) ⌝ }
+    ensures { λ n. ⌜ ErasePromise (editionOf edition) (now (f .entry)) (now (key .entry)) n (now (f .exit)) × (n < 256) ⌝ }
 {
-    let e = key::fault(key);
+    let e = keys::fault(key, edition);
     if e != 0 {
         return e;
     }
-    answers::erase_number(erase_core::erase(f, key)) as usize
+    answers::erase_number(erase_core::erase(f, key, edition)) as usize
 }
 
 // The change at o of a batch.
-pub fn change(f: &mut [u8], b: &[u8], o: usize) -> usize
-    requires { ⌜ Standing (now f) × At (now b) o ⌝ }
-    ensures { λ n. ⌜ Called edition1 (now (f .entry)) (callAt (now (b .entry)) o) n (now (f .exit)) × (n < 256) ⌝ }
+pub fn change(f: &mut [u8], b: &[u8], o: usize, edition: usize) -> usize
+    requires { ⌜ Standing (editionOf edition) (now f) × At (now b) o ⌝ }
+    ensures { λ n. ⌜ Called (editionOf edition) (now (f .entry)) (callAt (now (b .entry)) o) n (now (f .exit)) × (n < 256) ⌝ }
 {
     let kind = laid::kind(b, o);
     let from = o + laid::AT_KEY;
     let to = from + laid::key_length(b, o);
     let end = to + laid::value_length(b, o);
     if kind == laid::PUT {
-        return put(f, &b[from..to], &b[to..end]);
+        return put(f, &b[from..to], &b[to..end], edition);
     }
     if kind == laid::REPLACEMENT {
-        return replace(f, &b[from..to], &b[to..end]);
+        return replace(f, &b[from..to], &b[to..end], edition);
     }
-    erase(f, &b[from..to])
+    erase(f, &b[from..to], edition)
 }

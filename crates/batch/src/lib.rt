@@ -6,7 +6,7 @@ mod run;
 use moves::fill;
 use run::Ended;
 ghost use Prim.Native.Nat.{_<_, _≤_};
-ghost use Rattle.model.specs.Edition.{edition1};
+ghost use Rattle.model.specs.Edition.{editionOf};
 ghost use Rattle.batch.specs.Batch.{BatchPromise};
 
 // 7: the second frame has another length
@@ -15,10 +15,16 @@ const OTHER_LENGTH: usize = 7;
 // 12: the bytes are no batch
 const NOT_LAID: usize = 12;
 
-pub fn apply(frame: &mut [u8], second: &mut [u8], batch: &[u8], answers: &mut [u8]) -> Ended
-    ensures { λ r. ⌜ BatchPromise edition1 (now (frame .entry)) (now (second .entry)) (now (batch .entry)) (now (answers .entry)) (r .number) (r .place) (now (frame .exit)) (now (second .exit)) (now (answers .exit)) × (r .number < 256) × (r .place ≤ 4294967295) ⌝ }
+pub fn apply(
+    frame: &mut [u8],
+    second: &mut [u8],
+    batch: &[u8],
+    answers: &mut [u8],
+    edition: usize,
+) -> Ended
+    ensures { λ r. ⌜ BatchPromise (editionOf edition) (now (frame .entry)) (now (second .entry)) (now (batch .entry)) (now (answers .entry)) (r .number) (r .place) (now (frame .exit)) (now (second .exit)) (now (answers .exit)) × (r .number < 256) × (r .place ≤ 4294967295) ⌝ }
 {
-    let n = audit::check(frame);
+    let n = audit::check(frame, edition);
     if n != audit::GOOD {
         return Ended {
             number: n,
@@ -38,11 +44,11 @@ pub fn apply(frame: &mut [u8], second: &mut [u8], batch: &[u8], answers: &mut [u
         };
     }
     fill::paste(second, 0, frame);
-    let end = run::trial(second, batch);
+    let end = run::trial(second, batch, edition);
     if end.place != 0 {
         return end;
     }
-    run::carry_out(frame, batch, answers);
+    run::carry_out(frame, batch, answers, edition);
     fill::paste(second, 0, frame);
     end
 }

@@ -3,6 +3,7 @@ use crate::change;
 use crate::laid;
 ghost use mathlib.Core.Path.{_≡_};
 ghost use Prim.Native.Nat.{_<_};
+ghost use Rattle.model.specs.Edition.{editionOf};
 ghost use Rattle.model.specs.Order.{isRefusal};
 ghost use Rattle.batch.specs.Run.{Ready, Tried, ToldAt, CarriedOut};
 
@@ -37,15 +38,15 @@ fn is_refusal(n: usize) -> bool
     n != PRESENT
 }
 
-pub fn trial(f: &mut [u8], b: &[u8]) -> Ended
-    requires { ⌜ Ready (now f) (now b) ⌝ }
-    ensures { λ r. ⌜ Tried (now (f .entry)) (now (b .entry)) r (now (f .exit)) ⌝ }
+pub fn trial(f: &mut [u8], b: &[u8], edition: usize) -> Ended
+    requires { ⌜ Ready (editionOf edition) (now f) (now b) ⌝ }
+    ensures { λ r. ⌜ Tried (editionOf edition) (now (f .entry)) (now (b .entry)) r (now (f .exit)) ⌝ }
 {
     let n = laid::count(b);
     let mut i = 0;
     while i < n {
         let o = laid::offset(b, i);
-        let m = change::change(f, b, o);
+        let m = change::change(f, b, o, edition);
         if is_refusal(m) {
             return Ended {
                 number: m,
@@ -70,15 +71,15 @@ fn tell(answers: &mut [u8], i: usize, n: usize)
     }
 }
 
-pub fn carry_out(f: &mut [u8], b: &[u8], answers: &mut [u8])
-    requires { ⌜ Ready (now f) (now b) ⌝ }
-    ensures { λ _. ⌜ CarriedOut (now (f .entry)) (now (b .entry)) (now (answers .entry)) (now (f .exit)) (now (answers .exit)) ⌝ }
+pub fn carry_out(f: &mut [u8], b: &[u8], answers: &mut [u8], edition: usize)
+    requires { ⌜ Ready (editionOf edition) (now f) (now b) ⌝ }
+    ensures { λ _. ⌜ CarriedOut (editionOf edition) (now (f .entry)) (now (b .entry)) (now (answers .entry)) (now (f .exit)) (now (answers .exit)) ⌝ }
 {
     let n = laid::count(b);
     let mut i = 0;
     while i < n {
         let o = laid::offset(b, i);
-        let m = change::change(f, b, o);
+        let m = change::change(f, b, o, edition);
         tell(answers, i, m);
         i += 1;
     }

@@ -13,24 +13,24 @@ use Rattle.layout.proofs.NumberLaws.{le-same, le-put, length-put, bytes-put, ge
 use Rattle.layout.proofs.EntryLaws.{entry-lt}
 use Rattle.fields.specs.Header.{headerOf, putHeader, HeaderFits}
 use Rattle.fields.specs.declared.header.Header.{Header}
-use Rattle.fields.proofs.HeaderLaws.{header-put, edition-put, length-putHeader, byte-putHeader}
+use Rattle.fields.proofs.HeaderLaws.{header-put, length-putHeader, byte-putHeader}
 use Rattle.moves.specs.Moved.{Cleared}
-use Rattle.model.specs.Edition.{edition1}
+use Rattle.model.specs.Edition.{Edition}
 use Rattle.model.specs.Image.{image}
-use Rattle.model.proofs.Edition1.{lawful1}
 use Rattle.model.proofs.FormatLaws.{Fields, Formatted, format-image}
 use Rattle.blank.specs.Limits.{Limits}
 use mathlib.Core.Logic.{inl, inr}
 
 -- the header that format writes
-abbrev pub freshHeader : ℕ → ℕ → Header
-freshHeader f n = record { «frame_length» = f; «slot_capacity» = n; «data_start» = dataStart n; «next_byte» = dataStart n + 8; «slots_given» = 1; «records» = 0; «dead_bytes» = 0; root = 1 }
+abbrev pub freshHeader : ℕ → ℕ → ℕ → Header
+freshHeader e f n = record { edition = e; «frame_length» = f; «slot_capacity» = n; «data_start» = dataStart n; «next_byte» = dataStart n + 8; «slots_given» = 1; «records» = 0; «dead_bytes» = 0; root = 1 }
 
 -- small enough for every field
-fits : (f n : ℕ) → Limits f n → HeaderFits (freshHeader f n)
-fits f n L =
+fits : (e f n : ℕ) → e < 4294967296 → Limits f n → HeaderFits (freshHeader e f n)
+fits e f n h L =
     let a = L .long in let b = L .slots in
     record {
+      edition = h;
       frame-length = omega arith;
       slot-capacity = omega arith;
       data-start = omega arith;
@@ -42,9 +42,9 @@ fits f n L =
     }
 
 -- the frame is zeroed, the header written, and slot 1's entry
-module _ (f g : List ℕ) (n : ℕ) (L : Limits (length f) n) (C : Cleared f g 0 (length f)) where
+module _ (E : Edition) (small : E .number < 4294967296) (f g : List ℕ) (n : ℕ) (L : Limits (length f) n) (C : Cleared f g 0 (length f)) where
   abbrev pub headed : List ℕ
-  headed = putHeader g (freshHeader (length f) n)
+  headed = putHeader g (freshHeader (E .number) (length f) n)
 
   abbrev pub laid : List ℕ
   laid = put 4 headed (entryAt 1) (entryOf EmptyRoot (dataStart n))
@@ -58,15 +58,15 @@ module _ (f g : List ℕ) (n : ℕ) (L : Limits (length f) n) (C : Cleared f g 0
     | no p ↦ List·getD-eq-default g 0 (omega (arith, long))
   ]
 
-  is-header : headerOf headed ≡ freshHeader (length f) n
-  is-header = let a = L .long in header-put g (freshHeader (length f) n) (omega (arith, long)) (fits (length f) n L)
+  is-header : headerOf headed ≡ freshHeader (E .number) (length f) n
+  is-header = let a = L .long in header-put g (freshHeader (E .number) (length f) n) (omega (arith, long)) (fits (E .number) (length f) n small L)
 
-  fields : Fields edition1 (length f) n (dataStart n + 8) 1 0 headed
+  fields : Fields E (length f) n (dataStart n + 8) 1 0 headed
   unfolding headerOf
   fields =
       let e = is-header in let a = L .long in
       record {
-        edition = edition-put g (freshHeader (length f) n) (omega (arith, long));
+        edition = ap (λ (x : Header). x .edition) e;
         stored = ap (λ (x : Header). x .«frame_length») e;
         slotsAt = ap (λ (x : Header). x .«slot_capacity») e;
         dataAt = ap (λ (x : Header). x .«data_start») e;
@@ -75,7 +75,7 @@ module _ (f g : List ℕ) (n : ℕ) (L : Limits (length f) n) (C : Cleared f g 0
         recordsAt = ap (λ (x : Header). x .records) e;
         deadAt = ap (λ (x : Header). x .«dead_bytes») e;
         rootAt = ap (λ (x : Header). x .root) e;
-        zeros = λ a p q. byte-putHeader g (freshHeader (length f) n) a (omega arith) ∙ zero a;
+        zeros = λ a p q. byte-putHeader g (freshHeader (E .number) (length f) n) a (omega arith) ∙ zero a;
       }
 
   -- the entry lies behind the header
@@ -86,16 +86,16 @@ module _ (f g : List ℕ) (n : ℕ) (L : Limits (length f) n) (C : Cleared f g 0
   field w o l = le-same w laid headed o (λ a p q. same a (omega arith))
 
   long-laid : length laid ≡ length f
-  long-laid = length-put 4 headed 64 (entryOf EmptyRoot (dataStart n)) ∙ length-putHeader g (freshHeader (length f) n) ∙ long
+  long-laid = length-put 4 headed 64 (entryOf EmptyRoot (dataStart n)) ∙ length-putHeader g (freshHeader (E .number) (length f) n) ∙ long
 
   bytes : Bytes laid
   unfolding putHeader
   bytes =
       let z : Bytes g = λ a. (let e = zero a in omega arith) in
       bytes-put 4 headed 64 (entryOf EmptyRoot (dataStart n))
-      (bytes-put 2 _ 32 _ (bytes-put 4 _ 28 _ (bytes-put 4 _ 24 _ (bytes-put 4 _ 20 _ (bytes-put 4 _ 16 _ (bytes-put 4 _ 12 _ (bytes-put 4 _ 8 _ (bytes-put 4 _ 4 _ (bytes-put 4 g 0 1 z)))))))))
+      (bytes-put 2 _ 32 _ (bytes-put 4 _ 28 _ (bytes-put 4 _ 24 _ (bytes-put 4 _ 20 _ (bytes-put 4 _ 16 _ (bytes-put 4 _ 12 _ (bytes-put 4 _ 8 _ (bytes-put 4 _ 4 _ (bytes-put 4 g 0 (E .number) z)))))))))
 
-  is-formatted : Formatted edition1 laid n
+  is-formatted : Formatted E laid n
   is-formatted =
       let p = fields in let a = L .long in let b = L .slots in
       record {
@@ -111,10 +111,10 @@ module _ (f g : List ℕ) (n : ℕ) (L : Limits (length f) n) (C : Cleared f g 0
           rootAt = field 2 32 (omega arith) ∙ p .rootAt;
           zeros = λ c x y. same c y ∙ p .zeros c x y;
         };
-        entry = le-put 4 headed 64 (entryOf EmptyRoot (dataStart n)) (omega (arith, length-putHeader g (freshHeader (length f) n), long)) (entry-lt 8 (dataStart n) (omega arith) (omega arith));
-        rest = λ c x. getD-put-off 4 headed 64 (entryOf EmptyRoot (dataStart n)) c (inr (omega arith)) ∙ byte-putHeader g (freshHeader (length f) n) c (omega arith) ∙ zero c;
+        entry = le-put 4 headed 64 (entryOf EmptyRoot (dataStart n)) (omega (arith, length-putHeader g (freshHeader (E .number) (length f) n), long)) (entry-lt 8 (dataStart n) (omega arith) (omega arith));
+        rest = λ c x. getD-put-off 4 headed 64 (entryOf EmptyRoot (dataStart n)) c (inr (omega arith)) ∙ byte-putHeader g (freshHeader (E .number) (length f) n) c (omega arith) ∙ zero c;
       }
 
-  pub laid-out : laid ≡ image edition1 (length f) n []
+  pub laid-out : laid ≡ image E (length f) n []
   laid-out =
-      rw long-laid at (format-image edition1 laid n (lawful1 .fields .number) bytes (rw long-laid (L .long)) (L .slots) (rw long-laid (L .room)) is-formatted)
+      rw long-laid at (format-image E laid n small bytes (rw long-laid (L .long)) (L .slots) (rw long-laid (L .room)) is-formatted)

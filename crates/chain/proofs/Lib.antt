@@ -3,5 +3,8 @@ pub mod TakeLaws
 pub mod FreeLaws
 pub mod ReadLaws
 pub mod RunLaws
+pub mod LongLaws
 pub mod FillLaws
 pub mod PushLaws
+pub mod DownLaws
+pub mod AlongLaws

@@ -12,35 +12,22 @@ use Rattle.layout.specs.Kind.{Prefix}
 use Rattle.layout.specs.Number.{le}
 use Rattle.layout.specs.Entry.{placeOf, highOf}
 use Rattle.model.specs.Edition.{Edition}
-use Rattle.model.specs.Tree.{Art}
-use Rattle.model.specs.Item.{Item, body, sum}
+use Rattle.model.specs.Item.{Item, body}
 use Rattle.model.specs.Body.{Text, PrefixAt}
-use Rattle.model.specs.Frame.{Lay, slotOf, Below, atop, art, items, View}
+use Rattle.model.specs.Frame.{Lay, slotOf, Below, View}
 use Rattle.model.specs.Frame.Lay.{leaf, prefix, node}
 use Rattle.moves.specs.Pasted.{Pasted}
 use Rattle.room.proofs.HeapLaws.{lies}
 use Rattle.between.specs.Hole.{Step}
 use Rattle.between.specs.Work.{Work}
-use Rattle.between.proofs.TreeLaws.{sum-none, prefix-sum}
-use Rattle.model.proofs.ItemLaws.{sum-cons}
 use Rattle.between.proofs.WorkLaws.{entries-first, first-owns, work-path, open-leaf, open-prefix, open-node}
-use Rattle.chain.specs.Row.{rowItems, Named, runLong, runMany, over, Opened, RowRead, Reads}
+use Rattle.chain.specs.Row.{rowItems, Named, unwound, bodiesOf, bytesOf, tipOf, runLong, runMany, Opened, RowRead, Reads}
 use Rattle.chain.proofs.TakeLaws.{named-push}
 
 -- ---- strings
 
-atop-atop : (p u : List ℕ) (a : Art) → atop p (atop u a) ≡ atop (p ++ u) a
-atop-atop p u (Art.leaf k v) = refl
-atop-atop p u (Art.prefix q a) = ap (λ x. Art.prefix x a) (sym (append-assoc p u q))
-atop-atop p u (Art.node kind ks) = refl
-
-over-atop : (p u : List ℕ) (a : Art) → 1 ≤ length u → over p (atop u a) ≡ over (p ++ u) a
-over-atop [] [] a l = absurd (omega arith)
-over-atop [] (y ∷ u) a l = refl
-over-atop (x ∷ p) u a l = atop-atop (x ∷ p) u a
-
 -- bytes of a frame follow n others
-text-step : (b b' f p : List ℕ) (n m at : ℕ) → Pasted b b' n (length (take m (drop at f))) (take m (drop at f)) → Text f at p → m ≡ length p → n + m ≤ length b → at + m ≤ length f → take (n + m) b' ≡ take n b ++ p
+pub text-step : (b b' f p : List ℕ) (n m at : ℕ) → Pasted b b' n (length (take m (drop at f))) (take m (drop at f)) → Text f at p → m ≡ length p → n + m ≤ length b → at + m ≤ length f → take (n + m) b' ≡ take n b ++ p
 text-step b b' f p n m at G T em room fits =
     let lp : length (take m (drop at f)) ≡ m = length-take-le m (drop at f) (omega (arith, length-drop at f)) in
     let size = G .only .size in
@@ -112,8 +99,9 @@ opened-start {path = path} {t = t} bytes long W N =
       bodies = omega arith;
       full = λ z. refl;
       chained = refl;
-      artIs = refl;
-      sums = λ w. omega (arith, sum-none w);
+      run = refl;
+      string = refl;
+      tips = refl;
     }
 
 module _ {E : Edition} {f : List ℕ} {h : View} {xs : List Step} {s : ℕ} {path : List ℕ} {t : Lay} {ts : List (List ℕ × Lay)} {rs : List (ℕ × ℕ)} {loose : List Item} {row bytes bytes' : List ℕ} {long count n r : ℕ}
@@ -181,8 +169,9 @@ module _ {E : Edition} {f : List ℕ} {h : View} {xs : List Step} {s : ℕ} {pat
         bodies = omega (arith, R .bodies, ap runMany tip-is);
         full = λ z. omega (arith, R .full has, below-full u l (opens .2) z, length-append (R .p) u);
         chained = omega (arith, R .full has, length-append (R .p) u);
-        artIs = R .artIs ∙ ap (λ y. over (R .p) (art y)) tip-is ∙ over-atop (R .p) u (art l) some;
-        sums = λ w. omega (arith, R .sums w, ap (λ y. sum w (items y)) tip-is, prefix-sum w r (P .o) u l, sum-cons w (body r Prefix (P .o)) (rowItems (R .more) []));
+        run = ap (λ y. unwound (R .more) (bodiesOf y)) (sym tip-is) ∙ R .run;
+        string = append-assoc (R .p) u (bytesOf l) ∙ ap (λ y. R .p ++ bytesOf y) (sym tip-is) ∙ R .string;
+        tips = ap tipOf (sym tip-is) ∙ R .tips;
       }
 
 pub read-start : (f row bytes : List ℕ) (slot have long : ℕ) → RowRead f row row bytes bytes slot have long have long slot

@@ -31,7 +31,7 @@ use Rattle.between.proofs.TreeLaws.{sum-none, prefix-sum}
 use Rattle.between.proofs.ChangeLaws.{changed-none, changed-then, changed-only}
 use Rattle.between.proofs.WorkLaws.{work-path, work-write, make-prefix, entries-first, first-owns}
 use Rattle.prefix_body.specs.Prefix.{PrefixWritten}
-use Rattle.chain.specs.Row.{rowItems, Named, Ready, Raised, RowWritten, Writes}
+use Rattle.chain.specs.Row.{rowItems, unwound, bodiesOf, bytesOf, Named, Ready, Raised, RowWritten, Writes}
 
 -- ---- strings
 
@@ -77,6 +77,9 @@ raised-start {E} {f} {h} {xs} {s} {path} {p} {t} {ts} {all} {loose} {row} {c} R 
       slotIn = λ z. let e = R .slot in (omega arith, omega arith);
       hangs = λ q l. R .node q;
       artIs = rw (drop-length p) refl;
+      run = refl;
+      string = rw (drop-length p) refl;
+      tip = refl;
       sums = λ w. omega arith;
       within = λ w. omega arith;
       stands = λ w. omega (arith, ap (λ x. count w (marks (path ++ x) t)) (take-length p));
@@ -149,6 +152,9 @@ module _ {E : Edition} {f0 f : List ℕ} {h : View} {xs : List Step} {s : ℕ} {
           slotIn = λ z. (seat .0, seat .3);
           hangs = λ q l. l (omega arith);
           artIs = ap (atop piece) (R .artIs) ∙ atop-as piece (drop to p) (art t) inner ∙ sym (as-some (piece ++ drop to p) (art t) (omega (arith, length-append piece (drop to p)))) ∙ ap (λ x. asPrefix x (art t)) rest;
+          run = ap (λ (l : List (ℕ × ℕ)). unwound l (bodiesOf (R .lay))) (sym (top .is)) ∙ R .run;
+          string = ap (λ x. piece ++ x) (R .string) ∙ sym (append-assoc piece (drop to p) (bytesOf t)) ∙ ap (λ x. x ++ bytesOf t) rest;
+          tip = R .tip;
           sums = λ w. omega (arith, R .sums w, prefix-sum w n o piece (R .lay), ap (λ l. sum w (rowItems l [])) (top .is), row-sum w (top .x) (top .rs));
           within = λ w. omega (arith, R .within w, ap (λ l. sum w (rowItems l [])) (top .is), row-sum w (top .x) (top .rs));
           stands = λ w. omega (arith, R .stands w, prefix-marks w (path ++ take from p) n o piece (R .lay), ap (λ x. count w (marks x (R .lay))) ep);

@@ -5,9 +5,9 @@ use mathlib.Core.List.{List, [], _∷_, _++_}
 use lib.ListN.{length, getD, take, drop}
 use Rattle.layout.specs.Kind.{Prefix}
 use Rattle.model.specs.Edition.{Edition}
-use Rattle.model.specs.Tree.{Art, chain, prefixes, asPrefix}
+use Rattle.model.specs.Tree.{chain, prefixes, asPrefix}
 use Rattle.model.specs.Item.{Item, body, cover, sum}
-use Rattle.model.specs.Frame.{Lay, slotOf, Below, atop, art, items, View}
+use Rattle.model.specs.Frame.{Lay, slotOf, Below, art, items, View}
 use Rattle.model.specs.Frame.Lay.{leaf, prefix, node}
 use Rattle.model.specs.Mark.{Mark, marks, count}
 use Rattle.model.specs.Touch.{findLay}
@@ -28,6 +28,29 @@ rowItems (x ∷ rs) is = body (x .0) Prefix (x .1) ∷ rowItems rs is
 abbrev pub Named : List ℕ → List (ℕ × ℕ) → Type 0
 Named row [] = Unit {0}
 Named row (x ∷ rs) = (getD row (length rs) 0 ≡ x .0) × Named row rs
+
+-- those of a row go on top of others, the last of them first
+abbrev pub unwound : List (ℕ × ℕ) → List (ℕ × ℕ) → List (ℕ × ℕ)
+unwound [] left = left
+unwound (x ∷ gone) left = unwound gone (x ∷ left)
+
+-- ---- the run of Prefixes on top of a tree
+
+-- its bodies, slots and places from the top on; its bytes; and what stands below it
+abbrev pub bodiesOf : Lay → List (ℕ × ℕ)
+bodiesOf (leaf s o e k v) = []
+bodiesOf (prefix s o p l) = (s, o) ∷ bodiesOf l
+bodiesOf (node s o kind ks) = []
+
+abbrev pub bytesOf : Lay → List ℕ
+bytesOf (leaf s o e k v) = []
+bytesOf (prefix s o p l) = p ++ bytesOf l
+bytesOf (node s o kind ks) = []
+
+abbrev pub tipOf : Lay → Lay
+tipOf (leaf s o e k v) = leaf s o e k v
+tipOf (prefix s o p l) = tipOf l
+tipOf (node s o kind ks) = node s o kind ks
 
 -- ---- the chain
 
@@ -51,6 +74,10 @@ pub record Raised (E : Edition) (f g : List ℕ) (h : View) (xs : List Step) (s 
   -- what may stand above it: anything where no piece is written yet, else a full Prefix
   pub hangs : (q : List ℕ) → (to < length p → length q ≡ 112) → Below q lay
   pub artIs : art lay ≡ asPrefix (drop to p) (art t)
+  -- its run: the bodies that were written, and that of t
+  pub run : _≡_ {A = List (ℕ × ℕ)} (unwound left (bodiesOf lay)) (unwound all (bodiesOf t))
+  pub string : bytesOf lay ≡ drop to p ++ bytesOf t
+  pub tip : tipOf lay ≡ tipOf t
   pub sums : (w : Item → ℕ) → sum w (items lay) + sum w (rowItems left []) ≡ sum w (rowItems all []) + sum w (items t)
   pub within : (w : Item → ℕ) → sum w (rowItems left []) ≤ sum w (rowItems all [])
   -- the bodies of t stand where they stood
@@ -118,11 +145,6 @@ pub record Takes (f row : List ℕ) (have need : ℕ) : Type 0 where
 
 -- ---- the row is freed
 
--- those of gone go back on top of left, the last of them first
-abbrev pub unwound : List (ℕ × ℕ) → List (ℕ × ℕ) → List (ℕ × ℕ)
-unwound [] left = left
-unwound (x ∷ gone) left = unwound gone (x ∷ left)
-
 -- of the row rs i bodies are left, and the others were freed
 pub record Shrunk (E : Edition) (f g : List ℕ) (h : View) (xs : List Step) (s : ℕ) (ts : List (List ℕ × Lay)) (rs : List (ℕ × ℕ)) (loose : List Item) (row : List ℕ) (i : ℕ) : Type 0 where
   pub view : View
@@ -166,27 +188,6 @@ runMany (leaf s o e k v) = 0
 runMany (prefix s o p l) = runMany l + 1
 runMany (node s o kind ks) = 0
 
--- the run of Prefixes on top of a tree: its bodies, slots and places from the top on; its bytes; and what stands below it
-abbrev pub bodiesOf : Lay → List (ℕ × ℕ)
-bodiesOf (leaf s o e k v) = []
-bodiesOf (prefix s o p l) = (s, o) ∷ bodiesOf l
-bodiesOf (node s o kind ks) = []
-
-abbrev pub bytesOf : Lay → List ℕ
-bytesOf (leaf s o e k v) = []
-bytesOf (prefix s o p l) = p ++ bytesOf l
-bytesOf (node s o kind ks) = []
-
-abbrev pub tipOf : Lay → Lay
-tipOf (leaf s o e k v) = leaf s o e k v
-tipOf (prefix s o p l) = tipOf l
-tipOf (node s o kind ks) = node s o kind ks
-
--- a shared beginning above a tree, or nothing
-abbrev pub over : List ℕ → Art → Art
-over [] a = a
-over (x ∷ p) a = atop (x ∷ p) a
-
 -- of the tree t the bodies of its chain are loose, down to the tree of slot r; their bytes p follow the first `long` bytes
 pub record Opened (E : Edition) (f : List ℕ) (h : View) (xs : List Step) (s : ℕ) (path : List ℕ) (t : Lay) (ts : List (List ℕ × Lay)) (rs : List (ℕ × ℕ)) (loose : List Item) (row bytes bytes' : List ℕ) (long count n r : ℕ) : Type 0 where
   pub more : List (ℕ × ℕ)
@@ -202,8 +203,9 @@ pub record Opened (E : Edition) (f : List ℕ) (h : View) (xs : List Step) (s : 
   pub bodies : length more + runMany tip ≡ runMany t
   pub full : 1 ≤ runMany tip → length p ≡ 112 * length more
   pub chained : length more ≡ chain (length p)
-  pub artIs : art t ≡ over p (art tip)
-  pub sums : (w : Item → ℕ) → sum w (items t) ≡ sum w (rowItems more []) + sum w (items tip)
+  pub run : _≡_ {A = List (ℕ × ℕ)} (unwound more (bodiesOf tip)) (bodiesOf t)
+  pub string : p ++ bytesOf tip ≡ bytesOf t
+  pub tips : tipOf tip ≡ tipOf t
 
 abbrev pub RowRead : List ℕ → List ℕ → List ℕ → List ℕ → List ℕ → ℕ → ℕ → ℕ → ℕ → ℕ → ℕ → Type 0
 RowRead f row row' bytes bytes' slot have long count n r =

@@ -1,4 +1,4 @@
--- The run of Prefixes on top of a tree, changed where it stands: a Prefix above is filled up from it, or a byte joins in front.
+-- The run of Prefixes on top of a tree, changed where it stands: it is freed, a Prefix above is filled up from it, or a byte joins in front.
 use Prim.Native.Nat.{ℕ, suc, _+_, _-_, _≤_}
 use mathlib.Core.Path.{_≡_}
 use mathlib.Core.List.{List, [], _∷_, _++_}
@@ -19,6 +19,39 @@ use Rattle.between.specs.Lead.{NotLeaf}
 use Rattle.between.specs.Since.{Since, holderItems}
 use Rattle.between.specs.Edit.{Booked}
 use Rattle.chain.specs.Row.{rowItems, bodiesOf, bytesOf, tipOf}
+
+-- ---- the run is freed
+
+-- its bodies before other items, the last one first, as they are freed
+abbrev pub downItems : List (ℕ × ℕ) → List Item → List Item
+downItems [] is = is
+downItems (x ∷ rs) is = downItems rs (body (x .0) Prefix (x .1) ∷ is)
+
+-- of the tree t what stands below its run is left
+pub record Freed (E : Edition) (f g : List ℕ) (h : View) (xs : List Step) (s : ℕ) (path : List ℕ) (t : Lay) (ts : List (List ℕ × Lay)) (loose : List Item) : Type 0 where
+  pub view : View
+  pub work : Work E g view xs s ((path ++ bytesOf t, tipOf t) ∷ ts) loose
+  pub booked : (h0 : View) (ks fs : List ℕ) (x d r : ℕ) → Booked h0 h ks fs x d r → Booked h0 view ks (prefixes (length (bodiesOf t)) ++ fs) x d r
+  pub since : (f0 : List ℕ) (h0 : View) (bs ws gs es : List Item) → Since f0 h0 f h bs ws gs es → Since f0 h0 g view bs ws (downItems (bodiesOf t) gs) es
+
+abbrev pub RunFreed : List ℕ → List ℕ → ℕ → Type 0
+RunFreed f g slot =
+    (E : Edition) (h : View) (xs : List Step) (s : ℕ) (path : List ℕ) (t : Lay) (ts : List (List ℕ × Lay)) (loose : List Item) → Work E f h xs s ((path, t) ∷ ts) loose → slotOf t ≡ slot
+    → Freed E f g h xs s path t ts loose
+
+-- some work in which it stands, with at most `left` bodies
+pub record Frees (f : List ℕ) (slot left : ℕ) : Type 0 where
+  pub edition : Edition
+  pub view : View
+  pub steps : List Step
+  pub top : ℕ
+  pub path : List ℕ
+  pub tree : Lay
+  pub trees : List (List ℕ × Lay)
+  pub loose : List Item
+  pub work : Work edition f view steps top ((path, tree) ∷ trees) loose
+  pub slotIs : slotOf tree ≡ slot
+  pub few : length (bodiesOf tree) ≤ left
 
 -- ---- a Prefix above is filled up
 

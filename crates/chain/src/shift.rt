@@ -1,10 +1,30 @@
-// The run of Prefixes on top of a tree, changed where it stands: each body gives bytes to the one before it or after it.
+// The run of Prefixes on top of a tree, changed where it stands: freed, or each body gives bytes to the one before it or after it.
 use fields::body::Prefix;
 use layout::entry::Entry;
 use layout::kind::Kind;
 use room::heap;
 use room::link;
-ghost use Rattle.chain.specs.Shift.{Fills, RunFilled, Pushes, RunPushed};
+ghost use Rattle.chain.specs.Shift.{Frees, RunFreed, Fills, RunFilled, Pushes, RunPushed};
+
+// The run at this slot is freed, from the first body on; what stands below it stays.
+pub fn free(f: &mut [u8], slot: usize)
+    requires { ⌜ Frees (now f) slot 5 ⌝ }
+    ensures { λ _. ⌜ RunFreed (now (f .entry)) (now (f .exit)) slot ⌝ }
+{
+    let mut top = slot;
+    // a run has no more bodies than this
+    let mut left = crate::MOST;
+    loop {
+        let e = Entry::read(f, top);
+        if e.high != Kind::PREFIX {
+            return;
+        }
+        let below = Prefix::child(f, e.place);
+        heap::release(f, top, Kind::PREFIX);
+        top = below;
+        left -= 1;
+    }
+}
 
 // The Prefix at o is filled up from the run below, whose first slot it names. The last body of that is freed if it has no byte left.
 pub fn fill(f: &mut [u8], o: usize, slot: usize)

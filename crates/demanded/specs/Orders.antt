@@ -5,7 +5,7 @@ use mathlib.Core.Path.{_≡_}
 use mathlib.Core.List.{List}
 use mathlib.Core.Logic.{_↔_, _≢_}
 use lib.ListN.{length}
-use Rattle.model.specs.Edition.{edition1}
+use Rattle.model.specs.Edition.{Edition}
 use Rattle.model.specs.Records.{Record}
 use Rattle.model.specs.Promise.{PackPromise}
 use Rattle.model.specs.Call.{Call, put, replace, erase, keyOf, Called}
@@ -23,28 +23,28 @@ callOf Replace k v = replace k v
 callOf Erase k v = erase k
 
 -- c and then d were made on f, and what they left was packed
-pub record InOrder (f o : List ℕ) (c d : Call) (r : Given) (f' o' : List ℕ) : Type 0 where
+pub record InOrder (E : Edition) (f o : List ℕ) (c d : Call) (r : Given) (f' o' : List ℕ) : Type 0 where
   pub between : List ℕ
-  pub first : Called edition1 f c (r .first) between
-  pub second : Called edition1 between d (r .second) f'
-  pub packed : PackPromise edition1 f' o (r .packed) o'
+  pub first : Called E f c (r .first) between
+  pub second : Called E between d (r .second) f'
+  pub packed : PackPromise E f' o (r .packed) o'
 
 abbrev pub NoneRefused : Given → Type 0
 NoneRefused r = NotRefused (r .first) × NotRefused (r .second) × NotRefused (r .packed)
 
 -- c and then d on f; d and then c on a copy of f
-pub record InBothOrders (f o p : List ℕ) (c d : Call) (x y : Given) (f' o' g' p' : List ℕ) : Type 0 where
-  pub forth : InOrder f o c d x f' o'
-  pub back : InOrder f p d c y g' p'
+pub record InBothOrders (E : Edition) (f o p : List ℕ) (c d : Call) (x y : Given) (f' o' g' p' : List ℕ) : Type 0 where
+  pub forth : InOrder E f o c d x f' o'
+  pub back : InOrder E f p d c y g' p'
   pub same : keyOf c ≢ keyOf d → NoneRefused x → NoneRefused y → (x .first ≡ y .second) × (x .second ≡ y .first) × (o' ≡ p')
 
 -- a copy is made exactly if there are as many bytes for it; else nothing changes
-abbrev pub Ordered : (f o g p : List ℕ) → Call → Call → Orders → (f' o' g' p' : List ℕ) → Type 0
-Ordered f o g p c d (Made x y) f' o' g' p' = (length g ≡ length f) × InBothOrders f o p c d x y f' o' g' p'
-Ordered f o g p c d Uncopied f' o' g' p' = (length g ≢ length f) × (f' ≡ f) × (o' ≡ o) × (g' ≡ g) × (p' ≡ p)
+abbrev pub Ordered : Edition → (f o g p : List ℕ) → Call → Call → Orders → (f' o' g' p' : List ℕ) → Type 0
+Ordered E f o g p c d (Made x y) f' o' g' p' = (length g ≡ length f) × InBothOrders E f o p c d x y f' o' g' p'
+Ordered E f o g p c d Uncopied f' o' g' p' = (length g ≢ length f) × (f' ≡ f) × (o' ≡ o) × (g' ≡ g) × (p' ≡ p)
 
-pub record PackedBoth (f o g p : List ℕ) (r : Packs) (o' p' : List ℕ) : Type 0 where
-  pub first : PackPromise edition1 f o (r .first) o'
-  pub second : PackPromise edition1 g p (r .second) p'
-  pub same : (rs qs : List Record) → length f ≡ length g → slotsOf f ≡ slotsOf g → Holds edition1 f rs → Holds edition1 g qs → NotRefused (r .first) → NotRefused (r .second)
+pub record PackedBoth (E : Edition) (f o g p : List ℕ) (r : Packs) (o' p' : List ℕ) : Type 0 where
+  pub first : PackPromise E f o (r .first) o'
+  pub second : PackPromise E g p (r .second) p'
+  pub same : (rs qs : List Record) → length f ≡ length g → slotsOf f ≡ slotsOf g → Holds E f rs → Holds E g qs → NotRefused (r .first) → NotRefused (r .second)
       → (o' ≡ p') ↔ (rs ≡ qs)

@@ -3,7 +3,7 @@ use Prim.Native.Nat.{ℕ}
 use mathlib.Core.Path.{_≡_}
 use mathlib.Core.List.{List}
 use lib.ListN.{take, drop}
-use Rattle.model.specs.Edition.{edition1}
+use Rattle.model.specs.Edition.{Edition}
 use Rattle.model.specs.Promise.{FormatPromise, Found, LookUpPromise, PutPromise, PutOrReplacePromise, PackPromise}
 use Rattle.store.specs.Found.{foundIn}
 use Rattle.demands.specs.Words.{NotRefused}
@@ -15,16 +15,16 @@ abbrev pub GivesBack : List ℕ → List ℕ → Found → Type 0
 GivesBack f v g = (g .number ≡ 0) × (take (g .long) (drop (g .place) f) ≡ v)
 
 -- in a new frame: the key is new too
-pub record ReadInNew (f : List ℕ) (len cap : ℕ) (k v : List ℕ) (r : InNew) (f' : List ℕ) : Type 0 where
+pub record ReadInNew (E : Edition) (f : List ℕ) (len cap : ℕ) (k v : List ℕ) (r : InNew) (f' : List ℕ) : Type 0 where
   pub empty : List ℕ
-  pub formatted : FormatPromise edition1 f len cap (r .formatted) empty
-  pub put : PutPromise edition1 empty k v (r .put) f'
-  pub looked : LookUpPromise edition1 f' k (foundIn (r .found))
+  pub formatted : FormatPromise E f len cap (r .formatted) empty
+  pub put : PutPromise E empty k v (r .put) f'
+  pub looked : LookUpPromise E f' k (foundIn (r .found))
   pub back : NotRefused (r .formatted) → NotRefused (r .put) → (r .put ≡ 0) × GivesBack f' v (foundIn (r .found))
 
 -- in the packed image, which is read as a frame; whatever the key had before
-pub record ReadInImage (f o k v : List ℕ) (r : InImage) (f' o' : List ℕ) : Type 0 where
-  pub put : PutOrReplacePromise edition1 f k v (r .put) f'
-  pub packed : PackPromise edition1 f' o (r .packed) o'
-  pub looked : LookUpPromise edition1 o' k (foundIn (r .found))
+pub record ReadInImage (E : Edition) (f o k v : List ℕ) (r : InImage) (f' o' : List ℕ) : Type 0 where
+  pub put : PutOrReplacePromise E f k v (r .put) f'
+  pub packed : PackPromise E f' o (r .packed) o'
+  pub looked : LookUpPromise E o' k (foundIn (r .found))
   pub back : NotRefused (r .put) → NotRefused (r .packed) → GivesBack o' v (foundIn (r .found))

@@ -4,7 +4,7 @@ use pack::pack;
 use store::erase::erase;
 use store::put::put;
 use store::put::replace;
-ghost use Rattle.model.specs.Edition.{edition1};
+ghost use Rattle.model.specs.Edition.{editionOf};
 ghost use Rattle.model.specs.Call.{Called};
 ghost use Rattle.demanded.specs.Orders.{callOf, InOrder, Ordered, PackedBoth};
 
@@ -29,13 +29,13 @@ pub enum Kind {
     Erase,
 }
 
-pub fn change(frame: &mut [u8], kind: Kind, key: &[u8], value: &[u8]) -> u32
-    ensures { λ n. ⌜ Called edition1 (now (frame .entry)) (callOf kind (now (key .entry)) (now (value .entry))) n (now (frame .exit)) ⌝ }
+pub fn change(frame: &mut [u8], kind: Kind, key: &[u8], value: &[u8], edition: usize) -> u32
+    ensures { λ n. ⌜ Called (editionOf edition) (now (frame .entry)) (callOf kind (now (key .entry)) (now (value .entry))) n (now (frame .exit)) ⌝ }
 {
     match kind {
-        Kind::Put => answers::put_number(put(frame, key, value)),
-        Kind::Replace => answers::replace_number(replace(frame, key, value)),
-        Kind::Erase => answers::erase_number(erase(frame, key)),
+        Kind::Put => answers::put_number(put(frame, key, value, edition)),
+        Kind::Replace => answers::replace_number(replace(frame, key, value, edition)),
+        Kind::Erase => answers::erase_number(erase(frame, key, edition)),
     }
 }
 
@@ -49,12 +49,13 @@ fn in_order(
     second_kind: Kind,
     second_key: &[u8],
     second_value: &[u8],
+    edition: usize,
 ) -> Given
-    ensures { λ r. ⌜ InOrder (now (frame .entry)) (now (out .entry)) (callOf «first_kind» (now («first_key» .entry)) (now («first_value» .entry))) (callOf «second_kind» (now («second_key» .entry)) (now («second_value» .entry))) r (now (frame .exit)) (now (out .exit)) ⌝ }
+    ensures { λ r. ⌜ InOrder (editionOf edition) (now (frame .entry)) (now (out .entry)) (callOf «first_kind» (now («first_key» .entry)) (now («first_value» .entry))) (callOf «second_kind» (now («second_key» .entry)) (now («second_value» .entry))) r (now (frame .exit)) (now (out .exit)) ⌝ }
 {
-    let first = change(frame, first_kind, first_key, first_value);
-    let second = change(frame, second_kind, second_key, second_value);
-    let packed = answers::pack_number(pack(frame, out));
+    let first = change(frame, first_kind, first_key, first_value, edition);
+    let second = change(frame, second_kind, second_key, second_value, edition);
+    let packed = answers::pack_number(pack(frame, out, edition));
     Given {
         first,
         second,
@@ -75,8 +76,9 @@ pub fn both_orders(
     second_kind: Kind,
     second_key: &[u8],
     second_value: &[u8],
+    edition: usize,
 ) -> Orders
-    ensures { λ r. ⌜ Ordered (now (frame .entry)) (now (out .entry)) (now (copy .entry)) (now («copy_out» .entry)) (callOf «first_kind» (now («first_key» .entry)) (now («first_value» .entry))) (callOf «second_kind» (now («second_key» .entry)) (now («second_value» .entry))) r (now (frame .exit)) (now (out .exit)) (now (copy .exit)) (now («copy_out» .exit)) ⌝ }
+    ensures { λ r. ⌜ Ordered (editionOf edition) (now (frame .entry)) (now (out .entry)) (now (copy .entry)) (now («copy_out» .entry)) (callOf «first_kind» (now («first_key» .entry)) (now («first_value» .entry))) (callOf «second_kind» (now («second_key» .entry)) (now («second_value» .entry))) r (now (frame .exit)) (now (out .exit)) (now (copy .exit)) (now («copy_out» .exit)) ⌝ }
 {
     if copy.len() != frame.len() {
         return Orders::Uncopied;
@@ -91,6 +93,7 @@ pub fn both_orders(
         second_kind,
         second_key,
         second_value,
+        edition,
     );
     let back = in_order(
         copy,
@@ -101,6 +104,7 @@ pub fn both_orders(
         first_kind,
         first_key,
         first_value,
+        edition,
     );
     Orders::Made(forth, back)
 }
@@ -112,11 +116,17 @@ pub struct Packs {
 }
 
 // "Two good frames of equal length and slot capacity pack to the same bytes exactly when they hold the same records."
-pub fn pack_both(first: &[u8], first_out: &mut [u8], second: &[u8], second_out: &mut [u8]) -> Packs
-    ensures { λ r. ⌜ PackedBoth (now (first .entry)) (now («first_out» .entry)) (now (second .entry)) (now («second_out» .entry)) r (now («first_out» .exit)) (now («second_out» .exit)) ⌝ }
+pub fn pack_both(
+    first: &[u8],
+    first_out: &mut [u8],
+    second: &[u8],
+    second_out: &mut [u8],
+    edition: usize,
+) -> Packs
+    ensures { λ r. ⌜ PackedBoth (editionOf edition) (now (first .entry)) (now («first_out» .entry)) (now (second .entry)) (now («second_out» .entry)) r (now («first_out» .exit)) (now («second_out» .exit)) ⌝ }
 {
-    let one = answers::pack_number(pack(first, first_out));
-    let other = answers::pack_number(pack(second, second_out));
+    let one = answers::pack_number(pack(first, first_out, edition));
+    let other = answers::pack_number(pack(second, second_out, edition));
     Packs {
         first: one,
         second: other,

@@ -6,6 +6,7 @@ use store::format::format;
 use store::look::look_up;
 use store::put::put;
 use store::put::put_or_replace;
+ghost use Rattle.model.specs.Edition.{editionOf};
 ghost use Rattle.demanded.specs.Readings.{ReadInNew, ReadInImage};
 
 pub struct InNew {
@@ -21,12 +22,19 @@ pub struct InImage {
 }
 
 // Format, put, look-up.
-pub fn in_new(frame: &mut [u8], length: usize, capacity: usize, key: &[u8], value: &[u8]) -> InNew
-    ensures { λ r. ⌜ ReadInNew (now (frame .entry)) length capacity (now (key .entry)) (now (value .entry)) r (now (frame .exit)) ⌝ }
+pub fn in_new(
+    frame: &mut [u8],
+    length: usize,
+    capacity: usize,
+    key: &[u8],
+    value: &[u8],
+    edition: usize,
+) -> InNew
+    ensures { λ r. ⌜ ReadInNew (editionOf edition) (now (frame .entry)) length capacity (now (key .entry)) (now (value .entry)) r (now (frame .exit)) ⌝ }
 {
-    let formatted = answers::format_number(format(frame, length, capacity));
-    let given = answers::put_number(put(frame, key, value));
-    let found = look_up(frame, key);
+    let formatted = answers::format_number(format(frame, length, capacity, edition));
+    let given = answers::put_number(put(frame, key, value, edition));
+    let found = look_up(frame, key, edition);
     InNew {
         formatted,
         put: given,
@@ -35,12 +43,18 @@ pub fn in_new(frame: &mut [u8], length: usize, capacity: usize, key: &[u8], valu
 }
 
 // Put or replace, pack, look-up in the image.
-pub fn in_image(frame: &mut [u8], out: &mut [u8], key: &[u8], value: &[u8]) -> InImage
-    ensures { λ r. ⌜ ReadInImage (now (frame .entry)) (now (out .entry)) (now (key .entry)) (now (value .entry)) r (now (frame .exit)) (now (out .exit)) ⌝ }
+pub fn in_image(
+    frame: &mut [u8],
+    out: &mut [u8],
+    key: &[u8],
+    value: &[u8],
+    edition: usize,
+) -> InImage
+    ensures { λ r. ⌜ ReadInImage (editionOf edition) (now (frame .entry)) (now (out .entry)) (now (key .entry)) (now (value .entry)) r (now (frame .exit)) (now (out .exit)) ⌝ }
 {
-    let given = answers::put_or_replace_number(put_or_replace(frame, key, value));
-    let packed = answers::pack_number(pack(frame, out));
-    let found = look_up(out, key);
+    let given = answers::put_or_replace_number(put_or_replace(frame, key, value, edition));
+    let packed = answers::pack_number(pack(frame, out, edition));
+    let found = look_up(out, key, edition);
     InImage {
         put: given,
         packed,

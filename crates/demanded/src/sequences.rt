@@ -4,6 +4,7 @@ use crate::orders::change;
 use answers;
 use pack::pack;
 ghost use mathlib.Core.List.{[], _∷_};
+ghost use Rattle.model.specs.Edition.{editionOf};
 ghost use Rattle.demanded.specs.Orders.{callOf};
 ghost use Rattle.demanded.specs.Sequences.{InRow, InAnyOrder};
 
@@ -35,13 +36,14 @@ fn in_row(
     third_kind: Kind,
     third_key: &[u8],
     third_value: &[u8],
+    edition: usize,
 ) -> Three
-    ensures { λ r. ⌜ InRow (now (frame .entry)) (now (out .entry)) (callOf «first_kind» (now («first_key» .entry)) (now («first_value» .entry)) ∷ callOf «second_kind» (now («second_key» .entry)) (now («second_value» .entry)) ∷ callOf «third_kind» (now («third_key» .entry)) (now («third_value» .entry)) ∷ []) r (now (frame .exit)) (now (out .exit)) ⌝ }
+    ensures { λ r. ⌜ InRow (editionOf edition) (now (frame .entry)) (now (out .entry)) (callOf «first_kind» (now («first_key» .entry)) (now («first_value» .entry)) ∷ callOf «second_kind» (now («second_key» .entry)) (now («second_value» .entry)) ∷ callOf «third_kind» (now («third_key» .entry)) (now («third_value» .entry)) ∷ []) r (now (frame .exit)) (now (out .exit)) ⌝ }
 {
-    let first = change(frame, first_kind, first_key, first_value);
-    let second = change(frame, second_kind, second_key, second_value);
-    let third = change(frame, third_kind, third_key, third_value);
-    let packed = answers::pack_number(pack(frame, out));
+    let first = change(frame, first_kind, first_key, first_value, edition);
+    let second = change(frame, second_kind, second_key, second_value, edition);
+    let third = change(frame, third_kind, third_key, third_value, edition);
+    let packed = answers::pack_number(pack(frame, out, edition));
     Three {
         first,
         second,
@@ -66,8 +68,9 @@ pub fn last_first(
     third_kind: Kind,
     third_key: &[u8],
     third_value: &[u8],
+    edition: usize,
 ) -> Rows
-    ensures { λ r. ⌜ InAnyOrder (now (frame .entry)) (now (out .entry)) (now (copy .entry)) (now («copy_out» .entry)) (callOf «first_kind» (now («first_key» .entry)) (now («first_value» .entry))) (callOf «second_kind» (now («second_key» .entry)) (now («second_value» .entry))) (callOf «third_kind» (now («third_key» .entry)) (now («third_value» .entry))) r (now (frame .exit)) (now (out .exit)) (now (copy .exit)) (now («copy_out» .exit)) ⌝ }
+    ensures { λ r. ⌜ InAnyOrder (editionOf edition) (now (frame .entry)) (now (out .entry)) (now (copy .entry)) (now («copy_out» .entry)) (callOf «first_kind» (now («first_key» .entry)) (now («first_value» .entry))) (callOf «second_kind» (now («second_key» .entry)) (now («second_value» .entry))) (callOf «third_kind» (now («third_key» .entry)) (now («third_value» .entry))) r (now (frame .exit)) (now (out .exit)) (now (copy .exit)) (now («copy_out» .exit)) ⌝ }
 {
     if copy.len() != frame.len() {
         return Rows::Uncopied;
@@ -85,6 +88,7 @@ pub fn last_first(
         third_kind,
         third_key,
         third_value,
+        edition,
     );
     let back = in_row(
         copy,
@@ -98,6 +102,7 @@ pub fn last_first(
         second_kind,
         second_key,
         second_value,
+        edition,
     );
     Rows::Made(forth, back)
 }

@@ -28,7 +28,7 @@ use Rattle.model.proofs.PackStands.{image-of-stands, tree-of-records}
 use Rattle.demands.specs.Words.{outputLength, Holds, slotsOf}
 use Rattle.demands.specs.Demands.{Packed}
 use Rattle.demands.specs.Before.{PackingBefore}
-use Rattle.demands.proofs.FirstLaws.{frame-first-by}
+use Rattle.demands.proofs.FirstLaws.{frame-first}
 use Rattle.demands.proofs.Refusals.{unchanging}
 use Rattle.demands.proofs.Sets.{ascends, legals}
 use Rattle.demands.proofs.Theorems.{faults1}
@@ -81,7 +81,7 @@ packs-before f o n o' rs p h l =
 pub packing-before : PackingBefore
 packing-before = record {
   refusals = λ f o n o' p. (
-    frame-first-by before1 f (outputLength f o ∷ []) (0 ∷ []) n refl refl (p .told)
+    frame-first before1 f (outputLength f o ∷ []) (0 ∷ []) n refl refl (p .told)
         (λ g. eqb-cases (length o) (length f)
         (λ t q. inr (λ x. x q, inl (p .packed0 (g .0) (g .1) q .0)))
         (λ t q. inl (q, p .output7 g q))),

@@ -1,21 +1,22 @@
 -- From a decision for each ground to the order of refusals, and the grounds that a frame and a key give. Assumes nothing.
-use Prim.Native.Nat.{ℕ, suc}
+use Prim.Native.Nat.{ℕ, suc, _<_, _≤_}
 use native.Mathlib.Omega.{arith}
-use mathlib.Core.Path.{_≡_, sym, _∙_}
+use mathlib.Core.Path.{_≡_, refl, sym, _∙_}
 use mathlib.Core.List.{List, [], _∷_}
 use mathlib.Core.Bool.{Bool, true, false}
 use mathlib.Core.Logic.{_⊎_, inl, inr, ⊎-elim, _≢_}
 use lib.ListN.{length}
+use Rattle.layout.specs.Number.{byteAt}
 use lib.Dec.{eqb}
 use borrow.Author.Tests.{eq-eqb}
 use Rattle.model.specs.Strings.{pick, hasZero}
-use Rattle.model.specs.Edition.{Edition, edition1}
+use Rattle.model.specs.Edition.{Edition, edition1, edition2, editionOf}
 use Rattle.model.specs.Frame.{Good}
 use Rattle.model.specs.Order.{InOrder}
 use Rattle.model.specs.Promise.{LengthOk, Told}
 use Rattle.model.proofs.StringLaws.{bool-cases, eqb-cases, ltb-cases, clash}
 use Rattle.model.proofs.Edition1.{zero-free, positive-at}
-use Rattle.demands.specs.Words.{Ground, OneOf, InTurn, numbersOf, FirstOf, wrongLength, notGoodBy, notGood, keyLength, keyZero}
+use Rattle.demands.specs.Words.{Ground, OneOf, InTurn, numbersOf, FirstOf, wrongLength, notGood, keyLength, keyZero}
 
 -- ---- the first that applies, decided one after another
 
@@ -62,9 +63,9 @@ first (g ∷ gs) answers n t (inr h) = (
 
 -- ---- 1 and 2: what the number says of the frame
 
-pub frame-first-by : (E : Edition) (f : List ℕ) (gs : List Ground) (answers : List ℕ) (n : ℕ) → InOrder (1 ∷ 2 ∷ numbersOf gs) → distinct (1 ∷ 2 ∷ numbers gs answers) ≡ true → Told E f n
-    → (Good E f → Given gs answers n) → FirstOf (wrongLength f ∷ notGoodBy E f ∷ gs) answers n
-frame-first-by E f gs answers n o t told h = (o, ((one, told .length1), λ fits. ((two, is2 fits), λ good. first gs answers n t2 (h (told .good (λ e. fits (one e)) (λ e. good (two e)))))))
+pub frame-first : (E : Edition) (f : List ℕ) (gs : List Ground) (answers : List ℕ) (n : ℕ) → InOrder (1 ∷ 2 ∷ numbersOf gs) → distinct (1 ∷ 2 ∷ numbers gs answers) ≡ true → Told E f n
+    → (Good E f → Given gs answers n) → FirstOf (wrongLength f ∷ notGood E f ∷ gs) answers n
+frame-first E f gs answers n o t told h = (o, ((one, told .length1), λ fits. ((two, is2 fits), λ good. first gs answers n t2 (h (told .good (λ e. fits (one e)) (λ e. good (two e)))))))
   where
     t1 : distinct (2 ∷ numbers gs answers) ≡ true
     t1 = distinct-tail 1 (2 ∷ numbers gs answers) t
@@ -84,37 +85,42 @@ frame-first-by E f gs answers n o t told h = (o, ((one, told .length1), λ fits.
     is2 : ((LengthOk f → ⊥) → ⊥) → (Good E f → ⊥) → n ≡ 2
     is2 fits bad = eqb-cases n 2 (λ u q. q) (λ u q. absurd (fits (λ l. q (told .bad2 l bad))))
 
-pub frame-first : (f : List ℕ) (gs : List Ground) (answers : List ℕ) (n : ℕ) → InOrder (1 ∷ 2 ∷ numbersOf gs) → distinct (1 ∷ 2 ∷ numbers gs answers) ≡ true → Told edition1 f n
-    → (Good edition1 f → Given gs answers n) → FirstOf (wrongLength f ∷ notGood f ∷ gs) answers n
-frame-first = frame-first-by edition1
+-- ---- 3 and 4: what an edition says of the key
 
--- ---- 3 and 4: what edition 1 says of the key
-
-zero-at : (k : List ℕ) → hasZero k ≡ true → keyZero k .applies
+zero-at : (k : List ℕ) → hasZero k ≡ true → (i : ℕ) × (i < length k) × (byteAt k i ≡ 0)
 zero-at [] e = clash (cc)
 zero-at (x ∷ k) e = eqb-cases x 0
     (λ t q. (0, omega arith, q))
     (λ t q. let on = zero-at k (rw t at e) in (suc (on .0), omega arith, on .2))
 
-zero-none : (k : List ℕ) → hasZero k ≡ false → keyZero k .applies → ⊥
-zero-none k e z = positive-at k (zero-free k e) (z .0) (z .1) (z .2)
-
 -- a number that is the key's fault, if it has one, and else what is given on the other grounds
-pub key-given : (k : List ℕ) (n : ℕ) (gs : List Ground) (answers : List ℕ) → (edition1 .keyFault k ≢ 0 → n ≡ edition1 .keyFault k) → (edition1 .keyFault k ≡ 0 → Given gs answers n)
-    → Given (keyLength k ∷ keyZero k ∷ gs) answers n
-key-given k n gs answers h g = eqb-cases (length k) 0
-    (λ t q. inl (inl q, three (rw t)))
+abbrev pub KeyGiven : Edition → Type 1
+KeyGiven E = (k : List ℕ) (n : ℕ) (gs : List Ground) (answers : List ℕ) → (E .keyFault k ≢ 0 → n ≡ E .keyFault k) → (E .keyFault k ≡ 0 → Given gs answers n)
+    → Given (keyLength E k ∷ keyZero E k ∷ gs) answers n
+
+faulty : (E : Edition) (k : List ℕ) (n m : ℕ) → 1 ≤ m → (E .keyFault k ≢ 0 → n ≡ E .keyFault k) → E .keyFault k ≡ m → n ≡ m
+faulty E k n m some h e = h (λ z. omega (arith, sym e ∙ z)) ∙ e
+
+pub key-given1 : KeyGiven edition1
+key-given1 k n gs answers h g = eqb-cases (length k) 0
+    (λ t q. inl (inl q, faulty edition1 k n 3 (omega arith) h (rw t)))
     (λ t q. ltb-cases 112 (length k)
-    (λ u o. inl (inr (omega arith), three (rw (t, u))))
+    (λ u o. inl (inr o, faulty edition1 k n 3 (omega arith) h (rw (t, u))))
     (λ u o. inr (
       λ x. ⊎-elim q (λ y. omega (arith, y)) x,
       bool-cases (hasZero k)
-          (λ w. inl (zero-at k w, four (rw (t, u, w))))
-          (λ w. inr (zero-none k w, g (rw (t, u, w)))),
+          (λ w. inl ((λ e. omega (arith, e), zero-at k w), faulty edition1 k n 4 (omega arith) h (rw (t, u, w))))
+          (λ w. inr (λ z. positive-at k (zero-free k w) (z .1 .0) (z .1 .1) (z .1 .2), g (rw (t, u, w)))),
     )))
-  where
-    three : edition1 .keyFault k ≡ 3 → n ≡ 3
-    three e = h (λ z. clash (let y : _≡_ {A = ℕ} 0 1 = omega (arith, sym e ∙ z) in y)) ∙ e
 
-    four : edition1 .keyFault k ≡ 4 → n ≡ 4
-    four e = h (λ z. clash (let y : _≡_ {A = ℕ} 0 1 = omega (arith, sym e ∙ z) in y)) ∙ e
+pub key-given2 : KeyGiven edition2
+key-given2 k n gs answers h g = eqb-cases (length k) 0
+    (λ t q. inl (inl q, faulty edition2 k n 3 (omega arith) h (rw t)))
+    (λ t q. ltb-cases 255 (length k)
+    (λ u o. inl (inr o, faulty edition2 k n 3 (omega arith) h (rw (t, u))))
+    (λ u o. inr (λ x. ⊎-elim q (λ y. omega (arith, y)) x, inr (λ z. z .0 refl, g (rw (t, u))))))
+
+-- of the edition that a number names
+pub key-given : (ed : ℕ) → KeyGiven (editionOf ed)
+unfolding editionOf
+key-given ed = bool-cases (eqb ed 2) (λ t. rw t key-given2) (λ t. rw t key-given1)

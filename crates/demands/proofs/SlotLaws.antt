@@ -25,7 +25,7 @@ use Rattle.model.proofs.StandsGood.{stands-good}
 use Rattle.model.proofs.ImageLaws.{imageState}
 use Rattle.model.proofs.PackStands.{image-of-stands}
 use Rattle.demands.specs.Slots.{Within, Allowance, Path, made, a, ab, paths, Reported, AllPaths, Slots}
-use Rattle.demands.proofs.Theorems.{two, empty, holds0, legal-a, legal-v, length1024, slots8, v, state0}
+use Rattle.demands.proofs.Theorems.{two1, empty, holds0, legal-a, legal-v, length1024, slots8, v, state0}
 
 -- ---- what a promised look-up of a good frame reports
 
@@ -106,7 +106,7 @@ slots = record {
   absentUncounted = λ h.
       let p = h (empty .0) a (state0, empty .1) legal-a in
       let e : p .0 .slots ≡ 1 = slots-are edition1 (empty .0) a (p .0) state0 (empty .1) refl (p .1) in
-      let n = two .lookUp (empty .0) a (p .0) [] legal-a (p .1) holds0 .absent8 .1 refl in
+      let n = two1 .lookUp (empty .0) a (p .0) [] legal-a (p .1) holds0 .absent8 .1 refl in
       let z = p .2 n in omega arith;
   lastUncounted = λ h.
       let p = h (empty .0) a state0 (empty .1) legal-a in

@@ -1,4 +1,4 @@
--- The three demands, any order and what is wiped, met by whatever keeps the promises of edition 1, and the wrong stores that this shuts out. Assumes
+-- The three demands, any order and what is wiped, met by whatever keeps the promises of an edition, the first or the second, and the wrong stores that this shuts out. Assumes
 -- nothing.
 use Prim.Native.Nat.{ℕ, _+_, _≤_}
 use native.Mathlib.Omega.{arith}
@@ -10,7 +10,7 @@ use lib.ListN.{length, getD, drop, replicate, length-drop}
 use lib.Seq.{length-take-le, getD-take, getD-drop}
 use lib.Dec.{ltb, eqb, lit<, lit≤}
 use Rattle.model.specs.Strings.{hasZero}
-use Rattle.model.specs.Edition.{edition1, Legal, LegalValue}
+use Rattle.model.specs.Edition.{edition1, edition2, editionOf, Legal, LegalValue}
 use Rattle.model.specs.Tree.Art.{leaf}
 use Rattle.model.specs.Records.{Record}
 use Rattle.model.specs.State.{State, replacing, formatted}
@@ -20,6 +20,7 @@ use Rattle.model.specs.Promise.{LengthOk, Found}
 use Rattle.model.specs.Call.{Call, put, replace, onCall, Called}
 use Rattle.model.proofs.StringLaws.{bool-cases, clash}
 use Rattle.model.proofs.Edition1.{lawful1}
+use Rattle.model.proofs.Edition2.{lawfulOf}
 use Rattle.model.proofs.TextLaws.{all-zeros}
 use Rattle.model.proofs.FormatLaws.{empty-stands}
 use Rattle.model.proofs.ImageLaws.{imageState}
@@ -31,31 +32,56 @@ use Rattle.demands.specs.Demands.{Demand1, Demand2, Demand3}
 use Rattle.demands.specs.AnyOrder.{AnyOrder}
 use Rattle.demands.specs.WrongStores.{LeavesThose, Counters, ShutOut}
 use Rattle.demands.specs.Wiped.{Wiped}
+use Rattle.demands.proofs.FirstLaws.{key-given}
 use Rattle.demands.proofs.Refusals.{demand1}
 use Rattle.demands.proofs.Sets.{demand2}
 use Rattle.demands.proofs.WipedLaws.{wiped-all}
 use Rattle.demands.proofs.Orders.{demand3}
 use Rattle.demands.proofs.AnyOrderLaws.{any-order}
 
+-- ---- the demands, of both editions
+
 pub faults1 : (k : List ℕ) → edition1 .keyFault k ≤ 7
 faults1 k = bool-cases (eqb (length k) 0)
     (λ t. rw t (lit≤ tt))
     (λ t. bool-cases (ltb 112 (length k)) (λ u. rw (t, u) (lit≤ tt)) (λ u. bool-cases (hasZero k) (λ w. rw (t, u, w) (lit≤ tt)) (λ w. rw (t, u, w) (lit≤ tt))))
 
-pub two : Demand2 edition1
-two = demand2 lawful1 faults1
+faults2 : (k : List ℕ) → edition2 .keyFault k ≤ 7
+faults2 k = bool-cases (eqb (length k) 0) (λ t. rw t (lit≤ tt)) (λ t. bool-cases (ltb 255 (length k)) (λ u. rw (t, u) (lit≤ tt)) (λ u. rw (t, u) (lit≤ tt)))
 
-pub three : Demand3 edition1
-three = demand3 lawful1 faults1
+module _ (ed : ℕ) where
+  pub faults : (k : List ℕ) → editionOf ed .keyFault k ≤ 7
+  unfolding editionOf
+  faults = bool-cases (eqb ed 2) (λ t. rw t faults2) (λ t. rw t faults1)
 
-pub demands : Demand1 × Demand2 edition1 × Demand3 edition1
-demands = (demand1, two, three)
+  pub one : Demand1 (editionOf ed)
+  one = demand1 (lawfulOf ed) (key-given ed)
 
-pub wiped1 : Wiped edition1
+  pub two : Demand2 (editionOf ed)
+  two = demand2 (lawfulOf ed) faults
+
+  pub three : Demand3 (editionOf ed)
+  three = demand3 (lawfulOf ed) faults
+
+  pub demands : Demand1 (editionOf ed) × Demand2 (editionOf ed) × Demand3 (editionOf ed)
+  demands = (one, two, three)
+
+  pub wiped : Wiped (editionOf ed)
+  unfolding editionOf
+  wiped = wiped-all (lawfulOf ed) (bool-cases (eqb ed 2) (λ t. rw t refl) (λ t. rw t refl))
+
+  pub in-any-order : AnyOrder (editionOf ed)
+  in-any-order = any-order (lawfulOf ed) faults
+
+-- of edition 1, by which the wrong stores are shut out
+pub two1 : Demand2 edition1
+two1 = demand2 lawful1 faults1
+
+three1 : Demand3 edition1
+three1 = demand3 lawful1 faults1
+
+wiped1 : Wiped edition1
 wiped1 = wiped-all lawful1 refl
-
-pub any-order1 : AnyOrder edition1
-any-order1 = any-order lawful1 faults1
 
 -- ---- good frames of F 1,024 and N 8: W1, the packed image of a=1, and one that is full
 
@@ -162,7 +188,7 @@ leaves-none those first h =
     let f = holding .0 in
     let p = h f a ww v a1 holds1 legal-a legal-ww refl (λ z. omega arith) in
     let g = p .0 in
-    let q = two .lookUp f a g a1 legal-a (p .3) holds1 in
+    let q = two1 .lookUp f a g a1 legal-a (p .3) holds1 in
     let t = q .there0 v .0 refl in
     let inside = q .within in
     let long : g .long ≡ 1 = sym (length-take-le (g .long) (drop (g .place) f) (omega (arith, length-drop (g .place) f))) ∙ ap length (t .1) in
@@ -185,40 +211,40 @@ shut-out = record {
       let z : _≡_ {A = ℕ} 6 0 = p .1 .answer state0 (empty .1) in omega arith;
   allEight = λ h.
       let p = h (holding .0) a (state1, holding .1) legal-a in
-      let z = two .lookUp (holding .0) a _ a1 legal-a (p .1) holds1 .absent8 .0 refl in clash (cc);
+      let z = two1 .lookUp (holding .0) a _ a1 legal-a (p .1) holds1 .absent8 .0 refl in clash (cc);
   holdsNothing = λ h.
       let p = h (empty .0) a v (state0, empty .1) legal-a legal-v in
-      let q = two .change (empty .0) (put a v) (p .0) (p .1) [] (legal-a .bytes, legal-v .bytes) (p .2) holds0 (not0 (p .0) (p .2 .answer state0 (empty .1))) in
-      let z = two .one (p .1) [] a1 (p .3) (q .0) in clash (cc);
+      let q = two1 .change (empty .0) (put a v) (p .0) (p .1) [] (legal-a .bytes, legal-v .bytes) (p .2) holds0 (not0 (p .0) (p .2 .answer state0 (empty .1))) in
+      let z = two1 .one (p .1) [] a1 (p .3) (q .0) in clash (cc);
   onlyFirst = λ h.
       let p = h (holding .0) b v (record { key = a; value = v }) [] holds1 legal-b legal-v in
-      let q = two .change (holding .0) (put b v) 0 (holding .0) a1 (legal-b .bytes, legal-v .bytes) p holds1 (not0 0 refl) in
-      let z : _≡_ {A = ℕ} 1 2 = ap length (two .one (holding .0) a1 _ holds1 (q .0)) in omega arith;
+      let q = two1 .change (holding .0) (put b v) 0 (holding .0) a1 (legal-b .bytes, legal-v .bytes) p holds1 (not0 0 refl) in
+      let z : _≡_ {A = ℕ} 1 2 = ap length (two1 .one (holding .0) a1 _ holds1 (q .0)) in omega arith;
   overwrites = λ h.
       let p = h (holding .0) a w a1 holds1 legal-a legal-w (λ z. clash (cc)) in
       let n : p .0 ≡ 11 = p .2 .answer state1 (holding .1) in
-      let q = two .change (holding .0) (put a w) (p .0) (p .1) a1 (legal-a .bytes, legal-w .bytes) (p .2) holds1 (λ r. clash (let z = rw n at r in cc)) in
-      let z : _≡_ {A = ℕ} 49 50 = ap told (two .one (p .1) a1 a2 (q .0) (p .3)) in omega arith;
+      let q = two1 .change (holding .0) (put a w) (p .0) (p .1) a1 (legal-a .bytes, legal-w .bytes) (p .2) holds1 (λ r. clash (let z = rw n at r in cc)) in
+      let z : _≡_ {A = ℕ} 49 50 = ap told (two1 .one (p .1) a1 a2 (q .0) (p .3)) in omega arith;
   roomFirst = λ h.
       let p = h (filled .0) a w state3 (filled .1) legal-a legal-w (inr (lit≤ tt)) in
       let z : _≡_ {A = ℕ} 6 11 = p .answer state3 (filled .1) in omega arith;
   putsIn = λ h.
       let p = h (empty .0) a v [] holds0 legal-a legal-v refl in
       let n : p .0 ≡ 8 = p .2 .answer state0 (empty .1) in
-      let q = two .change (empty .0) (replace a v) (p .0) (p .1) [] (legal-a .bytes, legal-v .bytes) (p .2) holds0 (λ r. clash (let z = rw n at r in cc)) in
-      let z = two .one (p .1) [] a1 (q .0) (p .3) in clash (cc);
+      let q = two1 .change (empty .0) (replace a v) (p .0) (p .1) [] (legal-a .bytes, legal-v .bytes) (p .2) holds0 (λ r. clash (let z = rw n at r in cc)) in
+      let z = two1 .one (p .1) [] a1 (q .0) (p .3) in clash (cc);
   keepsOld = λ h.
       let p = h (holding .0) a w a1 holds1 legal-a legal-w (λ z. clash (cc)) in
       let n : p .0 ≡ 9 = p .2 .answer state1 (holding .1) in
-      let q = two .change (holding .0) (replace a w) (p .0) (p .1) a1 (legal-a .bytes, legal-w .bytes) (p .2) holds1 (λ r. clash (let z = rw n at r in cc)) in
-      let z : _≡_ {A = ℕ} 49 50 = ap told (two .one (p .1) a1 a2 (p .3) (q .0)) in omega arith;
+      let q = two1 .change (holding .0) (replace a w) (p .0) (p .1) a1 (legal-a .bytes, legal-w .bytes) (p .2) holds1 (λ r. clash (let z = rw n at r in cc)) in
+      let z : _≡_ {A = ℕ} 49 50 = ap told (two1 .one (p .1) a1 a2 (p .3) (q .0)) in omega arith;
   fixedImage = λ h.
       let f = empty .0 in let g = holding .0 in
       let H = stands-heads edition1 f state0 (empty .1) in let K = stands-heads edition1 g state1 (holding .1) in
       let len : length f ≡ length g = H .size ∙ sym (K .size) in
       let cap = H .slotsAt ∙ sym (K .slotsAt) in
       let p = h .1 f f (state0, empty .1) refl in let q = h .1 g g (state1, holding .1) refl in
-      let z = three .images f g f _ g _ 0 0 [] a1 len cap holds0 holds1 p q (not0 0 refl) (not0 0 refl) .0 (rw (len, cap)) in clash (cc);
+      let z = three1 .images f g f _ g _ 0 0 [] a1 len cap holds0 holds1 p q (not0 0 refl) (not0 0 refl) .0 (rw (len, cap)) in clash (cc);
   invents = λ h.
       let p = h (empty .0) (empty .1) in
       p .3 (settled (empty .0) (put a v) (p .0) (p .1) state0 (empty .1) (p .2));

@@ -9,7 +9,7 @@ use mathlib.Core.Option.{Option, none, some}
 use mathlib.Core.Logic.{_↔_, _≢_}
 use lib.ListN.{length, take, drop}
 use Rattle.model.specs.Strings.{All, Byte}
-use Rattle.model.specs.Edition.{Edition, edition1, Legal, LegalValue}
+use Rattle.model.specs.Edition.{Edition, Legal, LegalValue}
 use Rattle.model.specs.Tree.{Art}
 use Rattle.model.specs.Records.{Record, lookup, Ascending}
 use Rattle.model.specs.State.{State}
@@ -22,26 +22,26 @@ use Rattle.demands.specs.Words.{Refusal, NotRefused, FirstOf, wrongLimit
 
 -- "1. Lend any bytes as frame, key and value. Every public call ends, refuses by document 01's numbers without asking the caller to have
 -- checked anything, and a refused call changes no byte of any lent buffer."
-pub record Demand1 : Type 0 where
-  pub format : (f : List ℕ) (len cap n : ℕ) (f' : List ℕ) → FormatPromise edition1 f len cap n f'
+pub record Demand1 (E : Edition) : Type 0 where
+  pub format : (f : List ℕ) (len cap n : ℕ) (f' : List ℕ) → FormatPromise E f len cap n f'
       → FirstOf (wrongLimits f len cap ∷ []) (0 ∷ []) n × (Refusal n → f' ≡ f)
-  pub check : (f : List ℕ) (n : ℕ) → CheckPromise edition1 f n
-      → FirstOf (wrongLength f ∷ notGood f ∷ []) (0 ∷ []) n
-  pub lookUp : (f k : List ℕ) (g : Found) → LookUpPromise edition1 f k g
-      → FirstOf (wrongLength f ∷ notGood f ∷ keyLength k ∷ keyZero k ∷ []) (0 ∷ 8 ∷ []) (g .number) × (Refusal (g .number) → g ≡ notFound (g .number) 0)
+  pub check : (f : List ℕ) (n : ℕ) → CheckPromise E f n
+      → FirstOf (wrongLength f ∷ notGood E f ∷ []) (0 ∷ []) n
+  pub lookUp : (f k : List ℕ) (g : Found) → LookUpPromise E f k g
+      → FirstOf (wrongLength f ∷ notGood E f ∷ keyLength E k ∷ keyZero E k ∷ []) (0 ∷ 8 ∷ []) (g .number) × (Refusal (g .number) → g ≡ notFound (g .number) 0)
   -- the second look-up call gives no number; it answers from the first one's
-  pub value : (f k : List ℕ) (at : ℕ) (part : List ℕ) (h : ValuePromise edition1 f k at part) → let n = h .look .number in
-      FirstOf (wrongLength f ∷ notGood f ∷ keyLength k ∷ keyZero k ∷ []) (0 ∷ 8 ∷ []) n × (Refusal n → (at ≡ 0) × (part ≡ []))
-  pub put : (f k v : List ℕ) (n : ℕ) (f' : List ℕ) → All Byte k → All Byte v → PutPromise edition1 f k v n f'
-      → FirstOf (wrongLength f ∷ notGood f ∷ keyLength k ∷ keyZero k ∷ valueLong v ∷ putFull f k v ∷ []) (0 ∷ 11 ∷ []) n × (Refusal n → f' ≡ f)
-  pub replace : (f k v : List ℕ) (n : ℕ) (f' : List ℕ) → All Byte k → All Byte v → ReplacePromise edition1 f k v n f'
-      → FirstOf (wrongLength f ∷ notGood f ∷ keyLength k ∷ keyZero k ∷ valueLong v ∷ replaceFull f k v ∷ []) (9 ∷ 8 ∷ []) n × (Refusal n → f' ≡ f)
-  pub putOrReplace : (f k v : List ℕ) (n : ℕ) (f' : List ℕ) → All Byte k → All Byte v → PutOrReplacePromise edition1 f k v n f'
-      → FirstOf (wrongLength f ∷ notGood f ∷ keyLength k ∷ keyZero k ∷ valueLong v ∷ putOrReplaceFull f k v ∷ []) (0 ∷ 9 ∷ []) n × (Refusal n → f' ≡ f)
-  pub erase : (f k : List ℕ) (n : ℕ) (f' : List ℕ) → All Byte k → ErasePromise edition1 f k n f'
-      → FirstOf (wrongLength f ∷ notGood f ∷ keyLength k ∷ keyZero k ∷ eraseFull f k ∷ []) (0 ∷ 8 ∷ []) n × (Refusal n → f' ≡ f)
-  pub pack : (f o : List ℕ) (n : ℕ) (o' : List ℕ) → PackPromise edition1 f o n o'
-      → FirstOf (wrongLength f ∷ notGood f ∷ outputLength f o ∷ []) (0 ∷ []) n × (Refusal n → o' ≡ o)
+  pub value : (f k : List ℕ) (at : ℕ) (part : List ℕ) (h : ValuePromise E f k at part) → let n = h .look .number in
+      FirstOf (wrongLength f ∷ notGood E f ∷ keyLength E k ∷ keyZero E k ∷ []) (0 ∷ 8 ∷ []) n × (Refusal n → (at ≡ 0) × (part ≡ []))
+  pub put : (f k v : List ℕ) (n : ℕ) (f' : List ℕ) → All Byte k → All Byte v → PutPromise E f k v n f'
+      → FirstOf (wrongLength f ∷ notGood E f ∷ keyLength E k ∷ keyZero E k ∷ valueLong v ∷ putFull E f k v ∷ []) (0 ∷ 11 ∷ []) n × (Refusal n → f' ≡ f)
+  pub replace : (f k v : List ℕ) (n : ℕ) (f' : List ℕ) → All Byte k → All Byte v → ReplacePromise E f k v n f'
+      → FirstOf (wrongLength f ∷ notGood E f ∷ keyLength E k ∷ keyZero E k ∷ valueLong v ∷ replaceFull E f k v ∷ []) (9 ∷ 8 ∷ []) n × (Refusal n → f' ≡ f)
+  pub putOrReplace : (f k v : List ℕ) (n : ℕ) (f' : List ℕ) → All Byte k → All Byte v → PutOrReplacePromise E f k v n f'
+      → FirstOf (wrongLength f ∷ notGood E f ∷ keyLength E k ∷ keyZero E k ∷ valueLong v ∷ putOrReplaceFull E f k v ∷ []) (0 ∷ 9 ∷ []) n × (Refusal n → f' ≡ f)
+  pub erase : (f k : List ℕ) (n : ℕ) (f' : List ℕ) → All Byte k → ErasePromise E f k n f'
+      → FirstOf (wrongLength f ∷ notGood E f ∷ keyLength E k ∷ keyZero E k ∷ eraseFull E f k ∷ []) (0 ∷ 8 ∷ []) n × (Refusal n → f' ≡ f)
+  pub pack : (f o : List ℕ) (n : ℕ) (o' : List ℕ) → PackPromise E f o n o'
+      → FirstOf (wrongLength f ∷ notGood E f ∷ outputLength f o ∷ []) (0 ∷ []) n × (Refusal n → o' ≡ o)
 
 -- ---- demand 2
 

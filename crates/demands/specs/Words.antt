@@ -6,16 +6,16 @@ use mathlib.Core.Bool.{true}
 use mathlib.Core.Option.{Option, none, some}
 use mathlib.Core.Logic.{_↔_, _⊎_, _≢_}
 use lib.ListN.{length}
+use lib.Dec.{eqb}
 use Rattle.layout.specs.Number.{byteAt, le}
 use Rattle.layout.specs.Place.{atN}
-use Rattle.model.specs.Strings.{All, Byte}
-use Rattle.model.specs.Edition.{Edition, edition1}
+use Rattle.model.specs.Strings.{pick, All, Byte}
+use Rattle.model.specs.Edition.{Edition}
 use Rattle.model.specs.Tree.{Art, Change}
 use Rattle.model.specs.Records.{Record, recordsOf, lookup}
 use Rattle.model.specs.State.{State, freshSlots, freshBytes, putChange, eraseChange}
 use Rattle.model.specs.Frame.{Stands, Good}
-use Rattle.model.specs.Order.{isRefusal}
-use Rattle.model.specs.Order.{InOrder}
+use Rattle.model.specs.Order.{isRefusal, InOrder}
 use Rattle.model.specs.Promise.{LengthOk, FormatOk}
 use Rattle.model.specs.Call.{Call, put, replace, erase}
 
@@ -61,19 +61,20 @@ abbrev pub wrongLength : List ℕ → Ground
 wrongLength f = record { number = 1; applies = LengthOk f → ⊥ }
 
 -- "not a good frame"
-abbrev pub notGoodBy : Edition → List ℕ → Ground
-notGoodBy E f = record { number = 2; applies = Good E f → ⊥ }
+abbrev pub notGood : Edition → List ℕ → Ground
+notGood E f = record { number = 2; applies = Good E f → ⊥ }
 
-abbrev pub notGood : List ℕ → Ground
-notGood f = notGoodBy edition1 f
+-- the most bytes of a key, by the edition's number: "1 to 112 bytes"; (02) "keys of 1 to 255 bytes of any kind"
+abbrev pub mostOfKey : ℕ → ℕ
+mostOfKey n = pick (eqb n 2) 255 112
 
--- "key length 0 or above 112"
-abbrev pub keyLength : List ℕ → Ground
-keyLength k = record { number = 3; applies = (length k ≡ 0) ⊎ (112 < length k) }
+-- "key length 0 or above 112"; (02) "3 now means 0 or above 255"
+abbrev pub keyLength : Edition → List ℕ → Ground
+keyLength E k = record { number = 3; applies = (length k ≡ 0) ⊎ (mostOfKey (E .number) < length k) }
 
--- "key holds a byte 0"
-abbrev pub keyZero : List ℕ → Ground
-keyZero k = record { number = 4; applies = (i : ℕ) × (i < length k) × (byteAt k i ≡ 0) }
+-- "key holds a byte 0"; (02) "Refusal 4 isn't given in edition 2"
+abbrev pub keyZero : Edition → List ℕ → Ground
+keyZero E k = record { number = 4; applies = (E .number ≢ 2) × ((i : ℕ) × (i < length k) × (byteAt k i ≡ 0)) }
 
 -- "value above 65,535 bytes"
 abbrev pub valueLong : List ℕ → Ground
@@ -107,17 +108,17 @@ abbrev pub EraseFull : Edition → State → List ℕ → Type 0
 EraseFull E s k = (lookup k (recordsOf (s .tree)) ≢ none) × (2 ≤ s .R) × NoRoomIn E s (s .tree) k
 
 -- "no room"
-abbrev pub putFull : List ℕ → List ℕ → List ℕ → Ground
-putFull f k v = record { number = 6; applies = (s : State) × Stands edition1 f s × PutFull edition1 s k v }
+abbrev pub putFull : Edition → List ℕ → List ℕ → List ℕ → Ground
+putFull E f k v = record { number = 6; applies = (s : State) × Stands E f s × PutFull E s k v }
 
-abbrev pub replaceFull : List ℕ → List ℕ → List ℕ → Ground
-replaceFull f k v = record { number = 6; applies = (s : State) × Stands edition1 f s × ReplaceFull edition1 s k v }
+abbrev pub replaceFull : Edition → List ℕ → List ℕ → List ℕ → Ground
+replaceFull E f k v = record { number = 6; applies = (s : State) × Stands E f s × ReplaceFull E s k v }
 
-abbrev pub putOrReplaceFull : List ℕ → List ℕ → List ℕ → Ground
-putOrReplaceFull f k v = record { number = 6; applies = (s : State) × Stands edition1 f s × NoRoom s (putChange edition1 s k v) }
+abbrev pub putOrReplaceFull : Edition → List ℕ → List ℕ → List ℕ → Ground
+putOrReplaceFull E f k v = record { number = 6; applies = (s : State) × Stands E f s × NoRoom s (putChange E s k v) }
 
-abbrev pub eraseFull : List ℕ → List ℕ → Ground
-eraseFull f k = record { number = 6; applies = (s : State) × Stands edition1 f s × EraseFull edition1 s k }
+abbrev pub eraseFull : Edition → List ℕ → List ℕ → Ground
+eraseFull E f k = record { number = 6; applies = (s : State) × Stands E f s × EraseFull E s k }
 
 -- ---- the set of records
 

@@ -7,7 +7,7 @@ use mathlib.Core.Bool.{true, false}
 use mathlib.Core.Option.{Option, none, some}
 use lib.ListN.{length, take, drop}
 use Rattle.model.specs.Strings.{pick}
-use Rattle.model.specs.Edition.{edition1}
+use Rattle.model.specs.Edition.{Edition}
 use Rattle.model.specs.State.{State, findIn}
 use Rattle.model.specs.Visits.{visitsIn}
 use Rattle.model.specs.Frame.{Root, rootArt}
@@ -23,14 +23,6 @@ abbrev pub valueIn : List ℕ → Option Part → Option (List ℕ)
 valueIn f none = none
 valueIn f (some p) = some (take (p .long) (drop (p .at) f))
 
--- key k was looked up in f, which stands for st with the root r
-pub record Looked (f k : List ℕ) (st : State) (r : Root) (v : Held) : Type 0 where
-  pub at : partOf v ≡ findAt edition1 r k
-  pub value : findIn edition1 (st .tree) k ≡ valueIn f (partOf v)
-  pub inside : v .found ≡ true → v .place + v .length ≤ length f
-  pub absent : v .found ≡ false → (v .place ≡ 0) × (v .length ≡ 0)
-  pub visited : v .slots ≡ visitsIn edition1 (rootArt r) k
-
 -- n bytes on from a place in memory, which is a block and an offset in it (`ptr` of a reference)
 abbrev pub shifted : ℕ × ℕ → ℕ → ℕ × ℕ
 shifted p n = (p .0, n + p .1)
@@ -39,3 +31,12 @@ shifted p n = (p .0, n + p .1)
 pub record Handed (f : List ℕ) (start : ℕ × ℕ) (g : Found) (here : ℕ × ℕ) (part : List ℕ) : Type 0 where
   pub stands : here ≡ shifted start (g .place)
   pub bytes : part ≡ take (g .long) (drop (g .place) f)
+
+module _ (E : Edition) where
+  -- key k was looked up in f, which stands for st with the root r
+  pub record Looked (f k : List ℕ) (st : State) (r : Root) (v : Held) : Type 0 where
+    pub at : partOf v ≡ findAt E r k
+    pub value : findIn E (st .tree) k ≡ valueIn f (partOf v)
+    pub inside : v .found ≡ true → v .place + v .length ≤ length f
+    pub absent : v .found ≡ false → (v .place ≡ 0) × (v .length ≡ 0)
+    pub visited : v .slots ≡ visitsIn E (rootArt r) k

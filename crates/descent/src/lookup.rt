@@ -3,13 +3,13 @@ use crate::spot::Spot;
 use crate::walk;
 use fields::body::Leaf;
 ghost use denote.Ref.{ptr};
-ghost use Rattle.model.specs.Edition.{edition1};
+ghost use Rattle.model.specs.Edition.{editionOf, Legal};
 ghost use Rattle.model.specs.State.{State};
 ghost use Rattle.model.specs.Visits.{visitsIn};
 ghost use Rattle.model.specs.Frame.{Stands, rootArt};
 ghost use Rattle.model.specs.Touch.{findAt};
 ghost use Rattle.model.specs.Promise.{foundOf};
-ghost use Rattle.descent.specs.Spot.{Standing};
+ghost use Rattle.descent.specs.Spot.{Standing, Sought};
 ghost use Rattle.descent.specs.Lookup.{Looked, Handed};
 
 pub struct Held {
@@ -21,12 +21,12 @@ pub struct Held {
     pub slots: usize,
 }
 
-// Where a key's value stands in a good frame.
-pub fn find(f: &[u8], key: &[u8]) -> Held
-    requires { ⌜ Standing (now f) ⌝ }
-    ensures { λ r. ⌜ ((st : State) (W : Stands edition1 (now (f .entry)) st) → Looked (now (f .entry)) (now (key .entry)) st (W .root) r) ⌝ }
+// Where a key's value stands in a good frame, by what is read of the key on the way.
+fn found(f: &[u8], key: &[u8], word: &[u8], edition: usize) -> Held
+    requires { ⌜ Standing (editionOf edition) (now f) × Sought (editionOf edition) (now key) (now word) ⌝ }
+    ensures { λ r. ⌜ ((st : State) (W : Stands (editionOf edition) (now (f .entry)) st) → Looked (editionOf edition) (now (f .entry)) (now (key .entry)) st (W .root) r) ⌝ }
 {
-    let s = walk::descend(f, key);
+    let s = walk::descend(f, key, word, edition);
     if s.end != Spot::FOUND {
         return Held {
             found: false,
@@ -47,12 +47,25 @@ pub fn find(f: &[u8], key: &[u8]) -> Held
     }
 }
 
-// The value as a part of the frame; for an absent key the empty part at its start.
-pub fn value<'a>(f: &'a [u8], key: &[u8]) -> &'a [u8]
-    requires { ⌜ Standing (now f) ⌝ }
-    ensures { λ r. ⌜ ((st : State) (W : Stands edition1 (now (f .entry)) st) → Handed (now (f .entry)) (ptr (f .entry)) (foundOf (findAt edition1 (W .root) (now (key .entry))) (visitsIn edition1 (rootArt (W .root)) (now (key .entry)))) (ptr r) (now r)) ⌝ }
+// Where a legal key's value stands in a good frame.
+pub fn find(f: &[u8], key: &[u8], edition: usize) -> Held
+    requires { ⌜ Standing (editionOf edition) (now f) × Legal (editionOf edition) (now key) ⌝ }
+    ensures { λ r. ⌜ ((st : State) (W : Stands (editionOf edition) (now (f .entry)) st) → Looked (editionOf edition) (now (f .entry)) (now (key .entry)) st (W .root) r) ⌝ }
 {
-    let v = find(f, key);
+    if edition == keys::SECOND {
+        let mut word: [u8; keys::LONGEST_WORD] = [0; keys::LONGEST_WORD];
+        let n = keys::walk(key, &mut word, edition);
+        return found(f, key, &word[0..n], edition);
+    }
+    found(f, key, key, edition)
+}
+
+// The value as a part of the frame; for an absent key the empty part at its start.
+pub fn value<'a>(f: &'a [u8], key: &[u8], edition: usize) -> &'a [u8]
+    requires { ⌜ Standing (editionOf edition) (now f) × Legal (editionOf edition) (now key) ⌝ }
+    ensures { λ r. ⌜ ((st : State) (W : Stands (editionOf edition) (now (f .entry)) st) → Handed (now (f .entry)) (ptr (f .entry)) (foundOf (findAt (editionOf edition) (W .root) (now (key .entry))) (visitsIn (editionOf edition) (rootArt (W .root)) (now (key .entry)))) (ptr r) (now r)) ⌝ }
+{
+    let v = find(f, key, edition);
     if v.found {
         let from = v.place;
         let to = from + v.length;

@@ -1,5 +1,4 @@
 // The descent: from the root slot a step at a time, by the key's walked string.
-use crate::key;
 use crate::spot::Spot;
 use fields::body::Leaf;
 use fields::body::Prefix;
@@ -7,34 +6,36 @@ use fields::header::Header;
 use inner::look;
 use layout::entry::Entry;
 use layout::kind::Kind;
-ghost use Rattle.model.specs.Edition.{edition1};
+ghost use mathlib.Core.List.{List};
+ghost use Prim.Native.Nat.{ℕ};
+ghost use Rattle.model.specs.Edition.{Edition, editionOf};
 ghost use Rattle.model.specs.State.{State};
 ghost use Rattle.model.specs.Frame.{Stands};
-ghost use Rattle.descent.specs.Spot.{SpotAt, Standing, Underway, AtLeaf, AtPrefix, AtNode, Stepped};
+ghost use Rattle.descent.specs.Spot.{SpotAt, Standing, Sought, Underway, AtLeaf, AtPrefix, AtNode, Stepped, SomeDescent};
 
 // At a Leaf: "Trusting the path without comparing the whole key at the Leaf" is an error.
-fn at_leaf(f: &[u8], key: &[u8], s: Spot, place: usize) -> Spot
-    requires { ⌜ AtLeaf (now f) (now key) s place ⌝ }
-    ensures { λ r. ⌜ Stepped (now (f .entry)) (now (key .entry)) s r ⌝ }
+fn at_leaf(f: &[u8], key: &[u8], s: Spot, place: usize, edition: usize) -> Spot
+    requires { ⌜ AtLeaf (editionOf edition) (now f) (now key) s place ⌝ }
+    ensures { λ r. ⌜ Stepped (editionOf edition) (now (f .entry)) (now (key .entry)) s r ⌝ }
 {
     let from = Leaf::extent(f, place);
     let n = Leaf::key_length(f, place);
-    if key::stands_at(key, f, from, n) {
+    if keys::stands_at(key, f, from, n) {
         return s.ended(Spot::FOUND, place, Kind::LEAF, 0);
     }
     let to = from + n;
     let depth = s.depth;
-    let q = key::shared_from(key, &f[from..to], depth);
+    let q = keys::shared_from(key, &f[from..to], depth, edition);
     s.ended(Spot::OTHER, place, Kind::LEAF, q)
 }
 
-fn at_prefix(f: &[u8], key: &[u8], s: Spot, place: usize) -> Spot
-    requires { ⌜ AtPrefix (now f) (now key) s place ⌝ }
-    ensures { λ r. ⌜ Stepped (now (f .entry)) (now (key .entry)) s r ⌝ }
+fn at_prefix(f: &[u8], word: &[u8], s: Spot, place: usize) -> Spot
+    requires { ⌜ SomeDescent (λ E k. AtPrefix E (now f) k (now word) s place) ⌝ }
+    ensures { λ r. ⌜ ((E : Edition) (k : List ℕ) → AtPrefix E (now (f .entry)) k (now (word .entry)) s place → Stepped E (now (f .entry)) k s r) ⌝ }
 {
     let n = Prefix::length(f, place);
     let depth = s.depth;
-    let q = key::matched(Prefix::bytes(f, place, n), key, depth);
+    let q = keys::matched(Prefix::bytes(f, place, n), word, depth);
     if q < n {
         return s.ended(Spot::PARTED, place, Kind::PREFIX, q);
     }
@@ -42,12 +43,12 @@ fn at_prefix(f: &[u8], key: &[u8], s: Spot, place: usize) -> Spot
     s.below_prefix(place, n, child)
 }
 
-fn at_node(f: &[u8], key: &[u8], s: Spot, place: usize, kind: usize) -> Spot
-    requires { ⌜ AtNode (now f) (now key) s place kind ⌝ }
-    ensures { λ r. ⌜ Stepped (now (f .entry)) (now (key .entry)) s r ⌝ }
+fn at_node(f: &[u8], word: &[u8], s: Spot, place: usize, kind: usize) -> Spot
+    requires { ⌜ SomeDescent (λ E k. AtNode E (now f) k (now word) s place kind) ⌝ }
+    ensures { λ r. ⌜ ((E : Edition) (k : List ℕ) → AtNode E (now (f .entry)) k (now (word .entry)) s place kind → Stepped E (now (f .entry)) k s r) ⌝ }
 {
     let depth = s.depth;
-    let b = key::walked_at(key, depth);
+    let b = keys::at(word, depth);
     let seat = look::seat(f, place, kind, b);
     if seat.slot == 0 {
         return s.ended(Spot::MISSING, place, kind, 0);
@@ -56,25 +57,25 @@ fn at_node(f: &[u8], key: &[u8], s: Spot, place: usize, kind: usize) -> Spot
 }
 
 // One step: deeper, or to the end.
-fn step(f: &[u8], key: &[u8], s: Spot) -> Spot
-    requires { ⌜ Underway (now f) (now key) s ⌝ }
-    ensures { λ r. ⌜ Stepped (now (f .entry)) (now (key .entry)) s r ⌝ }
+fn step(f: &[u8], key: &[u8], word: &[u8], s: Spot, edition: usize) -> Spot
+    requires { ⌜ Underway (editionOf edition) (now f) (now key) s × Sought (editionOf edition) (now key) (now word) ⌝ }
+    ensures { λ r. ⌜ Stepped (editionOf edition) (now (f .entry)) (now (key .entry)) s r ⌝ }
 {
     let here = s.here;
     let e = Entry::read(f, here.slot);
     if e.high == Kind::LEAF {
-        return at_leaf(f, key, s, e.place);
+        return at_leaf(f, key, s, e.place, edition);
     }
     if e.high == Kind::PREFIX {
-        return at_prefix(f, key, s, e.place);
+        return at_prefix(f, word, s, e.place);
     }
-    at_node(f, key, s, e.place, e.high)
+    at_node(f, word, s, e.place, e.high)
 }
 
-// Where the way of a key through a good frame ends.
-pub fn descend(f: &[u8], key: &[u8]) -> Spot
-    requires { ⌜ Standing (now f) ⌝ }
-    ensures { λ r. ⌜ ((st : State) (W : Stands edition1 (now (f .entry)) st) → SpotAt (now (key .entry)) (W .root) r) ⌝ }
+// Where the way of a legal key through a good frame ends; `word` is what is read of it on the way.
+pub fn descend(f: &[u8], key: &[u8], word: &[u8], edition: usize) -> Spot
+    requires { ⌜ Standing (editionOf edition) (now f) × Sought (editionOf edition) (now key) (now word) ⌝ }
+    ensures { λ r. ⌜ ((st : State) (W : Stands (editionOf edition) (now (f .entry)) st) → SpotAt (editionOf edition) (now (key .entry)) (W .root) r) ⌝ }
 {
     let slot = Header::root(f);
     let e = Entry::read(f, slot);
@@ -83,7 +84,7 @@ pub fn descend(f: &[u8], key: &[u8]) -> Spot
         return s.ended(Spot::EMPTY, e.place, Kind::EMPTY_ROOT, 0);
     }
     loop {
-        s = step(f, key, s);
+        s = step(f, key, word, s, edition);
         if s.end != Spot::GOING {
             return s;
         }

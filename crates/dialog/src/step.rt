@@ -66,7 +66,12 @@ fn format_line(
             written: number(out, 1),
         };
     }
-    let n = answers::format_number(format(&mut buffer[..length], length, capacity));
+    let n = answers::format_number(format(
+        &mut buffer[..length],
+        length,
+        capacity,
+        Header::FIRST_EDITION,
+    ));
     let written = number(out, n);
     if n == 0 {
         Stepped {
@@ -85,7 +90,7 @@ fn put_line(frame: &mut [u8], key: &[u8], value: &[u8], out: &mut [u8]) -> usize
 {
     number(
         out,
-        answers::put_or_replace_number(put_or_replace(frame, key, value)),
+        answers::put_or_replace_number(put_or_replace(frame, key, value, Header::FIRST_EDITION)),
     )
 }
 
@@ -93,19 +98,22 @@ fn erase_line(frame: &mut [u8], key: &[u8], out: &mut [u8]) -> usize
     requires { ⌜ Wide (now out) ⌝ }
     ensures { λ r. ⌜ Answer (now (out .exit)) r (λ t. Erases edition1 (now (frame .entry)) (now (key .entry)) (now (frame .exit)) t) ⌝ }
 {
-    number(out, answers::erase_number(erase(frame, key)))
+    number(
+        out,
+        answers::erase_number(erase(frame, key, Header::FIRST_EDITION)),
+    )
 }
 
 fn get_line(frame: &[u8], key: &[u8], out: &mut [u8]) -> usize
     requires { ⌜ Wide (now out) × (List·length (now frame) ≤ 16384) ⌝ }
     ensures { λ r. ⌜ Answer (now (out .exit)) r (λ t. Gets edition1 (now (frame .entry)) (now (key .entry)) (now (frame .entry)) t) ⌝ }
 {
-    let n = answers::look_up_number(look_up(frame, key));
+    let n = answers::look_up_number(look_up(frame, key, Header::FIRST_EDITION));
     if n != 0 {
         return number(out, n);
     }
     let at = append(out, 0, b"0 ");
-    let end = append(out, at, value(frame, key));
+    let end = append(out, at, value(frame, key, Header::FIRST_EDITION));
     append(out, end, b"\n")
 }
 
@@ -133,7 +141,7 @@ fn pack_line(frame: &[u8], packed: &mut [u8], out: &mut [u8]) -> usize
     requires { ⌜ Wide (now out) × (List·length (now packed) ≡ List·length (now frame)) ⌝ }
     ensures { λ r. ⌜ Answer (now (out .exit)) r (λ t. Packs edition1 (now (frame .entry)) (now (frame .entry)) t) ⌝ }
 {
-    let n = answers::pack_number(pack(frame, packed));
+    let n = answers::pack_number(pack(frame, packed, Header::FIRST_EDITION));
     if n != 0 {
         return number(out, n);
     }

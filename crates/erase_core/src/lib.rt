@@ -13,13 +13,17 @@ use layout::kind::Kind;
 use room::fit;
 use room::left;
 ghost use Rattle.answers.specs.Number.{eraseNumber};
+ghost use Rattle.model.specs.Edition.{Edition, SomeEdition, editionOf, Legal};
+ghost use Rattle.model.specs.State.{State};
+ghost use Rattle.model.specs.Frame.{Stands};
+ghost use Rattle.descent.specs.Spot.{SpotAt, Standing};
 ghost use Rattle.erase_remove.specs.Erase.{EraseAt, EraseStep};
 ghost use Rattle.erase_core.specs.Core.{Asked, EraseMade};
 
 // The edit that the Leaf's node calls for: it keeps its kind, or it falls to the mark of its kind, a Node4 to one child.
 fn apply(f: &mut [u8], key: &[u8], spot: Spot)
-    requires { ⌜ EraseAt (now f) (now key) spot ⌝ }
-    ensures { λ _. ⌜ EraseStep (now (f .entry)) (now (key .entry)) (now (f .exit)) ⌝ }
+    requires { ⌜ SomeEdition (λ E. EraseAt E (now f) (now key) spot) ⌝ }
+    ensures { λ _. ⌜ ((E : Edition) → EraseAt E (now (f .entry)) (now (key .entry)) spot → EraseStep E (now (f .entry)) (now (key .entry)) (now (f .exit))) ⌝ }
 {
     let node = spot.node;
     if look::count(f, node.place) != kind::shrink_mark(node.kind) + 1 {
@@ -33,11 +37,24 @@ fn apply(f: &mut [u8], key: &[u8], spot: Spot)
     shrink::shrink(f, spot);
 }
 
-pub fn erase(f: &mut [u8], key: &[u8]) -> Erase
-    requires { ⌜ Asked (now f) (now key) ⌝ }
-    ensures { λ r. ⌜ EraseMade (now (f .entry)) (now (key .entry)) (eraseNumber r) (now (f .exit)) ⌝ }
+// Where a legal key leads. On the way edition 2 reads its walked string, written out, and edition 1 the key itself.
+fn spot_of(f: &[u8], key: &[u8], edition: usize) -> Spot
+    requires { ⌜ Standing (editionOf edition) (now f) × Legal (editionOf edition) (now key) ⌝ }
+    ensures { λ r. ⌜ ((st : State) (W : Stands (editionOf edition) (now (f .entry)) st) → SpotAt (editionOf edition) (now (key .entry)) (W .root) r) ⌝ }
 {
-    let spot = walk::descend(f, key);
+    if edition == keys::SECOND {
+        let mut word: [u8; keys::LONGEST_WORD] = [0; keys::LONGEST_WORD];
+        let n = keys::walk(key, &mut word, edition);
+        return walk::descend(f, key, &word[0..n], edition);
+    }
+    walk::descend(f, key, key, edition)
+}
+
+pub fn erase(f: &mut [u8], key: &[u8], edition: usize) -> Erase
+    requires { ⌜ Asked (editionOf edition) (now f) (now key) ⌝ }
+    ensures { λ r. ⌜ EraseMade (editionOf edition) (now (f .entry)) (now (key .entry)) (eraseNumber r) (now (f .exit)) ⌝ }
+{
+    let spot = spot_of(f, key, edition);
     if spot.end != Spot::FOUND {
         return Erase::Absent;
     }

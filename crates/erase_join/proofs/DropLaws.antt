@@ -2,8 +2,9 @@
 use Prim.Native.Nat.{ℕ, _≤_}
 use mathlib.Core.List.{List, [], _∷_, _++_}
 use native.Mathlib.Omega.{arith}
+use lib.ListN.{length}
 use Rattle.layout.specs.Kind.{Kind, Node4}
-use Rattle.model.specs.Edition.{edition1}
+use Rattle.model.specs.Edition.{Edition}
 use Rattle.model.specs.Tree.{extentOf}
 use Rattle.model.specs.Item.{Item, body}
 use Rattle.model.specs.Frame.{Lay, View}
@@ -17,6 +18,7 @@ use Rattle.between.proofs.SinceLaws.{since-free}
 use Rattle.between.proofs.BookedLaws.{booked-free}
 use Rattle.chain.proofs.RunLaws.{Release}
 use Rattle.erase_remove.specs.Leaf as one
+use Rattle.erase_remove.proofs.LeafLaws.{DropLeaf}
 use Rattle.erase_join.specs.Drop.{Over, Dropped}
 
 pub kind-four : Kind Node4
@@ -24,16 +26,11 @@ kind-four = (omega arith, omega arith, λ z. omega arith)
 
 -- ---- the first loose body is freed
 
--- what `drop_leaf` says
-abbrev pub DropLeaf : List ℕ → List ℕ → ℕ → ℕ → Type 0
-DropLeaf f g n o = (h : View) (xs : List Step) (s : ℕ) (path : List ℕ) (e : ℕ) (k v : List ℕ) (ts : List (List ℕ × Lay)) (loose : List Item)
-    → Work edition1 f h xs s ((path, leaf n o e k v) ∷ ts) loose → one.Dropped f g h xs s ts loose n o e k v
-
 -- what is owned besides the first loose item
 abbrev pub besides : List Item → List Step → List (List ℕ × Lay) → List Item
 besides loose xs ts = loose ++ (stepsItems xs ++ forestItems ts)
 
-module _ {f : List ℕ} {h : View} {xs : List Step} {s : ℕ} {ts : List (List ℕ × Lay)} {loose : List Item} {n k o : ℕ} (W : Work edition1 f h xs s ts (body n k o ∷ loose)) where
+module _ {E : Edition} {f : List ℕ} {h : View} {xs : List Step} {s : ℕ} {ts : List (List ℕ × Lay)} {loose : List Item} {n k o : ℕ} (W : Work E f h xs s ts (body n k o ∷ loose)) where
   pub frees-first : Kind k → Frees f n k
   frees-first K = record { view = h; heap = W .heap; kind = K; place = o; rest = besides loose xs ts; owns = first-owns W; placeIs = entries-first f n k o loose (W .entries) .0 .placeIs }
 
@@ -49,16 +46,16 @@ module _ (h : View) (s : ℕ) (t : Lay) (node o : ℕ) (path : List ℕ) (g q e 
   abbrev view1 : View
   view1 = released h node Node4 o rest
 
-  module _ {f f1 : List ℕ} (W : Over f h s t node o path g q e k v) (R : Release f f1 node Node4) where
-    W1 : Work edition1 f1 view1 [] s ((path, leaf g q e k v) ∷ ([], t) ∷ []) []
+  module _ {E : Edition} {f f1 : List ℕ} (W : Over E f h s t node o path g q e k v) (R : Release f f1 node Node4) where
+    W1 : Work E f1 view1 [] s ((path, leaf g q e k v) ∷ ([], t) ∷ []) []
     W1 = work-swap [] t path (leaf g q e k v) [] (work-free W (freed-first W R))
 
-    pub drops-leaf : 1 ≤ h .nums .R → one.Drops f1 g q
-    drops-leaf l = record { view = view1; steps = []; named = s; path = path; extent = e; key = k; value = v; trees = ([], t) ∷ []; loose = []; work = W1; records = l }
+    pub drops-leaf : 1 ≤ length k → 1 ≤ h .nums .R → one.Drops f1 g q
+    drops-leaf some l = record { edition = E; view = view1; steps = []; named = s; path = path; extent = e; key = k; value = v; trees = ([], t) ∷ []; loose = []; work = W1; some = some; records = l }
 
-    pub dropped : {f2 : List ℕ} → DropLeaf f1 f2 g q → Dropped f f2 h s t node o g q e k v
+    pub dropped : {f2 : List ℕ} → DropLeaf f1 f2 g q → Dropped E f f2 h s t node o g q e k v
     dropped D =
-        let X = D view1 [] s path e k v (([], t) ∷ []) [] W1 in
+        let X = D E view1 [] s path e k v (([], t) ∷ []) [] W1 in
         record {
           view = X .view;
           work = X .work;

@@ -43,6 +43,13 @@ module _ (l : Lone) (u lay : Lay) (d : ℕ) (eu : art u ≡ asPrefix (bytesOf u)
       ap (λ x. loneChild (l .byte) x (lost l u d)) eu ∙ lone-run (l .byte) p (art (tipOf u)) (lost l u d) (node-inner (tipOf u) i)
       ∙ rechained-is (chain (length p)) (chain (suc (length p))) (lacks u) 0 (Art.prefix (l .byte ∷ p) (art (tipOf u))) el refl (omega arith)
 
+  -- below a Prefix of bytes p that is full
+  pub full-leaves : (p : List ℕ) → length p ≡ 112 → art lay ≡ Art.prefix (p ++ l .byte ∷ bytesOf u) (art (tipOf u)) → underPrefix p (l .byte) (art u) (lost l u d) ≡ leaves (art lay) (prefixes (lacks u)) (Node4 ∷ Leaf ∷ []) d
+  full-leaves p full el =
+      let q = bytesOf u in
+      ap (λ x. underPrefix p (l .byte) x (lost l u d)) eu ∙ under-run p (l .byte) q (art (tipOf u)) (lost l u d) (node-inner (tipOf u) i)
+      ∙ rechained-is (chain (length p) + chain (length q)) (chain (length p + suc (length q))) (lacks u) 0 (Art.prefix (p ++ l .byte ∷ q) (art (tipOf u))) el (omega arith) (omega arith)
+
   -- a Prefix above of bytes p, which has room, does too, and m bodies fewer are left
   pub over-leaves : (p : List ℕ) (m : ℕ) → 1 ≤ length p → length p < 112 → art lay ≡ asPrefix ((p ++ l .byte ∷ []) ++ bytesOf u) (art (tipOf u)) → length (bodiesOf u) ≡ chain (length (bytesOf u))
       → chain (length ((p ++ l .byte ∷ []) ++ bytesOf u)) + m ≡ suc (length (bodiesOf u)) → underPrefix p (l .byte) (art u) (lost l u d) ≡ leaves (art lay) [] (prefixes m ++ Node4 ∷ Leaf ∷ []) d

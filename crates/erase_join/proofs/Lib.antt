@@ -1,7 +1,8 @@
 pub mod DropLaws
 pub mod SiteLaws
 pub mod JoinLaws
-pub mod OneLaws
+pub mod RunLaws
 pub mod UpLaws
 pub mod OverLaws
+pub mod NeedLaws
 pub mod PairLaws

@@ -11,7 +11,7 @@ use borrow.Author.Tests.{eq-eqb, ne-eqb}
 use Rattle.layout.specs.Place.{entryAt}
 use Rattle.layout.specs.Kind.{Leaf, Prefix, Node4}
 use Rattle.layout.specs.Entry.{highOf}
-use Rattle.model.specs.Edition.{edition1}
+use Rattle.model.specs.Edition.{Edition}
 use Rattle.model.specs.State.{State, room, eraseChange}
 use Rattle.model.specs.Body.{PrefixAt, InnerAt, byteIn, childIn, lookKid}
 use Rattle.model.specs.Frame.{Lay, LayKids, slotOf, art, pairs, tree, Tree}
@@ -22,7 +22,7 @@ use Rattle.node.specs.Kids.{removeKid, Reached}
 use Rattle.node.proofs.KidsLaws.{reached-start, reached-next}
 use Rattle.inner.specs.Inner.{Visit}
 use Rattle.inner.proofs.InnerLaws.{inner-one, inner-asc, inner-count}
-use Rattle.between.specs.Hole.{Step, plug, pathOf}
+use Rattle.between.specs.Hole.{Step, under, among, plug, pathOf}
 use Rattle.between.proofs.TreeLaws.{leaf-parts, prefix-parts, node-parts}
 use Rattle.between.proofs.KidsLaws.{app-look, app-remove}
 use Rattle.between.proofs.WorkLaws.{forest-first}
@@ -30,9 +30,8 @@ use Rattle.descent.specs.declared.spot.Spot.{Spot}
 use Rattle.erase_remove.proofs.SpotLaws.{held, path, kids, left, gone, N0, left-none, count-is}
 use Rattle.erase_join.specs.declared.lone.Lone.{Lone}
 use Rattle.erase_join.specs.Erase.{Pair}
-use Rattle.between.specs.Lead.{NotLeaf}
-use Rattle.erase_join.specs.Lone.{IsLeaf, Told, Site, Ready, Bare, Capped, Roomy, Couple, AtSpot, Above, HasRoom}
-use Rattle.erase_join.proofs.OneLaws.{has-room}
+use Rattle.between.specs.Lead.{NotUnder, NotLeaf}
+use Rattle.erase_join.specs.Lone.{IsLeaf, Told, Full, Site, Ready, Bare, UnderRun, Capped, Roomy, Couple, AtSpot, Above, HasRoom}
 use Rattle.erase_join.proofs.UpLaws.{child-stood}
 use Rattle.erase_join.proofs.OverLaws.{opened-above}
 use Rattle.erase_join.proofs.SiteLaws.{beside, site-open}
@@ -94,15 +93,15 @@ module _ {f : List ℕ} {o b : ℕ} (C : Couple f o b) where
 
 -- ---- the entry of a child
 
-told : (f path : List ℕ) (u : Lay) (l : Lone) → Tree edition1 f path u → slotOf u ≡ l .child → l .kind ≡ highOf f (l .child) → Told l u
-told f path (leaf n o e k v) l T es ek =
-    let q : l .kind ≡ Leaf = ek ∙ ap (highOf f) (sym es) ∙ leaf-parts edition1 f path n o e k v T .0 .kindIs in
+told : (E : Edition) (f path : List ℕ) (u : Lay) (l : Lone) → Tree E f path u → slotOf u ≡ l .child → l .kind ≡ highOf f (l .child) → Told l u
+told E f path (leaf n o e k v) l T es ek =
+    let q : l .kind ≡ Leaf = ek ∙ ap (highOf f) (sym es) ∙ leaf-parts E f path n o e k v T .0 .kindIs in
     record { asLeaf = λ z. tt; other = λ z. absurd (z q) }
-told f path (prefix n o p t) l T es ek =
-    let q : l .kind ≡ Prefix = ek ∙ ap (highOf f) (sym es) ∙ prefix-parts edition1 f path n o p t T .0 .kindIs in
+told E f path (prefix n o p t) l T es ek =
+    let q : l .kind ≡ Prefix = ek ∙ ap (highOf f) (sym es) ∙ prefix-parts E f path n o p t T .0 .kindIs in
     record { asLeaf = λ z. absurd (omega arith); other = λ z. tt }
-told f path (node n o kind ks) l T es ek =
-    let P = node-parts edition1 f path n o kind ks T in
+told E f path (node n o kind ks) l T es ek =
+    let P = node-parts E f path n o kind ks T in
     let q : l .kind ≡ kind = ek ∙ ap (highOf f) (sym es) ∙ P .0 .kindIs in
     let r = P .1 .inner .range in
     record { asLeaf = λ z. absurd (omega arith); other = λ z. tt }
@@ -122,7 +121,7 @@ one-kid nil n = absurd (omega arith)
 one-kid (kid b j u nil) n = record { byte = b; place = j; child = u; is = refl }
 one-kid (kid b j u (kid c i t ks)) n = absurd (omega arith)
 
-module _ {f k : List ℕ} {p : Spot} (P : Pair f k p) where
+module _ {E : Edition} {f k : List ℕ} {p : Spot} (P : Pair E f k p) where
   abbrev s : State
   s = P .at .st
 
@@ -162,7 +161,7 @@ module _ {f k : List ℕ} {p : Spot} (P : Pair f k p) where
     whole-is : P .at .lay ≡ plug (held (P .at) .steps) (node (p .node .slot) (p .node .place) Node4 (kids (P .at) s (P .at .stands)))
     whole-is = held (P .at) .is ∙ ap (λ z. plug (held (P .at) .steps) (node (p .node .slot) (p .node .place) z (kids (P .at) s (P .at .stands)))) (P .kind)
 
-    pair-site : (kind : ℕ) → Site k (P .at .stands .root) (held (P .at) .steps) (loneOf b c kind) (left-one .child)
+    pair-site : (kind : ℕ) → Site E k (P .at .stands .root) (held (P .at) .steps) (loneOf b c kind) (left-one .child)
     pair-site kind =
         let H = held (P .at) in
         record {
@@ -185,11 +184,11 @@ module _ {f k : List ℕ} {p : Spot} (P : Pair f k p) where
     -- the child's entry
     pub child-entry : (1 ≤ c) × (entryAt c + 4 ≤ length f)
     child-entry =
-        let E = child-stood (P .at .stands) (pair-site 0) in
+        let C = child-stood (P .at .stands) (pair-site 0) in
         let e = slot-is in
-        (omega (arith, E .low), omega (arith, E .entry))
+        (omega (arith, C .low), omega (arith, C .entry))
 
-    pub pair-read : {kind : ℕ} → kind ≡ highOf f c → AtSpot f k p (loneOf b c kind)
+    pub pair-read : {kind : ℕ} → kind ≡ highOf f c → AtSpot E f k p (loneOf b c kind)
     unfolding pair-site
     pair-read {kind} ek =
         let H = held (P .at) in
@@ -198,51 +197,65 @@ module _ {f k : List ℕ} {p : Spot} (P : Pair f k p) where
         record {
           steps = H .steps;
           child = left-one .child;
-          is = told f q (left-one .child) (loneOf b c kind) (forest-first edition1 f q (left-one .child) (beside S) (site-open (P .at .stands) S .trees) .0) slot-is ek;
-          ready = record { st = s; stands = P .at .stands; site = S; room = subst (λ (z : Lay). room s (eraseChange edition1 (art z) k) ≡ true) whole-is (P .at .room) };
+          is = told E f q (left-one .child) (loneOf b c kind) (forest-first E f q (left-one .child) (beside S) (site-open (P .at .stands) S .trees) .0) slot-is ek;
+          ready = record { lawful = P .at .lawful; some = P .at .some; st = s; stands = P .at .stands; site = S; room = subst (λ (z : Lay). room s (eraseChange E (art z) k) ≡ true) whole-is (P .at .room) };
           linkIs = H .link;
           top = H .top;
         }
 
 -- ---- the join that the child and the Prefix above ask for
 
-module _ {f k : List ℕ} {p : Spot} {l : Lone} (A : AtSpot f k p l) where
-  bare-of : {Q : Lay → Type 0} → Q (A .child) → p .above .slot ≡ 0 → Bare Q f k l (p .node .link)
-  bare-of i e = record { steps = A .steps; child = A .child; is = i; ready = A .ready; free = A .top .without e; linkIs = A .linkIs }
-
-  capped-of : {Q : Lay → Type 0} → Q (A .child) → (p .above .slot ≡ 0 → ⊥) → Capped Q f k l (p .above)
+module _ {E : Edition} {f k : List ℕ} {p : Spot} {l : Lone} (A : AtSpot E f k p l) where
+  abbrev capped-of : {Q : Lay → Type 0} → Q (A .child) → (p .above .slot ≡ 0 → ⊥) → Capped E Q f k l (p .above)
   capped-of i n =
       let C = A .top .capped (omega arith) in
-      record { bytes = C .bytes; up = C .up; child = A .child; is = i; ready = subst (λ (xs : List Step). Ready f k xs l (A .child)) (C .is) (A .ready); linkIs = C .link }
+      record { bytes = C .bytes; up = C .up; child = A .child; is = i; ready = subst (λ (xs : List Step). Ready E f k xs l (A .child)) (C .is) (A .ready); linkIs = C .link }
 
-  above-at : {Q : Lay → Type 0} (C : Capped Q f k l (p .above)) → PrefixAt f (p .above .place) (C .bytes) (l .node)
+  above-at : {Q : Lay → Type 0} (C : Capped E Q f k l (p .above)) → PrefixAt f (p .above .place) (C .bytes) (l .node)
   above-at C = opened-above (C .ready .stands) (p .above) (C .bytes) (C .up) (C .ready .site) .1
 
   pub above-of : Above f (p .above)
   above-of n = let P = above-at (capped-of {Q = λ u. Unit {0}} tt n) in (P .room, omega (arith, P .long, P .most))
 
   module _ (kind : l .kind ≡ Leaf) where
-    pub leaf-bare : p .above .slot ≡ 0 → Bare IsLeaf f k l (p .node .link)
-    leaf-bare e = bare-of (A .is .asLeaf kind) e
+    pub leaf-bare : p .above .slot ≡ 0 → Bare E NotUnder IsLeaf f k l (p .node .link)
+    leaf-bare e = record { steps = A .steps; child = A .child; is = A .is .asLeaf kind; ready = A .ready; free = A .top .without e; linkIs = A .linkIs }
 
-    pub leaf-capped : (p .above .slot ≡ 0 → ⊥) → Capped IsLeaf f k l (p .above)
-    leaf-capped n = capped-of (A .is .asLeaf kind) n
+    pub leaf-under : (p .above .slot ≡ 0 → ⊥) → UnderRun E f k l (p .first) (p .«first_link»)
+    leaf-under n =
+        let R = A .top .run (omega arith) in
+        record {
+          run = R .run;
+          up = R .up;
+          only = R .only;
+          free = R .free;
+          top = R .top;
+          child = A .child;
+          is = A .is .asLeaf kind;
+          ready = subst (λ (xs : List Step). Ready E f k xs l (A .child)) (R .is) (A .ready);
+          linkIs = R .link;
+        }
 
   module _ {n : ℕ} (kind : l .kind ≡ Leaf → ⊥) (H : HasRoom f (p .above) n) where
-    -- one that stands above has room in edition 1
-    full-none : n ≡ 0 → p .above .slot ≡ 0
-    full-none z = elim (ℕ-discrete (p .above .slot) 0) [
-      | yes e ↦ e
+    none-full : (xs : List Step) → NotUnder xs → Full xs
+    none-full [] u = tt
+    none-full (under s o q ∷ xs) u = absurd u
+    none-full (among s o kind ls b j rs ∷ xs) u = tt
+
+    -- one that stands above has no room
+    full-above : n ≡ 0 → Full (A .steps)
+    full-above z = elim (ℕ-discrete (p .above .slot) 0) [
+      | yes e ↦ none-full (A .steps) (A .top .without e)
       | no d ↦
           let C = capped-of {Q = NotLeaf} (A .is .other kind) d in
-          let r = has-room (C .ready .stands) (p .above .slot) (p .above .place) (C .bytes) (C .up) (C .ready .site) (C .is) in
-          absurd (omega (arith, H .some d, above-at C .long))
+          let P = above-at C in
+          subst Full (sym (A .top .capped (omega arith) .is)) (omega (arith, H .some d, P .long, P .most))
     ]
 
-    pub other-bare : n ≡ 0 → Bare NotLeaf f k l (p .node .link)
-    other-bare z = bare-of (A .is .other kind) (full-none z)
+    pub other-bare : n ≡ 0 → Bare E Full NotLeaf f k l (p .node .link)
+    other-bare z = record { steps = A .steps; child = A .child; is = A .is .other kind; ready = A .ready; free = full-above z; linkIs = A .linkIs }
 
-    pub other-roomy : (n ≡ 0 → ⊥) → Roomy f k l (p .above)
+    pub other-roomy : (n ≡ 0 → ⊥) → Roomy E f k l (p .above)
     other-roomy z =
         let d : p .above .slot ≡ 0 → ⊥ = λ e. z (H .none e) in
         record { capped = capped-of (A .is .other kind) d; room = omega (arith, H .some d) }

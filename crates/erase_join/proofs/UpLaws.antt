@@ -1,26 +1,31 @@
--- The joins where no Prefix stands above the Node4. Assumes nothing.
-use Prim.Native.Nat.{ℕ, _+_, _<_, _≤_}
+-- The joins where no Prefix stands above the Node4, or one that is full. Assumes nothing.
+use Prim.Native.Nat.{ℕ, suc, _+_, _≤_}
 use mathlib.Core.Path.{_≡_, refl, sym, ap, subst, _∙_}
 use mathlib.Core.List.{List, [], _∷_, _++_, append-assoc, append-nil}
-use mathlib.Core.Bool.{true}
+use mathlib.Core.Bool.{true, false}
 use native.Mathlib.Omega.{arith}
+use native.Mathlib.Decide.{decLe}
+use lib.ListN.{length, length-append}
+use lib.Dec.{ltb}
+use borrow.Author.Tests.{le-ltb}
 use Rattle.layout.specs.Kind.{Leaf, Prefix, Node4}
-use Rattle.model.specs.Edition.{edition1}
-use Rattle.model.specs.Tree.{Art, Change, Left, prefixes, asPrefix, extentOf, loneChild}
+use Rattle.model.specs.Edition.{Edition, Lawful}
+use Rattle.model.specs.Tree.{Art, Change, Left, chain, prefixes, asPrefix, extentOf, loneChild}
 use Rattle.model.specs.Tree.Left.{kept}
 use Rattle.model.specs.State.{State, room, eraseChange}
 use Rattle.model.specs.Item.{Item, body, cover, leafy, sum}
-use Rattle.model.specs.Frame.{Lay, IsNode, slotOf, art, items, rootItems, tree, Tree, View, Stands}
+use Rattle.model.specs.Frame.{Lay, IsNode, slotOf, atop, art, items, rootItems, tree, Tree, View, Stands}
 use Rattle.model.specs.Frame.Lay.{leaf, prefix, node}
-use Rattle.model.specs.Touch.{among, holder, held, Above, touchLone, stay}
-use Rattle.model.specs.Mark.{mark, marks, rootMarks, count, like}
-use Rattle.model.specs.Freedom.{is}
+use Rattle.model.specs.Touch.{among, holder, held, Above, chainSlots, chainLong, touchLone, Touch, touch}
+use Rattle.model.specs.Mark.{Mark, mark, marks, count, is, common, slotIs}
+use Rattle.model.proofs.StringLaws.{clash, shared-left}
 use Rattle.model.proofs.ItemLaws.{sum-app, sum-cons}
 use Rattle.model.proofs.ChainLaws.{inner-atop}
 use Rattle.model.proofs.OneBody.{node-inner}
-use Rattle.model.proofs.MarkLaws.{leaf-marks, prefix-marks, is-to, counts-like, stay-more}
+use Rattle.model.proofs.MarkLaws.{Stay, leaf-marks, is-same, common-of, stay-more}
 use Rattle.room.specs.View.{Roomy, rooted}
 use Rattle.room.specs.Book.{takenAll, RoomFor, Kinds}
+use Rattle.room.specs.Link.{Relinked}
 use Rattle.room.proofs.BookLaws.{room-first}
 use Rattle.between.specs.Hole.{Step, under, plug, pathOf, stepsItems, holderOf, Link, artIn}
 use Rattle.between.specs.Hole as hole
@@ -28,56 +33,68 @@ use Rattle.between.specs.Work.{Suits, rootOf, Work}
 use Rattle.between.specs.Lead.{NotUnder, NotLeaf, aboveOf}
 use Rattle.between.specs.Since.{holderItems, SlotsIn}
 use Rattle.between.proofs.TreeLaws.{sum-none, leaf-parts, as-leaf, begins-less}
-use Rattle.between.proofs.HoleLaws.{art-plug}
+use Rattle.between.proofs.HoleLaws.{art-plug, plug-under, hole-out}
 use Rattle.between.proofs.WorkLaws.{stands-tree, standsView, work-as, work-close, forest-first, forest-more, forest-sum}
 use Rattle.between.proofs.LinkLaws.{relinked}
-use Rattle.between.proofs.LeadLaws.{hangs-in, hangs-free}
-use Rattle.between.proofs.EraseLaws.{withNow, plug-lone}
+use Rattle.between.proofs.LeadLaws.{HangsIn, hangs-in, hangs-over, hangs-free}
+use Rattle.between.proofs.EraseLaws.{withNow, plug-lone, plug-under-lone}
 use Rattle.between.proofs.SinceLaws.{since-start, since-also, since-link}
 use Rattle.between.proofs.BookedLaws.{tally-turn, booked-row, booked-root, room-of}
 use Rattle.between.proofs.OutsideLaws.{among-here, among-there, slots-later, slots-app, holder-sum, holder-slots}
-use Rattle.between.proofs.StayLaws.{stay-plug}
-use Rattle.room.specs.Link.{Relinked}
-use Rattle.erase_remove.proofs.RemoveLaws.{booked-none}
-use Rattle.erase_join.specs.declared.lone.Lone.{Lone}
-use Rattle.erase_join.specs.Lone.{IsLeaf, Site, pairOf}
+use Rattle.between.proofs.StayLaws.{LastIn, stay-plug, last-plug}
 use Rattle.chain.specs.Row.{rowItems, bodiesOf, bytesOf, tipOf}
 use Rattle.chain.specs.Shift.{lacks, Pushing, Pushed, RunPushed, Pushes}
 use Rattle.chain.proofs.RowLaws.{row-leafy, row-bodies}
 use Rattle.chain.proofs.TakeLaws.{prefix-kind, kinds-row}
 use Rattle.chain.proofs.ReadLaws.{Stood, tree-stood}
-use Rattle.chain.proofs.RunLaws.{node-run, run-sum, run-art}
+use Rattle.chain.proofs.RunLaws.{run-sum, run-art, run-chained, run-not-leaf}
 use Rattle.chain.proofs.PushLaws.{pushed-art}
-use Rattle.erase_join.proofs.JoinLaws.{up-leaves}
-use Rattle.erase_join.proofs.OneLaws.{child-one, child-few, left-front, left-new}
-use Rattle.erase_join.proofs.SiteLaws.{leaves, lost, nodeBody, beside, site-change, site-open, site-sum, site-left, Mid}
+use Rattle.chain.proofs.AlongLaws.{Ranged, tree-ranged, Along, along-more, along-like, along-last}
+use Rattle.erase_remove.proofs.RemoveLaws.{booked-none}
+use Rattle.erase_join.specs.declared.lone.Lone.{Lone}
+use Rattle.erase_join.specs.Lone.{IsLeaf, Full, Site, pairOf}
+use Rattle.erase_join.proofs.JoinLaws.{up-leaves, full-leaves}
+use Rattle.chain.proofs.LongLaws.{run-few}
+use Rattle.erase_join.proofs.RunLaws.{run-slots, among-first, among-later}
+use Rattle.erase_join.proofs.SiteLaws.{leaves, lost, nodeBody, beside, site-change, site-open, site-sum, site-left, site-marks, Mid}
 
 -- ---- what the joins share
 
 -- a Leaf stands under a shorter path too
-pub leaf-shorter : {f : List ℕ} {h : View} {xs : List Step} {s : ℕ} {ts : List (List ℕ × Lay)} {loose : List Item} (p q : List ℕ) (n o e : ℕ) (k v : List ℕ)
-    → Work edition1 f h xs s ((p ++ q, leaf n o e k v) ∷ ts) loose → Work edition1 f h xs s ((p, leaf n o e k v) ∷ ts) loose
-leaf-shorter {f} {ts = ts} p q n o e k v W =
-    let F = forest-first edition1 f (p ++ q) (leaf n o e k v) ts (W .trees) in
-    let T = leaf-parts edition1 f (p ++ q) n o e k v (F .0) in
+pub leaf-shorter : {E : Edition} {f : List ℕ} {h : View} {xs : List Step} {s : ℕ} {ts : List (List ℕ × Lay)} {loose : List Item} (p q : List ℕ) (n o e : ℕ) (k v : List ℕ)
+    → Work E f h xs s ((p ++ q, leaf n o e k v) ∷ ts) loose → Work E f h xs s ((p, leaf n o e k v) ∷ ts) loose
+leaf-shorter {E} {f} {ts = ts} p q n o e k v W =
+    let F = forest-first E f (p ++ q) (leaf n o e k v) ts (W .trees) in
+    let T = leaf-parts E f (p ++ q) n o e k v (F .0) in
     let L = T .1 in
     work-as W (λ w. omega (arith, forest-sum w (p ++ q) (leaf n o e k v) ts, forest-sum w p (leaf n o e k v) ts))
-    (forest-more edition1 f p (leaf n o e k v) ts (as-leaf edition1 f p n o e k v (T .0) (record { at = L .at; eights = L .eights; legal = L .legal; begins = begins-less (edition1 .walked k) p q (L .begins) })) (F .1)) (W .entries)
+    (forest-more E f p (leaf n o e k v) ts (as-leaf E f p n o e k v (T .0) (record { at = L .at; eights = L .eights; legal = L .legal; begins = begins-less (E .walked k) p q (L .begins) })) (F .1)) (W .entries)
 
-module _ {f k : List ℕ} {s : State} (w : Stands edition1 f s) {xs : List Step} {l : Lone} {u : Lay} (P : Site k (w .root) xs l u) where
+module _ {E : Edition} {f k : List ℕ} {s : State} (w : Stands E f s) {xs : List Step} {l : Lone} {u : Lay} (P : Site E k (w .root) xs l u) where
   pub child-stood : Stood f u
   child-stood = tree-stood (pathOf xs ++ l .byte ∷ []) (beside P) (nodeBody P) u (site-open w P)
+
+  pub child-tree : Tree E f (pathOf xs ++ l .byte ∷ []) u
+  child-tree = forest-first E f (pathOf xs ++ l .byte ∷ []) u (beside P) (site-open w P .trees) .0
+
+  -- a run above an inner node, if it is no Leaf
+  pub child-run : NotLeaf u → (art u ≡ asPrefix (bytesOf u) (art (tipOf u))) × IsNode (tipOf u)
+  child-run i = run-art E f (pathOf xs ++ l .byte ∷ []) u child-tree i
+
+  pub child-many : length (bodiesOf u) ≡ chain (length (bytesOf u))
+  child-many = run-chained E f (pathOf xs ++ l .byte ∷ []) u child-tree
+
+  pub child-ranged : NotLeaf u → Ranged u
+  child-ranged i = tree-ranged E f (pathOf xs ++ l .byte ∷ []) u child-tree i
+
+  pub child-few : Lawful E → NotLeaf u → length (bodiesOf u) ≤ 5
+  child-few law i = run-few law f (w .bytes) (pathOf xs ++ l .byte ∷ []) u child-tree i
 
   -- the two bodies that every join frees
   pub two-in : (v : Item → ℕ) → v (body (l .leaf) Leaf (l .at)) + v (body (l .node) Node4 (P .nodeAt)) + sum v (stepsItems xs) + sum v (items u) ≤ sum v (rootItems (w .root))
   two-in v = omega (arith, site-sum w P v)
 
 -- ---- no Prefix above
-
--- a kind after others
-pub among-later : (k : ℕ) (ks ls : List ℕ) → among k ls ≡ true → among k (ks ++ ls) ≡ true
-among-later k [] ls h = h
-among-later k (j ∷ ks) ls h = among-there k j (ks ++ ls) (among-later k ks ls h)
 
 above-held : (xs : List Step) → NotUnder xs → aboveOf xs ≡ held (holderOf xs)
 above-held [] n = refl
@@ -90,28 +107,22 @@ suits-free [] t n = tt
 suits-free (under s o p ∷ xs) t n = absurd n
 suits-free (hole.among s o kind ls b j rs ∷ xs) t n = tt
 
-module _ {f k : List ℕ} {s : State} (w : Stands edition1 f s) {xs : List Step} {l : Lone} {u : Lay} (P : Site k (w .root) xs l u) (free : NotUnder xs) where
-  lone-change : (t : Lay) (takes frees : List ℕ) → loneChild (l .byte) (art u) (lost l u (extentOf k (P .value))) ≡ leaves (art t) takes frees (extentOf k (P .value))
-      → eraseChange edition1 (art (plug xs (pairOf P))) k ≡ leaves (art (plug xs t)) takes frees (extentOf k (P .value))
-  lone-change t takes frees e =
+module _ {E : Edition} {f k : List ℕ} {s : State} (w : Stands E f s) {xs : List Step} {l : Lone} {u : Lay} (P : Site E k (w .root) xs l u) where
+  pub lone-change : NotUnder xs → (t : Lay) (takes frees : List ℕ) → loneChild (l .byte) (art u) (lost l u (extentOf k (P .value))) ≡ leaves (art t) takes frees (extentOf k (P .value))
+      → eraseChange E (art (plug xs (pairOf P))) k ≡ leaves (art (plug xs t)) takes frees (extentOf k (P .value))
+  lone-change free t takes frees e =
       let m = extentOf k (P .value) in
-      let H = hangs-in edition1 f xs (pairOf P) (stands-tree w (plug xs (pairOf P)) (P .whole)) in
-      ap (λ (a : Art). eraseChange edition1 a k) (art-plug xs (pairOf P))
+      let H = hangs-in E f xs (pairOf P) (stands-tree w (plug xs (pairOf P)) (P .whole)) in
+      ap (λ (a : Art). eraseChange E a k) (art-plug xs (pairOf P))
       ∙ plug-lone (P .leads) (art (pairOf P)) (l .byte) (art u) (art t) (lost l u m) free H (hangs-free xs (art (pairOf P)) (art t) free H) (site-change P) refl (ap (λ (c : Change Left). c .now) e)
       ∙ ap (withNow (kept (artIn xs (art t)))) e ∙ ap (λ (a : Art). leaves a takes frees m) (sym (art-plug xs t))
-
-  -- the link to the hole names t, which is put there
-  up-work : {g g' : List ℕ} {h : View} {n : ℕ} {ts : List (List ℕ × Lay)} {loose : List Item} (at : ℕ) (t : Lay) → Link xs at → (1 ≤ slotOf t) × (slotOf t < 65536) → Work edition1 g h xs n ((pathOf xs, t) ∷ ts) loose → Relinked g g' at (slotOf t)
-      → Work edition1 g' (rooted h (rootOf xs (slotOf t))) [] (slotOf (plug xs t)) (([], plug xs t) ∷ ts) loose
-  up-work {ts = ts} at t L fits W G = work-close xs t ts (relinked (slotOf t) (fits .0) (fits .1) at xs L W G) refl (suits-free xs t free)
 
   holder-in : (ss : List ℕ) → SlotsIn (ss ++ holder (holderOf xs)) (holderItems xs)
   holder-in ss = slots-later ss (holder (holderOf xs)) (holderItems xs) (holder-slots (site-open w P))
 
-module _ {f k : List ℕ} {s : State} (w : Stands edition1 f s) {xs : List Step} {l : Lone} (free : NotUnder xs) (at : ℕ) (L : Link xs at) where
-  -- ---- a Leaf
-
-  pub leaf-up : {g : List ℕ} (u : Lay) → IsLeaf u → (P : Site k (w .root) xs l u) → Relinked f g at (l .child) → Mid f g k w P
+-- a Leaf
+module _ {E : Edition} {f k : List ℕ} {s : State} (w : Stands E f s) {xs : List Step} {l : Lone} (free : NotUnder xs) (at : ℕ) (L : Link xs at) where
+  pub leaf-up : {g : List ℕ} (u : Lay) → IsLeaf u → (P : Site E k (w .root) xs l u) → Relinked f g at (l .child) → Mid f g k w P
   leaf-up (prefix n o p t) i P G' = absurd i
   leaf-up (node n o kind ks) i P G' = absurd i
   leaf-up {g} (leaf n o e k' v) i P G' =
@@ -127,7 +138,7 @@ module _ {f k : List ℕ} {s : State} (w : Stands edition1 f s) {xs : List Step}
         freed = [];
         change = lone-change w P free u [] (Node4 ∷ Leaf ∷ []) refl;
         view = rooted (standsView w) (rootOf xs n);
-        work = up-work w P free at u L (child-stood w P .low, child-stood w P .small) W G;
+        work = work-close xs u (beside P) (relinked n (child-stood w P .low) (child-stood w P .small) at xs L W G) refl (suits-free xs u free);
         booked = booked-root (booked-none (standsView w) (w .heap .lists .eight)) (rootOf xs n);
         tallies = tally-turn Leaf Node4 [];
         took = [];
@@ -137,128 +148,188 @@ module _ {f k : List ℕ} {s : State} (w : Stands edition1 f s) {xs : List Step}
         noLeaf = (sum-none leafy, sum-none leafy);
         stays = stay-plug xs (pairOf P) u (stay-more (λ x z. omega (arith, site-left P [] x z, leaf-marks (is x) (pathOf xs ++ l .byte ∷ []) n o e k' v, leaf-marks (is x) (pathOf xs) n o e k' v)))
             (ap (λ (z : Above). touchLone z (l .node) (l .leaf) (leaf n o e k' v) .goes) (above-held xs free)) (P .whole);
+        last = λ c. clash (cc);
         accounts = rw (above-held xs free) (record {
           takes = tt;
           frees = λ j. refl;
           kindsIn = (refl, (refl, tt));
-          slotsIn = slots-app (l .leaf ∷ l .node ∷ holder (holderOf xs)) (holderItems xs) [] (holder-in w P free (l .leaf ∷ l .node ∷ [])) tt;
+          slotsIn = slots-app (l .leaf ∷ l .node ∷ holder (holderOf xs)) (holderItems xs) [] (holder-in w P (l .leaf ∷ l .node ∷ [])) tt;
           freesIn = λ z. omega (arith, two-in w P z, sum-cons z g1 (n1 ∷ []), sum-cons z n1 [], sum-none z);
           rewritesIn = λ z. omega (arith, two-in w P z, holder-sum z xs, sum-app z (holderItems xs) [], sum-none z);
         });
       }
 
-  -- ---- a run of Prefixes, or an inner node
+-- ---- a run of Prefixes, or an inner node, where no Prefix above has room
 
-  module _ (u : Lay) (i : NotLeaf u) (P : Site k (w .root) xs l u) where
-    child : Tree edition1 f (pathOf xs ++ l .byte ∷ []) u
-    child = forest-first edition1 f (pathOf xs ++ l .byte ∷ []) u (beside P) (site-open w P .trees) .0
+suits-full : (xs : List Step) → Full xs → (n o : ℕ) (q : List ℕ) (u : Lay) → Suits xs (prefix n o q u)
+unfolding Suits
+suits-full [] h n o q u = tt
+suits-full (under s o' p ∷ xs) h n o q u = h
+suits-full (hole.among s o' kind ls b j rs ∷ xs) h n o q u = tt
 
-    run : (art u ≡ asPrefix (bytesOf u) (art (tipOf u))) × IsNode (tipOf u)
-    run = run-art edition1 f (pathOf xs ++ l .byte ∷ []) u child i
+-- what is touched
+pub record Raised (t : Touch) (s g : ℕ) (is : List Item) : Type 0 where
+  pub goes : t .goes ≡ g ∷ s ∷ []
+  pub slots : SlotsIn (t .goes ++ t .rewrites) is
 
-    run-change : (lay : Lay) → art lay ≡ Art.prefix (l .byte ∷ bytesOf u) (art (tipOf u)) → eraseChange edition1 (art (plug xs (pairOf P))) k ≡ leaves (art (plug xs lay)) (prefixes (lacks u)) (Node4 ∷ Leaf ∷ []) (extentOf k (P .value))
-    run-change lay e = lone-change w P free lay (prefixes (lacks u)) (Node4 ∷ Leaf ∷ []) (up-leaves l u lay (extentOf k (P .value)) (run .0) (run .1) e)
+-- the run and what names it are among those that are rewritten
+raised : (t : Touch) (s g : ℕ) (u : Lay) (is : List Item) → t .goes ≡ g ∷ s ∷ [] → ((j : ℕ) → among j (chainSlots u) ≡ true → among j (t .rewrites) ≡ true) → SlotsIn (t .rewrites) is → Raised t s g (is ++ (rowItems (bodiesOf u) [] ++ []))
+raised t s g u is e h I =
+    let ss = t .goes ++ t .rewrites in
+    record { goes = e; slots = slots-app ss is (rowItems (bodiesOf u) [] ++ []) (slots-later (t .goes) (t .rewrites) is I) (slots-app ss (rowItems (bodiesOf u) []) [] (run-slots ss u (λ j a. among-later j (t .goes) (t .rewrites) (h j a))) tt) }
 
-    prefix-room : room s (eraseChange edition1 (art (plug xs (pairOf P))) k) ≡ true → 1 ≤ lacks u → Roomy (standsView w) Prefix
-    prefix-room fits some =
-        let lay = prefix 0 0 (l .byte ∷ bytesOf u) (tipOf u) in
-        let c = leaves (art (plug xs lay)) (prefixes (lacks u)) (Node4 ∷ Leaf ∷ []) (extentOf k (P .value)) in
-        let q : room s c ≡ true = rw (run-change lay (sym (inner-atop (l .byte ∷ bytesOf u) (art (tipOf u)) (node-inner (tipOf u) (run .1))))) at fits in
-        let one : lacks u ≡ 1 = omega arith in
-        room-first (standsView w) Prefix [] 0 prefix-kind (w .heap .lists .eight) (subst (λ n. RoomFor (standsView w) (prefixes n) 0) one (room-of w c q))
+-- document 02: of a chain that the byte joins behind a full Prefix no body is freed
+none-fewer : (n m : ℕ) → n ≡ 112 → ltb (chain (n + suc m)) (suc (chain m)) ≡ false
+none-fewer n m e = le-ltb (chain (n + suc m)) (suc (chain m)) (omega arith)
 
-    module _ (fits : room s (eraseChange edition1 (art (plug xs (pairOf P))) k) ≡ true) where
-      pushing : Pushing edition1 f (standsView w) xs (l .node) u (beside P) (nodeBody P) (l .byte) at
-      pushing = record { work = site-open w P; linkIs = L; below = i; suits = λ n o q t. suits-free xs (prefix n o q t) free; room = prefix-room fits }
+held-raised : (h s g : ℕ) (u : Lay) (is : List Item) → NotLeaf u → SlotsIn (holder h) is → Raised (touchLone (held h) s g u) s g (is ++ (rowItems (bodiesOf u) [] ++ []))
+held-raised h s g (leaf c o e k v) is n I = absurd n
+held-raised h s g (prefix c o q t) is n I =
+    raised (touchLone (held h) s g (prefix c o q t)) s g (prefix c o q t) is refl (λ j a. among-first j (c ∷ chainSlots t) (holder h) a) (slots-later (c ∷ chainSlots t) (holder h) is I)
+held-raised h s g (node c o kind ks) is n I = raised (touchLone (held h) s g (node c o kind ks)) s g (node c o kind ks) is refl (λ j a. clash (cc)) I
 
-      pub up-pushes : Pushes f (l .child) (l .byte) at 5
-      up-pushes =
-          record {
-            edition = edition1;
-            view = standsView w;
-            steps = xs;
-            top = l .node;
-            tree = u;
-            trees = beside P;
-            loose = nodeBody P;
-            pushing = pushing;
-            slotIs = P .slotIs;
-            few = child-few w P;
-          }
+full-raised : (p n : ℕ) (a : Above) (s g : ℕ) (u : Lay) (o : ℕ) → n ≡ 112 → NotLeaf u → Raised (touchLone (Above.under p n a) s g u) s g (body p Prefix o ∷ (rowItems (bodiesOf u) [] ++ []))
+full-raised p n a s g (leaf c o' e k v) o full i = absurd i
+full-raised p n a s g (prefix c o' q t) o full i =
+    let z = none-fewer n (length q + chainLong t) full in
+    rw z (raised (touch (p ∷ c ∷ chainSlots t) (g ∷ s ∷ [])) s g (prefix c o' q t) (body p Prefix o ∷ []) refl (λ j x. among-there j p (c ∷ chainSlots t) x) (among-here p (c ∷ chainSlots t), tt))
+full-raised p n a s g (node c o' kind ks) o full i = raised (touch (p ∷ []) (g ∷ s ∷ [])) s g (node c o' kind ks) (body p Prefix o ∷ []) refl (λ j x. clash (cc)) (among-here p [], tt)
 
-      module _ {g : List ℕ} (X : Pushed edition1 f g (standsView w) xs u (beside P) (nodeBody P) (l .byte)) where
-        abbrev wrote : List Item
-        wrote = holderItems xs ++ (rowItems (bodiesOf u) [] ++ [])
+up-raised : (xs : List Step) (s g : ℕ) (u : Lay) → Full xs → NotLeaf u → SlotsIn (holder (holderOf xs)) (holderItems xs) → Raised (touchLone (aboveOf xs) s g u) s g (holderItems xs ++ (rowItems (bodiesOf u) [] ++ []))
+up-raised [] s g u h n I = held-raised 0 s g u [] n I
+up-raised (under s' o p ∷ xs) s g u h n I = full-raised s' (length p) (aboveOf xs) s g u o h n
+up-raised (hole.among s' o kind ls b j rs ∷ xs) s g u h n I = held-raised s' s g u (body s' kind o ∷ []) n I
 
-        wrote-sum : (v : Item → ℕ) → sum v wrote ≡ sum v (holderItems xs) + sum v (rowItems (bodiesOf u) [])
-        wrote-sum v = omega (arith, sum-app v (holderItems xs) (rowItems (bodiesOf u) [] ++ []), sum-app v (rowItems (bodiesOf u) []) [], sum-none v)
+-- the model's erase
+module _ {E : Edition} {f k : List ℕ} {s : State} (w : Stands E f s) {l : Lone} (u lay : Lay) (i : NotLeaf u) (is : art lay ≡ Art.prefix (l .byte ∷ bytesOf u) (art (tipOf u))) where
+  pub run-change : (xs : List Step) → Full xs → (P : Site E k (w .root) xs l u) → eraseChange E (art (plug xs (pairOf P))) k ≡ leaves (art (plug xs lay)) (prefixes (lacks u)) (Node4 ∷ Leaf ∷ []) (extentOf k (P .value))
+  run-change [] h P = let R = child-run w P i in lone-change w P tt lay (prefixes (lacks u)) (Node4 ∷ Leaf ∷ []) (up-leaves l u lay (extentOf k (P .value)) (R .0) (R .1) is)
+  run-change (hole.among s' o kind ls b j rs ∷ xs) h P = let R = child-run w P i in lone-change w P tt lay (prefixes (lacks u)) (Node4 ∷ Leaf ∷ []) (up-leaves l u lay (extentOf k (P .value)) (R .0) (R .1) is)
+  run-change (under s' o p ∷ xs) h P =
+      let R = child-run w P i in
+      let m = extentOf k (P .value) in
+      let a = art (tipOf u) in
+      let t = prefix s' o p lay in
+      let above = prefix s' o p (pairOf P) in
+      let el : art t ≡ Art.prefix (p ++ l .byte ∷ bytesOf u) a = ap (atop p) is in
+      let e = full-leaves l u t m (R .0) (R .1) p h el in
+      let H = hangs-in E f xs above (stands-tree w (plug xs above) (P .whole ∙ ap tree (plug-under s' o p xs (pairOf P)))) in
+      let H' = subst (HangsIn xs) (sym el) (hangs-over xs (art above) (Art.prefix (p ++ l .byte ∷ bytesOf u) a) (λ q x. x) H) in
+      ap (λ (z : Art). eraseChange E z k) (art-plug (under s' o p ∷ xs) (pairOf P))
+      ∙ plug-under-lone (P .leads) (art (pairOf P)) (l .byte) (art u) (art t) (lost l u m) refl H H' (site-change P) refl (ap (λ (c : Change Left). c .now) e)
+      ∙ ap (withNow (kept (artIn xs (art t)))) e ∙ ap (λ (z : Art). leaves z (prefixes (lacks u)) (Node4 ∷ Leaf ∷ []) m) (sym (art-plug xs t) ∙ ap art (sym (plug-under s' o p xs lay)))
 
-        up-mid : stay (touchLone (held (holderOf xs)) (l .node) (l .leaf) u .goes) (rootMarks (w .root)) (rootMarks (tree (plug xs (X .lay)))) ≡ true
-            → SlotsIn (touchLone (held (holderOf xs)) (l .node) (l .leaf) u .goes ++ touchLone (held (holderOf xs)) (l .node) (l .leaf) u .rewrites) wrote
-            → touchLone (held (holderOf xs)) (l .node) (l .leaf) u .goes ≡ l .leaf ∷ l .node ∷ [] → Mid f g k w P
-        up-mid stays slots goes =
-            let g1 = body (l .leaf) Leaf (l .at) in
-            let n1 = body (l .node) Node4 (P .nodeAt) in
-            record {
-              lay = plug xs (X .lay);
-              kinds = prefixes (lacks u);
-              frees = Node4 ∷ Leaf ∷ [];
-              freed = [];
-              change = run-change (X .lay) (pushed-art X);
-              view = rooted (takenAll (standsView w) (prefixes (lacks u))) (rootOf xs (slotOf (X .lay)));
-              work = X .work;
-              booked = booked-root (booked-row (standsView w) (prefixes (lacks u)) (subst (λ ks. Kinds ks) (append-nil (prefixes (lacks u))) (kinds-row (lacks u) Kinds.nil)) (w .heap .lists .eight)) (rootOf xs (slotOf (X .lay)));
-              tallies = tally-turn Leaf Node4 [];
-              took = rowItems (X .new) [];
-              wrote = wrote;
-              gave = [];
-              since = X .since f (standsView w) [] wrote [] (since-also (holderItems xs) (since-also (rowItems (bodiesOf u) []) (since-start (w .heap)))) (λ a. omega (arith, wrote-sum (cover a)));
-              noLeaf = (row-leafy (X .new), sum-none leafy);
-              stays = rw (above-held xs free) stays;
-              accounts = rw (above-held xs free) (record {
-                takes = row-bodies (X .new) [] tt;
-                frees = λ j. ap (among j) (sym goes);
-                kindsIn = (among-later Leaf (prefixes (lacks u)) (Node4 ∷ Leaf ∷ []) refl, (among-later Node4 (prefixes (lacks u)) (Node4 ∷ Leaf ∷ []) refl, tt));
-                slotsIn = slots;
-                freesIn = λ z. omega (arith, two-in w P z, sum-cons z g1 (n1 ∷ []), sum-cons z n1 [], sum-none z);
-                rewritesIn = λ z. omega (arith, two-in w P z, holder-sum z xs, wrote-sum z, run-sum z u);
-              });
-            }
+module _ {E : Edition} {f k : List ℕ} {s : State} (w : Stands E f s) {xs : List Step} {l : Lone} (full : Full xs) (at : ℕ) (L : Link xs at) (u : Lay) (i : NotLeaf u) (P : Site E k (w .root) xs l u)
+    (fits : room s (eraseChange E (art (plug xs (pairOf P))) k) ≡ true) where
+  prefix-room : 1 ≤ lacks u → Roomy (standsView w) Prefix
+  prefix-room some =
+      let lay = prefix 0 0 (l .byte ∷ bytesOf u) (tipOf u) in
+      let c = leaves (art (plug xs lay)) (prefixes (lacks u)) (Node4 ∷ Leaf ∷ []) (extentOf k (P .value)) in
+      let q : room s c ≡ true = rw (run-change w u lay i (sym (inner-atop (l .byte ∷ bytesOf u) (art (tipOf u)) (node-inner (tipOf u) (child-run w P i .1)))) xs full P) at fits in
+      let one : lacks u ≡ 1 = omega arith in
+      room-first (standsView w) Prefix [] 0 prefix-kind (w .heap .lists .eight) (subst (λ n. RoomFor (standsView w) (prefixes n) 0) one (room-of w c q))
 
-  pub run-up : {g : List ℕ} → RunPushed f g (l .child) (l .byte) at → (u : Lay) → NotLeaf u → (P : Site k (w .root) xs l u) → room s (eraseChange edition1 (art (plug xs (pairOf P))) k) ≡ true → Mid f g k w P
-  run-up R (leaf n o e k' v) i P fits = absurd i
-  run-up {g} R (prefix n o p t) i P fits =
-      let X = R edition1 (standsView w) xs (l .node) (prefix n o p t) (beside P) (nodeBody P) (pushing (prefix n o p t) i P fits) (P .slotIs) in
-      let O = child-one w P 1 (omega arith) in
-      let e = left-front n o p t (O .0) (O .1) (omega (arith, O .2)) X .1 in
-      let b = body n Prefix o in
-      let N : bodiesOf t ≡ [] = node-run t (O .0) .0 in
-      up-mid (prefix n o p t) i P fits X
-      (subst (λ (y : Lay). stay (l .leaf ∷ l .node ∷ []) (rootMarks (w .root)) (rootMarks (tree (plug xs y))) ≡ true) (sym e) (stay-plug xs (pairOf P) (prefix n o (l .byte ∷ p) t) (record {
-        each = λ x z h.
-            let low = pathOf xs ++ l .byte ∷ [] in
-            let q : low ++ p ≡ pathOf xs ++ l .byte ∷ p = append-assoc (pathOf xs) (l .byte ∷ []) p in
-            omega (
-              arith,
-              site-left P [] x z,
-              prefix-marks (is x) low n o p t,
-              prefix-marks (like x) (pathOf xs) n o (l .byte ∷ p) t,
-              is-to x n Prefix low (low ++ p) (pathOf xs),
-              ap (λ y. like x (mark n Prefix (pathOf xs) y)) q,
-              counts-like x (marks (low ++ p) t),
-              ap (λ y. count (like x) (marks y t)) q,
-            );
-      }) refl (P .whole)))
-      (slots-app (l .leaf ∷ l .node ∷ n ∷ holder (holderOf xs)) (holderItems xs) (rowItems ((n, o) ∷ bodiesOf t) [] ++ []) (holder-in w P free (l .leaf ∷ l .node ∷ n ∷ []))
-      (subst (λ (z : List (ℕ × ℕ)). SlotsIn (l .leaf ∷ l .node ∷ n ∷ holder (holderOf xs)) (rowItems ((n, o) ∷ z) [] ++ [])) (sym N)
-      (slots-later (l .leaf ∷ l .node ∷ []) (n ∷ holder (holderOf xs)) (b ∷ []) (among-here n (holder (holderOf xs)), tt))))
-      refl
-  run-up {g} R (node n o kind ks) i P fits =
-      let u = node n o kind ks in
-      let X = R edition1 (standsView w) xs (l .node) u (beside P) (nodeBody P) (pushing u i P fits) (P .slotIs) in
-      let O = left-new u tt X in
-      up-mid u i P fits X
-      (subst (λ (y : Lay). stay (l .leaf ∷ l .node ∷ []) (rootMarks (w .root)) (rootMarks (tree (plug xs y))) ≡ true) (sym (O .isLay)) (stay-plug xs (pairOf P) (prefix (O .slot) (O .place) (l .byte ∷ []) u)
-      (stay-more (λ x z. omega (arith, site-left P [] x z, prefix-marks (is x) (pathOf xs) (O .slot) (O .place) (l .byte ∷ []) u))) refl (P .whole)))
-      (slots-app (l .leaf ∷ l .node ∷ holder (holderOf xs)) (holderItems xs) [] (holder-in w P free (l .leaf ∷ l .node ∷ [])) tt)
-      refl
+  pushing : Pushing E f (standsView w) xs (l .node) u (beside P) (nodeBody P) (l .byte) at
+  pushing = record { work = site-open w P; linkIs = L; below = i; suits = suits-full xs full; room = prefix-room }
+
+  pub up-pushes : Lawful E → Pushes f (l .child) (l .byte) at 5
+  up-pushes law =
+      record {
+        edition = E;
+        view = standsView w;
+        steps = xs;
+        top = l .node;
+        tree = u;
+        trees = beside P;
+        loose = nodeBody P;
+        pushing = pushing;
+        slotIs = P .slotIs;
+        few = child-few w P law i;
+      }
+
+  module _ {g : List ℕ} (R : RunPushed f g (l .child) (l .byte) at) where
+    X : Pushed E f g (standsView w) xs u (beside P) (nodeBody P) (l .byte)
+    X = R E (standsView w) xs (l .node) u (beside P) (nodeBody P) pushing (P .slotIs)
+
+    abbrev wrote : List Item
+    wrote = holderItems xs ++ (rowItems (bodiesOf u) [] ++ [])
+
+    wrote-sum : (v : Item → ℕ) → sum v wrote ≡ sum v (holderItems xs) + sum v (rowItems (bodiesOf u) [])
+    wrote-sum v = omega (arith, sum-app v (holderItems xs) (rowItems (bodiesOf u) [] ++ []), sum-app v (rowItems (bodiesOf u) []) [], sum-none v)
+
+    T : Raised (touchLone (aboveOf xs) (l .node) (l .leaf) u) (l .node) (l .leaf) wrote
+    T = up-raised xs (l .node) (l .leaf) u full i (holder-slots (site-open w P))
+
+    -- the run before and after: one string above one tree, the bodies in one order
+    lay-ranged : Ranged (X .lay)
+    lay-ranged =
+        tree-ranged E g (pathOf xs) (X .lay) (hole-out E g xs (X .lay) (forest-first E g [] (plug xs (X .lay)) (beside P) (X .work .trees) .0) .2) (run-not-leaf (X .lay) (omega (arith, ap length (X .bytes))))
+
+    one-tip : tipOf u ≡ tipOf (X .lay)
+    one-tip = sym (X .tip)
+
+    one-string : (pathOf xs ++ l .byte ∷ []) ++ bytesOf u ≡ pathOf xs ++ bytesOf (X .lay)
+    one-string = append-assoc (pathOf xs) (l .byte ∷ []) (bytesOf u) ∙ ap (λ z. pathOf xs ++ z) (sym (X .bytes))
+
+    one-order : (goes : List ℕ) → Along goes (bodiesOf u) (bodiesOf (X .lay))
+    one-order goes = subst (λ (z : List (ℕ × ℕ)). Along goes (bodiesOf u) z) (sym (X .bodies)) (along-more goes (bodiesOf u) (X .new))
+
+    still : Stay (l .leaf ∷ l .node ∷ []) (marks (pathOf xs) (pairOf P)) (marks (pathOf xs) (X .lay))
+    still = record {
+      each = λ x z h.
+          let n = length-append (pathOf xs) (l .byte ∷ []) in
+          omega (
+            arith,
+            site-left P [] x z,
+            along-like (l .leaf ∷ l .node ∷ []) x z (pathOf xs ++ l .byte ∷ []) u (pathOf xs) (X .lay) (child-ranged w P i) lay-ranged one-tip one-string (omega arith) (omega arith) (one-order (l .leaf ∷ l .node ∷ [])),
+          );
+    }
+
+    -- what is known by a path alone has no byte for a Prefix
+    flat : (s kind : ℕ) (q : List ℕ) (m y : Mark) → 1 ≤ is m (mark s kind q q) → common m y ≡ true → ⊥
+    flat s kind q m y h c =
+        let e = is-same m (mark s kind q q) h in
+        omega (arith, common-of m y c .left, shared-left (m .to) (y .to), ap (λ (z : Mark). length (z .from)) e, ap (λ (z : Mark). length (z .to)) e)
+
+    low-last : LastIn (marks (pathOf xs) (pairOf P)) (marks (pathOf xs) (X .lay))
+    low-last once m x y hm moved hx hy es ek new c =
+        let low = pathOf xs ++ l .byte ∷ [] in
+        elim (decLe 1 (count (is m) (marks low u))) [
+          | yes a ↦
+              along-last [] m x y es ek low u (pathOf xs) (X .lay) (child-ranged w P i) lay-ranged one-tip one-string (one-order []) once a moved hx hy (λ q. new (omega (arith, q, site-marks P (slotIs (y .slot)))))
+          | no a ↦ elim (decLe 1 (is m (mark (l .node) Node4 (pathOf xs) (pathOf xs)))) [
+            | yes b ↦ absurd (flat (l .node) Node4 (pathOf xs) m y b c)
+            | no b ↦ absurd (flat (l .leaf) Leaf k m y (omega (arith, hm, site-marks P (is m))) c)
+          ]
+        ]
+
+    pub run-up : Mid f g k w P
+    run-up =
+        let g1 = body (l .leaf) Leaf (l .at) in
+        let n1 = body (l .node) Node4 (P .nodeAt) in
+        record {
+          lay = plug xs (X .lay);
+          kinds = prefixes (lacks u);
+          frees = Node4 ∷ Leaf ∷ [];
+          freed = [];
+          change = run-change w u (X .lay) i (pushed-art X) xs full P;
+          view = rooted (takenAll (standsView w) (prefixes (lacks u))) (rootOf xs (slotOf (X .lay)));
+          work = X .work;
+          booked = booked-root (booked-row (standsView w) (prefixes (lacks u)) (subst (λ ks. Kinds ks) (append-nil (prefixes (lacks u))) (kinds-row (lacks u) Kinds.nil)) (w .heap .lists .eight)) (rootOf xs (slotOf (X .lay)));
+          tallies = tally-turn Leaf Node4 [];
+          took = rowItems (X .new) [];
+          wrote = wrote;
+          gave = [];
+          since = X .since f (standsView w) [] wrote [] (since-also (holderItems xs) (since-also (rowItems (bodiesOf u) []) (since-start (w .heap)))) (λ a. omega (arith, wrote-sum (cover a)));
+          noLeaf = (row-leafy (X .new), sum-none leafy);
+          stays = stay-plug xs (pairOf P) (X .lay) still (T .goes) (P .whole);
+          last = λ c. last-plug xs (pairOf P) (X .lay) w (P .whole) (X .work) low-last;
+          accounts = record {
+            takes = row-bodies (X .new) [] tt;
+            frees = λ j. ap (among j) (sym (T .goes));
+            kindsIn = (among-later Leaf (prefixes (lacks u)) (Node4 ∷ Leaf ∷ []) refl, (among-later Node4 (prefixes (lacks u)) (Node4 ∷ Leaf ∷ []) refl, tt));
+            slotsIn = T .slots;
+            freesIn = λ z. omega (arith, two-in w P z, sum-cons z g1 (n1 ∷ []), sum-cons z n1 [], sum-none z);
+            rewritesIn = λ z. omega (arith, two-in w P z, holder-sum z xs, wrote-sum z, run-sum z u);
+          };
+        }

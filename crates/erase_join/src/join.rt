@@ -12,6 +12,7 @@ ghost use mathlib.Core.Path.{_≡_};
 ghost use mathlib.Core.List.{List, [], _∷_};
 ghost use Prim.Native.Nat.{ℕ, _<_};
 ghost use Rattle.layout.specs.Kind.{Node4};
+ghost use Rattle.model.specs.Edition.{Edition, SomeEdition};
 ghost use Rattle.model.specs.Body.{InnerAt};
 ghost use Rattle.node.specs.Kids.{removeKid};
 ghost use Rattle.erase_remove.specs.Erase.{EraseStep};
@@ -32,8 +33,8 @@ pub fn other_child(f: &[u8], o: usize, b: u8) -> Child
 
 // What the join has to know of the spot.
 fn read(f: &[u8], key: &[u8], spot: Spot) -> Lone
-    requires { ⌜ Pair (now f) (now key) spot ⌝ }
-    ensures { λ r. ⌜ AtSpot (now (f .entry)) (now (key .entry)) spot r ⌝ }
+    requires { ⌜ SomeEdition (λ E. Pair E (now f) (now key) spot) ⌝ }
+    ensures { λ r. ⌜ ((E : Edition) → Pair E (now (f .entry)) (now (key .entry)) spot → AtSpot E (now (f .entry)) (now (key .entry)) spot r) ⌝ }
 {
     let node = spot.node;
     let here = spot.here;
@@ -50,7 +51,7 @@ fn read(f: &[u8], key: &[u8], spot: Spot) -> Lone
 }
 
 // How many bytes more the Prefix above has room for; none if there is none.
-fn spare(f: &[u8], above: Body) -> usize
+pub fn spare(f: &[u8], above: Body) -> usize
     requires { ⌜ Above (now f) above ⌝ }
     ensures { λ r. ⌜ HasRoom (now (f .entry)) above r ⌝ }
 {
@@ -62,8 +63,8 @@ fn spare(f: &[u8], above: Body) -> usize
 
 // The key's Leaf goes, and its Node4 with it.
 pub fn join(f: &mut [u8], key: &[u8], spot: Spot)
-    requires { ⌜ Pair (now f) (now key) spot ⌝ }
-    ensures { λ _. ⌜ EraseStep (now (f .entry)) (now (key .entry)) (now (f .exit)) ⌝ }
+    requires { ⌜ SomeEdition (λ E. Pair E (now f) (now key) spot) ⌝ }
+    ensures { λ _. ⌜ ((E : Edition) → Pair E (now (f .entry)) (now (key .entry)) spot → EraseStep E (now (f .entry)) (now (key .entry)) (now (f .exit))) ⌝ }
 {
     let l = read(f, key, spot);
     let node = spot.node;
@@ -80,5 +81,5 @@ pub fn join(f: &mut [u8], key: &[u8], spot: Spot)
         lone::leaf_up(f, key, l, node.link);
         return;
     }
-    lone::leaf_over(f, key, l, above);
+    lone::leaf_over(f, key, l, spot.first, spot.first_link);
 }

@@ -2,12 +2,11 @@
 use crate::finish;
 use chain::shift;
 use descent::spot::Body;
-use layout::kind::Kind;
-use room::heap;
 use room::link;
-ghost use Rattle.between.specs.Lead.{NotLeaf};
+ghost use Rattle.model.specs.Edition.{Edition, SomeEdition};
+ghost use Rattle.between.specs.Lead.{NotUnder, NotLeaf};
 ghost use Rattle.erase_remove.specs.Erase.{EraseStep};
-ghost use Rattle.erase_join.specs.Lone.{IsLeaf, Bare, Capped, Roomy};
+ghost use Rattle.erase_join.specs.Lone.{IsLeaf, Full, Bare, UnderRun, Roomy};
 
 // A Node4 that loses its Leaf, and the child that is left.
 pub struct Lone {
@@ -21,42 +20,42 @@ pub struct Lone {
     pub kind: usize,
 }
 
-// ---- no Prefix above has room: `link` names the Node4
+// ---- a Leaf is left
 
-// A Leaf takes the place of the Node4.
+// It takes the place of the Node4, above which no Prefix stands: `link` names the Node4.
 pub fn leaf_up(f: &mut [u8], key: &[u8], l: Lone, link: usize)
-    requires { ⌜ Bare IsLeaf (now f) (now key) l link ⌝ }
-    ensures { λ _. ⌜ EraseStep (now (f .entry)) (now (key .entry)) (now (f .exit)) ⌝ }
+    requires { ⌜ SomeEdition (λ E. Bare E NotUnder IsLeaf (now f) (now key) l link) ⌝ }
+    ensures { λ _. ⌜ ((E : Edition) → Bare E NotUnder IsLeaf (now (f .entry)) (now (key .entry)) l link → EraseStep E (now (f .entry)) (now (key .entry)) (now (f .exit))) ⌝ }
 {
     link::relink(f, link, l.child);
     finish::drop_both(f, l.leaf, l.node, l.at);
 }
 
-// A run of Prefixes does, with the byte in front; an inner node needs one.
+// It takes the place of a run of Prefixes, which is freed too: `link` names the first of them.
+pub fn leaf_over(f: &mut [u8], key: &[u8], l: Lone, first: usize, link: usize)
+    requires { ⌜ SomeEdition (λ E. UnderRun E (now f) (now key) l first link) ⌝ }
+    ensures { λ _. ⌜ ((E : Edition) → UnderRun E (now (f .entry)) (now (key .entry)) l first link → EraseStep E (now (f .entry)) (now (key .entry)) (now (f .exit))) ⌝ }
+{
+    shift::free(f, first);
+    link::relink(f, link, l.child);
+    finish::drop_both(f, l.leaf, l.node, l.at);
+}
+
+// ---- a run of Prefixes or an inner node is left
+
+// No Prefix above has room: the byte joins in front of the run, and `link`, which named the Node4, names it; an inner node needs a Prefix.
 pub fn up(f: &mut [u8], key: &[u8], l: Lone, link: usize)
-    requires { ⌜ Bare NotLeaf (now f) (now key) l link ⌝ }
-    ensures { λ _. ⌜ EraseStep (now (f .entry)) (now (key .entry)) (now (f .exit)) ⌝ }
+    requires { ⌜ SomeEdition (λ E. Bare E Full NotLeaf (now f) (now key) l link) ⌝ }
+    ensures { λ _. ⌜ ((E : Edition) → Bare E Full NotLeaf (now (f .entry)) (now (key .entry)) l link → EraseStep E (now (f .entry)) (now (key .entry)) (now (f .exit))) ⌝ }
 {
     shift::push(f, l.child, l.byte, link);
     finish::drop_both(f, l.leaf, l.node, l.at);
 }
 
-// ---- the Prefix `above` stands just above the Node4
-
-// A Leaf takes its place, and the Prefix is freed too.
-pub fn leaf_over(f: &mut [u8], key: &[u8], l: Lone, above: Body)
-    requires { ⌜ Capped IsLeaf (now f) (now key) l above ⌝ }
-    ensures { λ _. ⌜ EraseStep (now (f .entry)) (now (key .entry)) (now (f .exit)) ⌝ }
-{
-    link::relink(f, above.link, l.child);
-    heap::release(f, above.slot, Kind::PREFIX);
-    finish::drop_both(f, l.leaf, l.node, l.at);
-}
-
-// It has room: it takes the byte, and of the run below what it then has room for.
+// The Prefix `above` stands just above the Node4 and has room: it takes the byte, and of the run below what it then has room for.
 pub fn over(f: &mut [u8], key: &[u8], l: Lone, above: Body)
-    requires { ⌜ Roomy (now f) (now key) l above ⌝ }
-    ensures { λ _. ⌜ EraseStep (now (f .entry)) (now (key .entry)) (now (f .exit)) ⌝ }
+    requires { ⌜ SomeEdition (λ E. Roomy E (now f) (now key) l above) ⌝ }
+    ensures { λ _. ⌜ ((E : Edition) → Roomy E (now (f .entry)) (now (key .entry)) l above → EraseStep E (now (f .entry)) (now (key .entry)) (now (f .exit))) ⌝ }
 {
     prefix_body::back(f, above.place, l.byte, l.child);
     shift::fill(f, above.place, l.child);

@@ -10,10 +10,10 @@ use native.Mathlib.Decide.{decLt}
 use lib.ListN.{length}
 use Rattle.layout.specs.Number.{Bytes, put}
 use Rattle.layout.specs.Place.{atRoot, entryAt}
-use Rattle.layout.specs.Kind.{Leaf, bodySize, Kind, fewest, most, shrinkMark, kindDown}
+use Rattle.layout.specs.Kind.{Leaf, bodySize, Kind, fewest, most, shrinkMark, kindDown, Prefix}
 use Rattle.layout.specs.Entry.{placeOf}
 use Rattle.layout.proofs.KindLaws.{size-least, shrunk-enough, shrunk-fits}
-use Rattle.model.specs.Edition.{edition1}
+use Rattle.model.specs.Edition.{Edition}
 use Rattle.model.specs.Tree.{Art, Change, Left, extentOf, carried, eraseTree}
 use Rattle.model.specs.State.{State, room, callErase}
 use Rattle.model.specs.Item.{Item, body, onSlot, cover, leafy, sum, Same}
@@ -22,8 +22,8 @@ use Rattle.model.specs.Frame.{Lay, LayKids, slotOf, art, items, itemsAll, pairs
 use Rattle.model.specs.Frame.Lay.{leaf, prefix, node}
 use Rattle.model.specs.Frame.LayKids.{nil, kid}
 use Rattle.model.specs.Touch as model
+use Rattle.model.specs.Mark.{is}
 use Rattle.model.specs.Touch.{Touch, touch, touchErase}
-use Rattle.model.specs.Freedom.{is}
 use Rattle.model.proofs.ItemLaws.{in-yes, sum-app, sum-cons}
 use Rattle.model.proofs.StandsGood.{leafy-other}
 use Rattle.model.proofs.MarkLaws.{node-marks, is-gone, stay-more}
@@ -51,11 +51,12 @@ use Rattle.between.proofs.EditLaws.{removed, carried-node}
 use Rattle.between.proofs.EraseLaws.{less-shrinks, lost-shrinks}
 use Rattle.between.proofs.BookedLaws.{room-of, booked-row, booked-root, booked-free, booked-as, tally-turn}
 use Rattle.between.proofs.SinceLaws.{since-start, since-take, since-write, since-also, since-link, since-free}
-use Rattle.between.proofs.OutsideLaws.{among-here, among-there, slots-later, slots-app, holder-slots, holder-sum, next-above}
+use Rattle.between.proofs.OutsideLaws.{among-here, among-there, slots-later, slots-app, holder-slots, holder-sum, next-above, among-not}
 use Rattle.between.proofs.StayLaws.{carried-marks}
 use Rattle.descent.specs.declared.spot.Spot.{Spot}
 use Rattle.erase_remove.specs.Leaf.{Drops, Dropped}
 use Rattle.erase_remove.specs.Erase.{Falls}
+use Rattle.erase_remove.proofs.LeafLaws.{DropLeaf}
 use Rattle.erase_remove.proofs.DoneLaws.{Result, fits-is, erase-done}
 use Rattle.erase_remove.proofs.SpotLaws.{was-is, mark-down, held, xs, path, gone, kids, left, holder, root-is, fits, W0, N0, count-is, records-some, left-art, bare, bare-count, node-found, node-erased, node-touched, items-are, left-marks, leaf-fewer, has-byte}
 
@@ -82,10 +83,10 @@ one-row h k K e = booked-row h (k ∷ []) (book.cons K book.nil) e
 
 -- ---- the edit
 
-pub large : {f k : List ℕ} {p : Spot} (P : Falls f k p) → (5 ≤ p .node .kind) × (p .node .kind ≤ 7)
+pub large : {E : Edition} {f k : List ℕ} {p : Spot} (P : Falls E f k p) → (5 ≤ p .node .kind) × (p .node .kind ≤ 7)
 large P = (P .large, N0 (P .erase) (P .erase .st) (P .erase .stands) .inner .range .1)
 
-module _ {f k : List ℕ} {p : Spot} (P : Falls f k p) (s : State) (w : Stands edition1 f s) {kd : ℕ} (ekd : kd ≡ kindDown (p .node .kind)) where
+module _ {E : Edition} {f k : List ℕ} {p : Spot} (P : Falls E f k p) (s : State) (w : Stands E f s) {kd : ℕ} (ekd : kd ≡ kindDown (p .node .kind)) where
   abbrev n : ℕ
   n = p .node .slot
 
@@ -129,7 +130,7 @@ module _ {f k : List ℕ} {p : Spot} (P : Falls f k p) (s : State) (w : Stands e
   abbrev change : Change Left
   change = record { now = Left.kept newArt; takes = kd ∷ []; frees = kind ∷ Leaf ∷ []; extent = 0; dead = dead; fresh = false }
 
-  erased : eraseTree edition1 (art (holder (P .erase) s w)) (length way) k ≡ change
+  erased : eraseTree E (art (holder (P .erase) s w)) (length way) k ≡ change
   erased =
       let e = bare-count (P .erase) s w in
       node-erased (P .erase) s w ∙ less-shrinks kind (bare (P .erase) s w) _ (omega (arith, at-mark, down .0)) (e ∙ at-mark)
@@ -162,7 +163,7 @@ module _ {f k : List ℕ} {p : Spot} (P : Falls f k p) (s : State) (w : Stands e
     T : Took f f1 h0 kd m
     T = take h0 (w .heap) roomy
 
-    W1 : Work edition1 f1 h1 ys n ((way, holder (P .erase) s w) ∷ []) (body m kd q1 ∷ [])
+    W1 : Work E f1 h1 ys n ((way, holder (P .erase) s w) ∷ []) (body m kd q1 ∷ [])
     W1 = work-take (W0 (P .erase) s w) T
 
     pub shrink-entry : (1 ≤ m) × (entryAt m + 4 ≤ length f1) × (m < 65536)
@@ -180,13 +181,13 @@ module _ {f k : List ℕ} {p : Spot} (P : Falls f k p) (s : State) (w : Stands e
       place-is : q ≡ q1
       place-is = eq ∙ T .entry .placeIs
 
-      R2 : Lost edition1 f2 h1 ys n way [] (body m kd q1 ∷ []) n o kind (p .byte) (gone (P .erase) s w) rest
+      R2 : Lost E f2 h1 ys n way [] (body m kd q1 ∷ []) n o kind (p .byte) (gone (P .erase) s w) rest
       R2 = let H = held (P .erase) in removed way [] n o kind (p .byte) (H .place) (gone (P .erase) s w) (H .before) (H .after) W1 D
 
       abbrev us : List (List ℕ × Lay)
       us = (way ++ p .byte ∷ [], gone (P .erase) s w) ∷ []
 
-      W2 : Work edition1 f2 h1 ys n (kidTrees way rest us) (body m kd q1 ∷ body n kind o ∷ [])
+      W2 : Work E f2 h1 ys n (kidTrees way rest us) (body m kd q1 ∷ body n kind o ∷ [])
       W2 = work-turn (R2 .work) refl
 
       new-ends : q1 + bodySize kd ≤ length f2
@@ -213,7 +214,7 @@ module _ {f k : List ℕ} {p : Spot} (P : Falls f k p) (s : State) (w : Stands e
               bytes = λ a l u. ⊎-elim (λ t. O3 .below a (omega arith)) (λ t. O3 .above a (omega arith)) two;
             }) (R2 .inner)
 
-        W3 : Work edition1 f3 h1 ys n (kidTrees way rest us) (body m kd q1 ∷ body n kind o ∷ [])
+        W3 : Work E f3 h1 ys n (kidTrees way rest us) (body m kd q1 ∷ body n kind o ∷ [])
         W3 = work-write W2 (kd-kind .0) (kd-kind .1) O3 (omega arith) (omega arith)
 
         pub shrink-carries : Carry f3 o kind q kd
@@ -247,21 +248,21 @@ module _ {f k : List ℕ} {p : Spot} (P : Falls f k p) (s : State) (w : Stands e
           abbrev new : Lay
           new = node m q1 kd ks1
 
-          W4 : Work edition1 f4 h1 ys n (kidTrees way rest us) (body m kd q1 ∷ body n kind o ∷ [])
+          W4 : Work E f4 h1 ys n (kidTrees way rest us) (body m kd q1 ∷ body n kind o ∷ [])
           W4 = work-write W3 (kd-kind .0) (kd-kind .1) (C4 .only) (omega arith) (omega arith)
 
-          W4' : Work edition1 f4 h1 ys n ((way, new) ∷ us) (body n kind o ∷ [])
+          W4' : Work E f4 h1 ys n ((way, new) ∷ us) (body n kind o ∷ [])
           W4' =
-              let F = forest-kids edition1 f4 way rest us (W4 .trees) in
+              let F = forest-kids E f4 way rest us (W4 .trees) in
               make-node way us (body n kind o ∷ []) m q1 kd ks1
-              (work-kids way us (body m kd q1 ∷ body n kind o ∷ []) ks1 W4 (carried-trees edition1 f4 way kd rest (F .0)) (F .1) (λ v. omega (arith, kids-sum v way rest us, carried-sum v kd rest)))
+              (work-kids way us (body m kd q1 ∷ body n kind o ∷ []) ks1 W4 (carried-trees E f4 way kd rest (F .0)) (F .1) (λ v. omega (arith, kids-sum v way rest us, carried-sum v kd rest)))
               (carried-node rest C4 I3 (marks .0) (marks .1))
 
           pub shrink-links : (64 ≤ length f4) × (p .node .link + 4 ≤ length f4)
           shrink-links =
               let l = W4 .heap .header .limits in
               let z : 1024 ≤ length f4 = omega (arith, W4 .heap .header .size) in
-              (omega arith, link-room edition1 f4 ys (p .node .link) n (held (P .erase) .link) (W4 .around) z)
+              (omega arith, link-room E f4 ys (p .node .link) n (held (P .erase) .link) (W4 .around) z)
 
           -- relink
           module _ {f5 : List ℕ} (G : (p .node .link ≡ atRoot → f5 ≡ put 2 f4 atRoot m) × ((p .node .link ≡ atRoot → ⊥) → f5 ≡ put 4 f4 (p .node .link) m)) where
@@ -271,7 +272,7 @@ module _ {f k : List ℕ} {p : Spot} (P : Falls f k p) (s : State) (w : Stands e
             abbrev T1 : Lay
             T1 = plug ys new
 
-            W5 : Work edition1 f5 h5 [] (slotOf T1) (([], T1) ∷ us) (body n kind o ∷ [])
+            W5 : Work E f5 h5 [] (slotOf T1) (([], T1) ∷ us) (body n kind o ∷ [])
             W5 = work-close ys new us (relinked m (shrink-entry .0) (shrink-entry .2) (p .node .link) ys (held (P .erase) .link) W4' G) refl (is-node ys m q1 kd ks1)
 
             abbrev rest5 : List Item
@@ -288,7 +289,7 @@ module _ {f k : List ℕ} {p : Spot} (P : Falls f k p) (s : State) (w : Stands e
               F6 : Freed f5 f6 h5 n kind o rest5
               F6 = release h5 o rest5 (W5 .heap) (first-owns W5) (entries-first f5 n kind o [] (W5 .entries) .0 .placeIs)
 
-              W6 : Work edition1 f6 h6 [] (slotOf T1) ((way ++ p .byte ∷ [], gone (P .erase) s w) ∷ ([], T1) ∷ []) []
+              W6 : Work E f6 h6 [] (slotOf T1) ((way ++ p .byte ∷ [], gone (P .erase) s w) ∷ ([], T1) ∷ []) []
               W6 = work-swap [] T1 (way ++ p .byte ∷ []) (gone (P .erase) s w) [] (work-free W5 F6)
 
               book6 : Booked h0 h6 (kd ∷ []) (kind ∷ []) 0 0 (w .nums .R)
@@ -297,6 +298,7 @@ module _ {f k : List ℕ} {p : Spot} (P : Falls f k p) (s : State) (w : Stands e
               pub shrink-drops : Drops f6 (p .here .slot) (p .here .place)
               shrink-drops =
                   record {
+                    edition = E;
                     view = h6;
                     steps = [];
                     named = slotOf T1;
@@ -307,12 +309,12 @@ module _ {f k : List ℕ} {p : Spot} (P : Falls f k p) (s : State) (w : Stands e
                     trees = ([], T1) ∷ [];
                     loose = [];
                     work = W6;
+                    some = P .erase .some;
                     records = omega (arith, book6 .R, records-some (P .erase) s w);
                   }
 
               -- drop_leaf
-              module _ {f7 : List ℕ} (drop : (h : View) (zs : List Step) (i : ℕ) (r : List ℕ) (e : ℕ) (c v : List ℕ) (ts : List (List ℕ × Lay)) (loose : List Item)
-                  → Work edition1 f6 h zs i ((r, leaf (p .here .slot) (p .here .place) e c v) ∷ ts) loose → Dropped f6 f7 h zs i ts loose (p .here .slot) (p .here .place) e c v) (bytes : Bytes f7) where
+              module _ {f7 : List ℕ} (drop : DropLeaf f6 f7 (p .here .slot) (p .here .place)) (bytes : Bytes f7) where
                 abbrev l : ℕ
                 l = p .here .slot
 
@@ -322,13 +324,13 @@ module _ {f k : List ℕ} {p : Spot} (P : Falls f k p) (s : State) (w : Stands e
                 abbrev rs : List Item
                 rs = holderItems ys ++ (body n kind o ∷ [])
 
-                X : Dropped f6 f7 h6 [] (slotOf T1) (([], T1) ∷ []) [] l (p .here .place) (held (P .erase) .extent) k (held (P .erase) .value)
-                X = drop h6 [] (slotOf T1) (way ++ p .byte ∷ []) (held (P .erase) .extent) k (held (P .erase) .value) (([], T1) ∷ []) [] W6
+                X : Dropped E f6 f7 h6 [] (slotOf T1) (([], T1) ∷ []) [] l (p .here .place) (held (P .erase) .extent) k (held (P .erase) .value)
+                X = drop E h6 [] (slotOf T1) (way ++ p .byte ∷ []) (held (P .erase) .extent) k (held (P .erase) .value) (([], T1) ∷ []) [] W6
 
                 abbrev touches : Touch
                 touches = touch (model.holder (hole.holderOf ys)) (l ∷ n ∷ [])
 
-                touched : touchErase edition1 (holder (P .erase) s w) (aboveOf ys) (length way) k ≡ touches
+                touched : touchErase E (holder (P .erase) s w) (aboveOf ys) (length way) k ≡ touches
                 touched =
                     node-touched (P .erase) s w ∙ lost-shrinks (aboveOf ys) n kind l rest (omega (arith, size-is rest, at-mark, down .0)) (size-is rest ∙ at-mark)
                     ∙ ap (λ x. touch (model.holder x) (l ∷ n ∷ [])) (next-above ys)
@@ -363,7 +365,7 @@ module _ {f k : List ℕ} {p : Spot} (P : Falls f k p) (s : State) (w : Stands e
                       leafy-other m kd q1 (omega arith),
                     )
 
-                pub shrink-done : Result f f7 k w (callErase edition1 s k)
+                pub shrink-done : Result f f7 k w (callErase E s k)
                 shrink-done =
                     let t = holder (P .erase) s w in
                     let er = root-is (P .erase) s w in
@@ -377,7 +379,7 @@ module _ {f k : List ℕ} {p : Spot} (P : Falls f k p) (s : State) (w : Stands e
                     let Z4 = since-write (C4 .only) (λ a x u. omega (arith, sum-cons (cover a) B1 [], cover-body a m kd q1 x u)) Z3 in
                     let Z5 = since-link m (p .node .link) ys (held (P .erase) .link) W4' G Z4 in
                     let Z6 = since-free kind-kind (W5 .heap) (first-owns W5) Z5 F6 in
-                    erase-done w ys t er L change new v erased el (λ p h. tt) (node-found (P .erase) s w) (fits-is w ys t er L change new v erased el (λ p h. tt) (fits (P .erase) s w)) tt
+                    erase-done w ys t er L change new v erased el (λ p h. tt) (node-found (P .erase) s w) (fits-is w ys t er L change new v erased el (λ p h. tt) (fits (P .erase) s w)) (P .erase .lawful) tt
                     (X .work) refl bytes books fewer (was-is (P .erase) s w) (X .since f h0 (B1 ∷ []) rs (body n kind o ∷ []) [] Z6)
                     (subst (λ (z : Touch). Accounts (w .root) z (kd ∷ kind ∷ Leaf ∷ []) (B1 ∷ []) rs gs) (sym touched) accounts)
                     (stay-more (λ x z. omega (
@@ -388,4 +390,4 @@ module _ {f k : List ℕ} {p : Spot} (P : Falls f k p) (s : State) (w : Stands e
                       left-marks (P .erase) s w (is x) way,
                       is-gone x (l ∷ n ∷ []) l Leaf k k (rw touched at z) (among-here l (n ∷ [])),
                       is-gone x (l ∷ n ∷ []) n kind way way (rw touched at z) (among-there n l (n ∷ []) (among-here n [])),
-                    )))
+                    ))) (let d = down in among-not Prefix kd [] (λ z. omega arith))

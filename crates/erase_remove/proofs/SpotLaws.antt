@@ -9,7 +9,7 @@ use lib.ListN.{length}
 use Rattle.layout.specs.Kind.{Leaf, shrinkMark, kindDown, Inner}
 use Rattle.layout.specs.Kind.Inner.{node4, node16, node48, node256}
 use Rattle.layout.proofs.KindLaws.{range-inner}
-use Rattle.model.specs.Edition.{edition1}
+use Rattle.model.specs.Edition.{Edition}
 use Rattle.model.specs.Tree.{Art, Kids, Left, count, extentOf, lessOne, eraseTree, findTree}
 use Rattle.model.specs.State.{State, room, eraseChange}
 use Rattle.model.specs.Item.{Item, body, extent, leafy, sum}
@@ -61,12 +61,12 @@ mark-down kind l u = go (range-inner kind (omega arith) u) l
 
 -- ---- the node that holds the Leaf
 
-leads-up : {k : List ℕ} (s o kind : ℕ) (ls : LayKids) (b j : ℕ) (rs : LayKids) (xs : List Step) (r : List ℕ) → Leads edition1 k (among s o kind ls b j rs ∷ xs) r → Leads edition1 k xs (b ∷ r)
+leads-up : {E : Edition} {k : List ℕ} (s o kind : ℕ) (ls : LayKids) (b j : ℕ) (rs : LayKids) (xs : List Step) (r : List ℕ) → Leads E k (among s o kind ls b j rs ∷ xs) r → Leads E k xs (b ∷ r)
 unfolding pathOf stepPath Foremost
 leads-up s o kind ls b j rs xs r L = record { word = L .word ∙ append-assoc (pathOf xs) (b ∷ []) r; first = L .first .1 }
 
 -- the Leaf of key k at the spot p of the tree `whole` is held at the spot's byte by the spot's node, of other children `before` and `after`
-pub record Held (k : List ℕ) (p : Spot) (whole : Lay) : Type 0 where
+pub record Held (E : Edition) (k : List ℕ) (p : Spot) (whole : Lay) : Type 0 where
   pub steps : List Step
   pub before : LayKids
   pub place : ℕ
@@ -74,13 +74,13 @@ pub record Held (k : List ℕ) (p : Spot) (whole : Lay) : Type 0 where
   pub extent : ℕ
   pub value : List ℕ
   pub rest : List ℕ
-  pub leads : Leads edition1 k steps (p .byte ∷ rest)
+  pub leads : Leads E k steps (p .byte ∷ rest)
   pub link : Link steps (p .node .link)
-  pub top : Topped steps (p .above)
+  pub top : Topped steps (p .above) (p .first) (p .«first_link»)
   pub is : whole ≡ plug steps (node (p .node .slot) (p .node .place) (p .node .kind) (app before (kid (p .byte) place (leaf (p .here .slot) (p .here .place) extent k value) after)))
 
-pub held : {f k : List ℕ} {p : Spot} (P : EraseAt f k p) → Held k p (P .lay)
-held {f} {k} {p} P =
+pub held : {E : Edition} {f k : List ℕ} {p : Spot} (P : EraseAt E f k p) → Held E k p (P .lay)
+held {E} {f} {k} {p} P =
     let H = P .way .over .held (P .held) in
     let n = p .node in
     let F = P .found in
@@ -93,7 +93,7 @@ held {f} {k} {p} P =
       extent = F .extent;
       value = F .value;
       rest = P .way .rest;
-      leads = leads-up (n .slot) (n .place) (n .kind) (H .before) (p .byte) (H .place) (H .after) (H .up) (P .way .rest) (subst (λ (ys : List Step). Leads edition1 k ys (P .way .rest)) (H .is) (P .way .leads));
+      leads = leads-up (n .slot) (n .place) (n .kind) (H .before) (p .byte) (H .place) (H .after) (H .up) (P .way .rest) (subst (λ (ys : List Step). Leads E k ys (P .way .rest)) (H .is) (P .way .leads));
       link = H .link;
       top = H .top;
       is = P .way .whole ∙ ap (λ (ys : List Step). plug ys (P .way .sub)) (H .is) ∙ ap (plug (among (n .slot) (n .place) (n .kind) (H .before) (p .byte) (H .place) (H .after) ∷ H .up)) (F .is)
@@ -102,7 +102,7 @@ held {f} {k} {p} P =
 
 -- ---- the node in the good frame, seen through any witness of it
 
-module _ {f k : List ℕ} {p : Spot} (P : EraseAt f k p) (s : State) (w : Stands edition1 f s) where
+module _ {E : Edition} {f k : List ℕ} {p : Spot} (P : EraseAt E f k p) (s : State) (w : Stands E f s) where
   abbrev pub xs : List Step
   xs = held P .steps
 
@@ -123,14 +123,14 @@ module _ {f k : List ℕ} {p : Spot} (P : EraseAt f k p) (s : State) (w : Stands
   holder = node (p .node .slot) (p .node .place) (p .node .kind) kids
 
   pub root-is : w .root ≡ tree (plug xs holder)
-  root-is = root-unique edition1 f s (P .st) w (P .stands) ∙ P .is ∙ ap tree (held P .is)
+  root-is = root-unique E f s (P .st) w (P .stands) ∙ P .is ∙ ap tree (held P .is)
 
-  pub fits : room s (eraseChange edition1 (art (plug xs holder)) k) ≡ true
+  pub fits : room s (eraseChange E (art (plug xs holder)) k) ≡ true
   fits =
-      subst (λ (l : Lay). room s (eraseChange edition1 (art l) k) ≡ true) (held P .is)
-      (subst (λ (t : State). room t (eraseChange edition1 (art (P .lay)) k) ≡ true) (sym (stands-unique edition1 f s (P .st) w (P .stands))) (P .room))
+      subst (λ (l : Lay). room s (eraseChange E (art l) k) ≡ true) (held P .is)
+      (subst (λ (t : State). room t (eraseChange E (art (P .lay)) k) ≡ true) (sym (stands-unique E f s (P .st) w (P .stands))) (P .room))
 
-  abbrev pub W0 : Work edition1 f (standsView w) xs (p .node .slot) ((path, holder) ∷ []) []
+  abbrev pub W0 : Work E f (standsView w) xs (p .node .slot) ((path, holder) ∷ []) []
   W0 = work-open xs holder [] (work-of w (plug xs holder) root-is) refl .0
 
   abbrev pub N0 : NodeOf f (p .node .place) (p .node .kind) kids
@@ -172,22 +172,22 @@ module _ {f k : List ℕ} {p : Spot} (P : EraseAt f k p) (s : State) (w : Stands
   art-is : art holder ≡ Art.node (p .node .kind) (appKids (artKids (held P .before)) (Kids.kid (p .byte) (held P .place) (Art.leaf k (held P .value)) (artKids (held P .after))))
   art-is = ap (Art.node (p .node .kind)) (art-app (held P .before) (kid (p .byte) (held P .place) gone (held P .after)))
 
-  pub node-found : findTree edition1 (art holder) (length path) k ≡ some (held P .value)
+  pub node-found : findTree E (art holder) (length path) k ≡ some (held P .value)
   node-found =
-      ap (λ a. findTree edition1 a (length path) k) art-is
-      ∙ find-app edition1 k (length path) (p .byte) (held P .place) (leads-byte (held P .leads)) (Art.leaf k (held P .value)) (artKids (held P .before)) (artKids (held P .after)) (has-is (p .byte) (held P .before) ∙ left-none)
+      ap (λ a. findTree E a (length path) k) art-is
+      ∙ find-app E k (length path) (p .byte) (held P .place) (leads-byte (held P .leads)) (Art.leaf k (held P .value)) (artKids (held P .before)) (artKids (held P .after)) (has-is (p .byte) (held P .before) ∙ left-none)
       ∙ rw (same-refl k) refl
 
   -- the node after its Leaf went
-  pub node-erased : eraseTree edition1 (art holder) (length path) k
+  pub node-erased : eraseTree E (art holder) (length path) k
       ≡ lessOne (p .node .kind) bare (record { now = Left.gone; takes = []; frees = Leaf ∷ []; extent = 0; dead = extentOf k (held P .value); fresh = false })
   node-erased =
-      ap (λ a. eraseTree edition1 a (length path) k) art-is
-      ∙ node-erase edition1 k (length path) (p .byte) (held P .place) (leads-byte (held P .leads)) (p .node .kind) k (held P .value) (held P .before) (held P .after) (same-refl k) left-none
+      ap (λ a. eraseTree E a (length path) k) art-is
+      ∙ node-erase E k (length path) (p .byte) (held P .place) (leads-byte (held P .leads)) (p .node .kind) k (held P .value) (held P .before) (held P .after) (same-refl k) left-none
 
-  pub node-touched : touchErase edition1 holder (aboveOf xs) (length path) k ≡ touchLost (aboveOf xs) (p .node .slot) (p .node .kind) (p .here .slot) left
+  pub node-touched : touchErase E holder (aboveOf xs) (length path) k ≡ touchLost (aboveOf xs) (p .node .slot) (p .node .kind) (p .here .slot) left
   node-touched =
-      node-touch edition1 k (length path) (p .byte) (held P .place) (p .here .slot) (p .here .place) (held P .extent) k (held P .value) (held P .before) (held P .after) (aboveOf xs) (p .node .slot) (p .node .place) (p .node .kind)
+      node-touch E k (length path) (p .byte) (held P .place) (p .here .slot) (p .here .place) (held P .extent) k (held P .value) (held P .before) (held P .after) (aboveOf xs) (p .node .slot) (p .node .place) (p .node .kind)
       (leads-byte (held P .leads)) left-none
 
   -- the items of the tree
@@ -219,14 +219,14 @@ module _ {f k : List ℕ} {p : Spot} (P : EraseAt f k p) (s : State) (w : Stands
       )
 
   -- the node has the byte, also in a frame on the way
-  pub has-byte : {g : List ℕ} {h : View} {loose : List Item} → Work edition1 g h xs (p .node .slot) ((path, holder) ∷ []) loose → NodeHas g (p .node .place) (p .node .kind) (p .byte)
+  pub has-byte : {g : List ℕ} {h : View} {loose : List Item} → Work E g h xs (p .node .slot) ((path, holder) ∷ []) loose → NodeHas g (p .node .place) (p .node .kind) (p .byte)
   has-byte {loose = loose} W =
       let N = open-node path [] loose (p .node .slot) (p .node .place) (p .node .kind) kids W .1 in
       record { kids = pairs kids; node = N .inner; child = p .here .slot; has = app-look (p .byte) (held P .place) gone 0 (held P .before) (held P .after) (inner-asc (pairs kids) (N .inner)) }
 
 -- where the key's extent stands at entry
-pub was-is : {f k : List ℕ} {p : Spot} (P : EraseAt f k p) (s : State) (w : Stands edition1 f s) → extentAt (length k) (findAt edition1 (w .root) k) ≡ extent (held P .extent) (extentOf k (held P .value)) ∷ []
+pub was-is : {E : Edition} {f k : List ℕ} {p : Spot} (P : EraseAt E f k p) (s : State) (w : Stands E f s) → extentAt (length k) (findAt E (w .root) k) ≡ extent (held P .extent) (extentOf k (held P .value)) ∷ []
 unfolding held
-was-is {f} {k} {p} P s w =
+was-is {E} {f} {k} {p} P s w =
     plug-extent (P .way .leads) (w .root) (p .here .slot) (p .here .place) (P .found .extent) (P .found .value)
-    (root-unique edition1 f s (P .st) w (P .stands) ∙ P .is ∙ ap tree (P .way .whole ∙ ap (plug (P .way .steps)) (P .found .is)))
+    (root-unique E f s (P .st) w (P .stands) ∙ P .is ∙ ap tree (P .way .whole ∙ ap (plug (P .way .steps)) (P .found .is)))

@@ -4,12 +4,14 @@ use descent::spot::Spot;
 use inner::change;
 ghost use Prim.Native.Nat.{ℕ};
 ghost use mathlib.Core.List.{List};
-ghost use Rattle.erase_remove.specs.Erase.{Stays, SomeKey, EraseStep};
+ghost use Rattle.model.specs.Edition.{Edition};
+ghost use Rattle.descent.specs.Spot.{SomeDescent};
+ghost use Rattle.erase_remove.specs.Erase.{Stays, EraseStep};
 
 // The byte leaves the node, then the Leaf goes.
 pub fn remove_child(f: &mut [u8], spot: Spot)
-    requires { ⌜ SomeKey (λ k. Stays (now f) k spot) ⌝ }
-    ensures { λ _. ⌜ ((k : List ℕ) → Stays (now (f .entry)) k spot → EraseStep (now (f .entry)) k (now (f .exit))) ⌝ }
+    requires { ⌜ SomeDescent (λ E k. Stays E (now f) k spot) ⌝ }
+    ensures { λ _. ⌜ ((E : Edition) (k : List ℕ) → Stays E (now (f .entry)) k spot → EraseStep E (now (f .entry)) k (now (f .exit))) ⌝ }
 {
     let node = spot.node;
     let here = spot.here;

@@ -8,12 +8,14 @@ use layout::kind;
 use room::heap;
 ghost use Prim.Native.Nat.{ℕ};
 ghost use mathlib.Core.List.{List};
-ghost use Rattle.erase_remove.specs.Erase.{Falls, SomeKey, EraseStep};
+ghost use Rattle.model.specs.Edition.{Edition};
+ghost use Rattle.descent.specs.Spot.{SomeDescent};
+ghost use Rattle.erase_remove.specs.Erase.{Falls, EraseStep};
 
 // A smaller body is taken and gets the children that stay; the old body and the Leaf go.
 pub fn shrink(f: &mut [u8], spot: Spot)
-    requires { ⌜ SomeKey (λ k. Falls (now f) k spot) ⌝ }
-    ensures { λ _. ⌜ ((k : List ℕ) → Falls (now (f .entry)) k spot → EraseStep (now (f .entry)) k (now (f .exit))) ⌝ }
+    requires { ⌜ SomeDescent (λ E k. Falls E (now f) k spot) ⌝ }
+    ensures { λ _. ⌜ ((E : Edition) (k : List ℕ) → Falls E (now (f .entry)) k spot → EraseStep E (now (f .entry)) k (now (f .exit))) ⌝ }
 {
     let node = spot.node;
     let here = spot.here;

@@ -1,5 +1,5 @@
 -- A header that was written is read, and the list heads and all behind it stay. Assumes nothing.
-use Prim.Native.Nat.{ℕ, _+_, _<_, _≤_}
+use Prim.Native.Nat.{ℕ, _+_, _≤_}
 use mathlib.Core.Path.{_≡_}
 use mathlib.Core.List.{List}
 use mathlib.Core.Bool.{true}
@@ -7,8 +7,7 @@ use native.Mathlib.Omega.{arith}
 use borrow.Author.Tests.{le-leb}
 use lib.Dec.{leb}
 use lib.ListN.{length}
-use Rattle.layout.specs.Number.{byteAt, le, put}
-use Rattle.layout.specs.Place.{atEdition}
+use Rattle.layout.specs.Number.{byteAt, put}
 use Rattle.fields.specs.Header.{headerOf, putHeader, HeaderFits}
 use Rattle.fields.specs.declared.header.Header.{Header}
 use Rattle.layout.proofs.NumberLaws.{own64, over, le-laws}
@@ -22,6 +21,7 @@ module _ (f : List ℕ) (h : Header) where
   unfolding headerOf putHeader
   header-put l fits =
       let s = le-leb 64 (length f) l in
+      let z = fits .edition in
       let a = fits .frame-length in
       let b = fits .slot-capacity in
       let c = fits .data-start in
@@ -31,10 +31,6 @@ module _ (f : List ℕ) (h : Header) where
       let i = fits .dead-bytes in
       let j = fits .root in
       simp (le-laws, own64, s)
-
-  pub edition-put : 64 ≤ length f → le 4 (putHeader f h) atEdition ≡ 1
-  unfolding putHeader
-  edition-put l = let s = le-leb 64 (length f) l in let one : 1 < 4294967296 = omega arith in simp (le-laws, own64, s)
 
   pub length-putHeader : length (putHeader f h) ≡ length f
   unfolding putHeader

@@ -8,6 +8,7 @@ use Rattle.fields.specs.declared.header.Header.{Header}
 unfoldable pub headerOf : List ℕ → Header
 headerOf f =
     record {
+      edition = le 4 f atEdition;
       «frame_length» = le 4 f atF;
       «slot_capacity» = le 4 f atN;
       «data_start» = le 4 f atD;
@@ -18,15 +19,16 @@ headerOf f =
       root = le 2 f atRoot;
     }
 
--- edition 1 and the eight fields
+-- the nine fields
 unfoldable pub putHeader : List ℕ → Header → List ℕ
 putHeader f h =
     put 2
-    (put 4 (put 4 (put 4 (put 4 (put 4 (put 4 (put 4 (put 4 f atEdition 1) atF (h .«frame_length»)) atN (h .«slot_capacity»)) atD (h .«data_start»)) atB (h .«next_byte»)) atU (h .«slots_given»)) atR (h .records)) atX (h .«dead_bytes»))
+    (put 4 (put 4 (put 4 (put 4 (put 4 (put 4 (put 4 (put 4 f atEdition (h .edition)) atF (h .«frame_length»)) atN (h .«slot_capacity»)) atD (h .«data_start»)) atB (h .«next_byte»)) atU (h .«slots_given»)) atR (h .records)) atX (h .«dead_bytes»))
     atRoot (h .root)
 
 -- each field holds what is put there
 pub record HeaderFits (h : Header) : Type 0 where
+  pub edition : h .edition < 4294967296
   pub frame-length : h .«frame_length» < 4294967296
   pub slot-capacity : h .«slot_capacity» < 4294967296
   pub data-start : h .«data_start» < 4294967296

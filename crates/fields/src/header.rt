@@ -9,6 +9,8 @@ ghost use Rattle.layout.specs.Place.{atEdition, atF, atN, atD, atB, atU, atR, a
 ghost use Rattle.fields.specs.Header.{putHeader};
 
 pub struct Header {
+    // the edition's number
+    pub edition: usize,
     // F
     pub frame_length: usize,
     // N
@@ -52,8 +54,10 @@ impl Header {
 
     // the entries begin behind it
     pub const SIZE: usize = Entry::FIRST;
-    // what the edition field of such a frame holds
-    pub const EDITION: usize = 1;
+    // what the edition field holds
+    pub const FIRST_EDITION: usize = 1;
+
+    pub const SECOND_EDITION: usize = 2;
     // F is a multiple of 8 between these
     pub const LEAST_LENGTH: usize = 1024;
 
@@ -198,12 +202,12 @@ impl Header {
 
     // ---- all
 
-    // Edition 1 and the eight fields; list heads and zeros stay.
+    // The nine fields; list heads and zeros stay.
     pub fn write(self, f: &mut [u8])
         requires { ⌜ 64 ≤ length (now f) ⌝ }
         ensures { λ _. ⌜ now (f .exit) ≡ putHeader (now (f .entry)) self ⌝ }
     {
-        number::write4(f, Header::AT_EDITION, Header::EDITION);
+        number::write4(f, Header::AT_EDITION, self.edition);
         number::write4(f, Header::AT_F, self.frame_length);
         number::write4(f, Header::AT_N, self.slot_capacity);
         number::write4(f, Header::AT_D, self.data_start);

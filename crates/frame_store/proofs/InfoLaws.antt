@@ -10,6 +10,7 @@ use Rattle.answers.specs.declared.Info.{Info}
 use Rattle.answers.specs.declared.Info.the-variants as info
 use Rattle.answers.specs.declared.Refusal as refusal
 use Rattle.answers.specs.Number.{refusalNumber, infoNumber, counted, infoTold}
+use Rattle.model.specs.Edition.{Edition}
 use Rattle.model.proofs.StringLaws.{clash}
 use Rattle.demands.specs.Words.{Refusal}
 use Rattle.store.specs.Info.{InfoPromise}
@@ -32,20 +33,20 @@ written-all [] (v ∷ vs) e = absurd (omega arith)
 written-all (x ∷ o) [] e = absurd (omega arith)
 written-all (x ∷ o) (v ∷ vs) e = written-under v o 0 vs ∙ ap (λ l. v ∷ l) (written-all o vs (omega arith))
 
-module _ (told : Info) {f : List ℕ} {n : ℕ} (P : InfoPromise f (infoNumber told) (infoTold told)) (number : n ≡ infoNumber told) where
-  promise : InfoPromise f n (infoTold told)
+module _ {E : Edition} (told : Info) {f : List ℕ} {n : ℕ} (P : InfoPromise E f (infoNumber told) (infoTold told)) (number : n ≡ infoNumber told) where
+  promise : InfoPromise E f n (infoTold told)
   promise = rw number P
 
-  pub none-told : {o : List ℕ} {r : refusal.Refusal} → told ≡ info.Refused r → Informed f o n o
+  pub none-told : {o : List ℕ} {r : refusal.Refusal} → told ≡ info.Refused r → Informed E f o n o
   none-told {o} {r} e =
       let x : n ≡ refusalNumber r = number ∙ ap infoNumber e in
       let bad : Refusal n = rw x (is-refusal r) in
       record { told = infoTold told; promise = promise; fourteen = λ l z. absurd (z bad); other = λ l. refl; refused = λ l. refl }
 
-  pub other-told : {o : List ℕ} → (length o ≡ 14 → ⊥) → Informed f o n o
+  pub other-told : {o : List ℕ} → (length o ≡ 14 → ⊥) → Informed E f o n o
   other-told k = record { told = infoTold told; promise = promise; fourteen = λ l z. absurd (k l); other = λ z. refl; refused = λ z. refl }
 
-  pub all-told : {o : List ℕ} (c : Counts) → told ≡ info.Told c → length o ≡ 14 → Informed f o n (written o 0 (counted c))
+  pub all-told : {o : List ℕ} (c : Counts) → told ≡ info.Told c → length o ≡ 14 → Informed E f o n (written o 0 (counted c))
   all-told {o} c e l =
       let good : n ≡ 0 = number ∙ ap infoNumber e in
       record {

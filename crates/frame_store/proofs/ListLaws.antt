@@ -10,7 +10,7 @@ use Rattle.answers.specs.declared.List.{List as Listing}
 use Rattle.answers.specs.declared.List.the-variants as list
 use Rattle.answers.specs.declared.Refusal as refusal
 use Rattle.answers.specs.Number.{refusalNumber, listNumber, listCount, listMore, oneIf}
-use Rattle.model.specs.Edition.{edition1}
+use Rattle.model.specs.Edition.{Edition}
 use Rattle.model.proofs.StringLaws.{clash}
 use Rattle.demands.specs.Words.{Refusal}
 use Rattle.listing.specs.Listing.{startOf, delimiterOf, ListPromise}
@@ -31,12 +31,12 @@ two-told o a b e = record { written = λ z. set-two o a b e; other = λ z. absur
 pub two-untold : (o : List ℕ) (a b : ℕ) → (length o ≡ 2 → ⊥) → Tells o (a ∷ b ∷ []) o
 two-untold o a b n = record { written = λ z. absurd (n z); other = λ z. refl }
 
-module _ (told : Listing) {f p : List ℕ} (s : List ℕ) (has delimiter : ℕ) {b : List ℕ} {n : ℕ} {b' : List ℕ}
-    (P : ListPromise edition1 f p (startOf (not (eqb has 0)) s) (delimiterOf delimiter) b (listNumber told) (listCount told) (listMore told) b') (number : n ≡ listNumber told) where
-  promise : ListPromise edition1 f p (startOf (not (eqb has 0)) s) (delimiterOf delimiter) b n (listCount told) (listMore told) b'
+module _ {E : Edition} (told : Listing) {f p : List ℕ} (s : List ℕ) (has delimiter : ℕ) {b : List ℕ} {n : ℕ} {b' : List ℕ}
+    (P : ListPromise E f p (startOf (not (eqb has 0)) s) (delimiterOf delimiter) b (listNumber told) (listCount told) (listMore told) b') (number : n ≡ listNumber told) where
+  promise : ListPromise E f p (startOf (not (eqb has 0)) s) (delimiterOf delimiter) b n (listCount told) (listMore told) b'
   promise = rw number P
 
-  pub page-told : {o o' : List ℕ} (count : ℕ) (more : Bool) → told ≡ list.Done count more → Tells o (count ∷ oneIf more ∷ []) o' → Listed f p s has delimiter b o n b' o'
+  pub page-told : {o o' : List ℕ} (count : ℕ) (more : Bool) → told ≡ list.Done count more → Tells o (count ∷ oneIf more ∷ []) o' → Listed E f p s has delimiter b o n b' o'
   page-told count more e T =
       record {
         count = listCount told;
@@ -46,7 +46,7 @@ module _ (told : Listing) {f p : List ℕ} (s : List ℕ) (has delimiter : ℕ) 
         refused = λ z. let x : n ≡ 0 = number ∙ ap listNumber e in let y : false ≡ true = rw x at z in clash (cc);
       }
 
-  pub page-refused : {o : List ℕ} (r : refusal.Refusal) → told ≡ list.Refused r → Listed f p s has delimiter b o n b' o
+  pub page-refused : {o : List ℕ} (r : refusal.Refusal) → told ≡ list.Refused r → Listed E f p s has delimiter b o n b' o
   page-refused r e =
       let x : n ≡ refusalNumber r = number ∙ ap listNumber e in
       let bad : Refusal n = rw x (is-refusal r) in

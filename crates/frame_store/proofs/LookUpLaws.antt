@@ -10,7 +10,7 @@ use Rattle.answers.specs.declared.LookUp.the-variants as look
 use Rattle.answers.specs.declared.Refusal as refusal
 use Rattle.answers.specs.declared.Refusal.the-variants as why
 use Rattle.answers.specs.Number.{refusalNumber, lookUpNumber}
-use Rattle.model.specs.Edition.{edition1}
+use Rattle.model.specs.Edition.{Edition}
 use Rattle.model.specs.Promise.{LookUpPromise}
 use Rattle.model.proofs.StringLaws.{clash}
 use Rattle.demands.specs.Words.{Refusal}
@@ -46,16 +46,16 @@ is-refusal why.Output = refl
 is-refusal why.Room = refl
 is-refusal why.Buffer = refl
 
-module _ (told : LookUp) {f k : List ℕ} {n : ℕ} (P : LookUpPromise edition1 f k (foundIn told)) (number : n ≡ lookUpNumber told) where
-  pub found-told : {o o' : List ℕ} (p l v : ℕ) → told ≡ look.Found p l v → Tells o (p ∷ l ∷ v ∷ []) o' → LookedUp f k o n o'
+module _ {E : Edition} (told : LookUp) {f k : List ℕ} {n : ℕ} (P : LookUpPromise E f k (foundIn told)) (number : n ≡ lookUpNumber told) where
+  pub found-told : {o o' : List ℕ} (p l v : ℕ) → told ≡ look.Found p l v → Tells o (p ∷ l ∷ v ∷ []) o' → LookedUp E f k o n o'
   found-told p l v e T =
       record { found = foundIn told; promise = P; number = number; told = λ z. rw e T; refused = λ z. let x : n ≡ 0 = number ∙ ap lookUpNumber e in let y : false ≡ true = rw x at z in clash (cc) }
 
-  pub absent-told : {o o' : List ℕ} (v : ℕ) → told ≡ look.Absent v → Tells o (0 ∷ 0 ∷ v ∷ []) o' → LookedUp f k o n o'
+  pub absent-told : {o o' : List ℕ} (v : ℕ) → told ≡ look.Absent v → Tells o (0 ∷ 0 ∷ v ∷ []) o' → LookedUp E f k o n o'
   absent-told v e T =
       record { found = foundIn told; promise = P; number = number; told = λ z. rw e T; refused = λ z. let x : n ≡ 8 = number ∙ ap lookUpNumber e in let y : false ≡ true = rw x at z in clash (cc) }
 
-  pub refused-told : {o : List ℕ} (r : refusal.Refusal) → told ≡ look.Refused r → LookedUp f k o n o
+  pub refused-told : {o : List ℕ} (r : refusal.Refusal) → told ≡ look.Refused r → LookedUp E f k o n o
   refused-told r e =
       let x : n ≡ refusalNumber r = number ∙ ap lookUpNumber e in
       let bad : Refusal n = rw x (is-refusal r) in

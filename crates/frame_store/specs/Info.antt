@@ -3,12 +3,13 @@ use Prim.Native.Nat.{ℕ}
 use mathlib.Core.Path.{_≡_}
 use mathlib.Core.List.{List}
 use lib.ListN.{length}
+use Rattle.model.specs.Edition.{Edition}
 use Rattle.demands.specs.Words.{Refusal, NotRefused}
 use Rattle.store.specs.Info.{InfoPromise}
 
-pub record Informed (f o : List ℕ) (n : ℕ) (o' : List ℕ) : Type 0 where
+pub record Informed (E : Edition) (f o : List ℕ) (n : ℕ) (o' : List ℕ) : Type 0 where
   pub told : List ℕ
-  pub promise : InfoPromise f n told
+  pub promise : InfoPromise E f n told
   pub fourteen : length o ≡ 14 → NotRefused n → o' ≡ told
   pub other : (length o ≡ 14 → ⊥) → o' ≡ o
   -- "a refused call changes no byte of any lent buffer"

@@ -2,14 +2,14 @@
 use Prim.Native.Nat.{ℕ}
 use mathlib.Core.Path.{_≡_}
 use mathlib.Core.List.{List, [], _∷_}
-use Rattle.model.specs.Edition.{edition1}
+use Rattle.model.specs.Edition.{Edition}
 use Rattle.model.specs.Promise.{Found, LookUpPromise}
 use Rattle.demands.specs.Words.{Refusal, NotRefused}
 use Rattle.frame_store.specs.Tells.{Tells}
 
-pub record LookedUp (f k o : List ℕ) (n : ℕ) (o' : List ℕ) : Type 0 where
+pub record LookedUp (E : Edition) (f k o : List ℕ) (n : ℕ) (o' : List ℕ) : Type 0 where
   pub found : Found
-  pub promise : LookUpPromise edition1 f k found
+  pub promise : LookUpPromise E f k found
   pub number : n ≡ found .number
   -- 0 or 8
   pub told : NotRefused n → Tells o (found .place ∷ found .long ∷ found .slots ∷ []) o'

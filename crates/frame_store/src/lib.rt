@@ -1,107 +1,63 @@
-// The calls for C and Rust: numbers and slices only. A slice passes as a pointer and a length.
-use answers;
-use answers::Info;
-use answers::List;
-use answers::LookUp;
-use names;
-use pack;
-use store::erase;
-use store::format;
-use store::info;
-use store::look;
-use store::put;
-ghost use Rattle.model.specs.Edition.{edition1};
+// The calls for C and Rust: numbers and slices only. A slice passes as a pointer and a length. `frame_` is edition 1, `frame2_` is edition 2.
+mod calls;
+
+use fields::header::Header;
+ghost use Rattle.model.specs.Edition.{edition1, edition2};
 ghost use Rattle.model.specs.Promise.{FormatPromise, CheckPromise, PutPromise, ReplacePromise, ErasePromise, PackPromise, PackBeforePromise};
-ghost use mathlib.Core.Path.{_≡_};
-ghost use mathlib.Core.List.{[], _∷_};
-ghost use Rattle.frame_store.specs.Tells.{Tells};
 ghost use Rattle.frame_store.specs.LookUp.{LookedUp};
 ghost use Rattle.frame_store.specs.Info.{Informed};
-ghost use Rattle.answers.specs.Number.{oneIf};
 ghost use Rattle.frame_store.specs.List.{Listed};
 ghost use Rattle.frame_store.specs.Batch.{Batched};
 
-// as many numbers as look-up tells, as a listing does, and as info does
-const FOUND: usize = 3;
-
-const PAGE: usize = 2;
-
-const COUNTS: usize = 14;
-
-// the place of a refused change stands above the number's byte
-const PLACE_UNIT: u64 = 256;
+// ---- edition 1
 
 #[no_mangle]
 pub extern "C" fn frame_format(frame: &mut [u8], length: usize, capacity: usize) -> u32
     ensures { λ n. ⌜ FormatPromise edition1 (now (frame .entry)) length capacity n (now (frame .exit)) ⌝ }
 {
-    answers::format_number(format::format(frame, length, capacity))
+    calls::format(frame, length, capacity, Header::FIRST_EDITION)
 }
 
 #[no_mangle]
 pub extern "C" fn frame_check(frame: &[u8]) -> u32
     ensures { λ n. ⌜ CheckPromise edition1 (now (frame .entry)) n ⌝ }
 {
-    answers::check_number(look::check(frame))
+    calls::check(frame, Header::FIRST_EDITION)
 }
 
-// The three numbers, where there is room for just three.
-fn tell(found: &mut [u64], place: usize, length: usize, slots: usize)
-    ensures { λ r. ⌜ Tells (now (found .entry)) (place ∷ length ∷ slots ∷ []) (now (found .exit)) ⌝ }
-{
-    if found.len() == FOUND {
-        found[0] = place as u64;
-        found[1] = length as u64;
-        found[2] = slots as u64;
-    }
-}
-
-// Place, length and slots visited go into the three numbers if there are three and the call is not refused, and nothing otherwise.
 #[no_mangle]
 pub extern "C" fn frame_look_up(frame: &[u8], key: &[u8], found: &mut [u64]) -> u32
-    ensures { λ n. ⌜ LookedUp (now (frame .entry)) (now (key .entry)) (now (found .entry)) n (now (found .exit)) ⌝ }
+    ensures { λ n. ⌜ LookedUp edition1 (now (frame .entry)) (now (key .entry)) (now (found .entry)) n (now (found .exit)) ⌝ }
 {
-    let told = look::look_up(frame, key);
-    let n = answers::look_up_number(told);
-    match told {
-        LookUp::Found(place, length, slots) => {
-            tell(found, place, length, slots);
-            n
-        }
-        LookUp::Absent(slots) => {
-            tell(found, 0, 0, slots);
-            n
-        }
-        LookUp::Refused(_) => n,
-    }
+    calls::look_up(frame, key, found, Header::FIRST_EDITION)
 }
 
 #[no_mangle]
 pub extern "C" fn frame_put(frame: &mut [u8], key: &[u8], value: &[u8]) -> u32
     ensures { λ n. ⌜ PutPromise edition1 (now (frame .entry)) (now (key .entry)) (now (value .entry)) n (now (frame .exit)) ⌝ }
 {
-    answers::put_number(put::put(frame, key, value))
+    calls::put(frame, key, value, Header::FIRST_EDITION)
 }
 
 #[no_mangle]
 pub extern "C" fn frame_replace(frame: &mut [u8], key: &[u8], value: &[u8]) -> u32
     ensures { λ n. ⌜ ReplacePromise edition1 (now (frame .entry)) (now (key .entry)) (now (value .entry)) n (now (frame .exit)) ⌝ }
 {
-    answers::replace_number(put::replace(frame, key, value))
+    calls::replace(frame, key, value, Header::FIRST_EDITION)
 }
 
 #[no_mangle]
 pub extern "C" fn frame_erase(frame: &mut [u8], key: &[u8]) -> u32
     ensures { λ n. ⌜ ErasePromise edition1 (now (frame .entry)) (now (key .entry)) n (now (frame .exit)) ⌝ }
 {
-    answers::erase_number(erase::erase(frame, key))
+    calls::erase(frame, key, Header::FIRST_EDITION)
 }
 
 #[no_mangle]
 pub extern "C" fn frame_pack(frame: &[u8], out: &mut [u8]) -> u32
     ensures { λ n. ⌜ PackPromise edition1 (now (frame .entry)) (now (out .entry)) n (now (out .exit)) ⌝ }
 {
-    answers::pack_number(pack::pack(frame, out))
+    calls::pack(frame, out, Header::FIRST_EDITION)
 }
 
 // A frame from before is taken too, in which what was freed is not wiped.
@@ -112,58 +68,13 @@ pub extern "C" fn frame_pack_before(frame: &[u8], out: &mut [u8]) -> u32
     answers::pack_number(pack::pack_before(frame, out))
 }
 
-// F, N, U, B, R, X and the lengths of the lists 1 to 8 go into the fourteen numbers if there are fourteen and the call is not refused,
-// and nothing otherwise.
 #[no_mangle]
 pub extern "C" fn frame_info(frame: &[u8], counts: &mut [u64]) -> u32
-    ensures { λ n. ⌜ Informed (now (frame .entry)) (now (counts .entry)) n (now (counts .exit)) ⌝ }
+    ensures { λ n. ⌜ Informed edition1 (now (frame .entry)) (now (counts .entry)) n (now (counts .exit)) ⌝ }
 {
-    let told = info::info(frame);
-    let n = answers::info_number(told);
-    let Info::Told(c) = told else {
-        return n;
-    };
-    if counts.len() == COUNTS {
-        counts[0] = c.frame_length as u64;
-        counts[1] = c.slot_capacity as u64;
-        counts[2] = c.slots_given as u64;
-        counts[3] = c.next_byte as u64;
-        counts[4] = c.records as u64;
-        counts[5] = c.dead_bytes as u64;
-        counts[6] = c.leaf as u64;
-        counts[7] = c.prefix as u64;
-        counts[8] = c.crossing as u64;
-        counts[9] = c.node4 as u64;
-        counts[10] = c.node16 as u64;
-        counts[11] = c.node48 as u64;
-        counts[12] = c.node256 as u64;
-        counts[13] = c.empty_root as u64;
-    }
-    n
+    calls::info(frame, counts, Header::FIRST_EDITION)
 }
 
-// 1 if more remain, and else 0.
-fn one_if(more: bool) -> usize
-    ensures { λ r. ⌜ r ≡ oneIf more ⌝ }
-{
-    if more {
-        return 1;
-    }
-    0
-}
-
-// How many entries and whether more remain, where there is room for just two numbers.
-fn tell_page(page: &mut [u64], count: usize, more: usize)
-    ensures { λ r. ⌜ Tells (now (page .entry)) (count ∷ more ∷ []) (now (page .exit)) ⌝ }
-{
-    if page.len() == PAGE {
-        page[0] = count as u64;
-        page[1] = more as u64;
-    }
-}
-
-// A start key is given if `given` is not 0; a delimiter above 255 is none. How many and whether more remain go into the two numbers if there are two
-// and the call is not refused, and nothing otherwise.
 #[no_mangle]
 pub extern "C" fn frame_list(
     frame: &[u8],
@@ -174,18 +85,20 @@ pub extern "C" fn frame_list(
     buffer: &mut [u8],
     page: &mut [u64],
 ) -> u32
-    ensures { λ n. ⌜ Listed (now (frame .entry)) (now (prefix .entry)) (now (start .entry)) given delimiter (now (buffer .entry)) (now (page .entry)) n (now (buffer .exit)) (now (page .exit)) ⌝ }
+    ensures { λ n. ⌜ Listed edition1 (now (frame .entry)) (now (prefix .entry)) (now (start .entry)) given delimiter (now (buffer .entry)) (now (page .entry)) n (now (buffer .exit)) (now (page .exit)) ⌝ }
 {
-    let told = names::list(frame, prefix, start, given != 0, delimiter, buffer);
-    let n = answers::list_number(told);
-    let List::Done(count, more) = told else {
-        return n;
-    };
-    tell_page(page, count, one_if(more));
-    n
+    calls::list(
+        frame,
+        prefix,
+        start,
+        given,
+        delimiter,
+        buffer,
+        page,
+        Header::FIRST_EDITION,
+    )
 }
 
-// A batch: the number, and 256 times the place of the first refused change, counted from 1.
 #[no_mangle]
 pub extern "C" fn frame_batch(
     frame: &mut [u8],
@@ -193,8 +106,101 @@ pub extern "C" fn frame_batch(
     changes: &[u8],
     answers: &mut [u8],
 ) -> u64
-    ensures { λ r. ⌜ Batched (now (frame .entry)) (now (second .entry)) (now (changes .entry)) (now (answers .entry)) r (now (frame .exit)) (now (second .exit)) (now (answers .exit)) ⌝ }
+    ensures { λ r. ⌜ Batched edition1 (now (frame .entry)) (now (second .entry)) (now (changes .entry)) (now (answers .entry)) r (now (frame .exit)) (now (second .exit)) (now (answers .exit)) ⌝ }
 {
-    let end = batch::apply(frame, second, changes, answers);
-    end.number as u64 + PLACE_UNIT * (end.place as u64)
+    calls::batch(frame, second, changes, answers, Header::FIRST_EDITION)
+}
+
+// ---- edition 2
+
+#[no_mangle]
+pub extern "C" fn frame2_format(frame: &mut [u8], length: usize, capacity: usize) -> u32
+    ensures { λ n. ⌜ FormatPromise edition2 (now (frame .entry)) length capacity n (now (frame .exit)) ⌝ }
+{
+    calls::format(frame, length, capacity, Header::SECOND_EDITION)
+}
+
+#[no_mangle]
+pub extern "C" fn frame2_check(frame: &[u8]) -> u32
+    ensures { λ n. ⌜ CheckPromise edition2 (now (frame .entry)) n ⌝ }
+{
+    calls::check(frame, Header::SECOND_EDITION)
+}
+
+#[no_mangle]
+pub extern "C" fn frame2_look_up(frame: &[u8], key: &[u8], found: &mut [u64]) -> u32
+    ensures { λ n. ⌜ LookedUp edition2 (now (frame .entry)) (now (key .entry)) (now (found .entry)) n (now (found .exit)) ⌝ }
+{
+    calls::look_up(frame, key, found, Header::SECOND_EDITION)
+}
+
+#[no_mangle]
+pub extern "C" fn frame2_put(frame: &mut [u8], key: &[u8], value: &[u8]) -> u32
+    ensures { λ n. ⌜ PutPromise edition2 (now (frame .entry)) (now (key .entry)) (now (value .entry)) n (now (frame .exit)) ⌝ }
+{
+    calls::put(frame, key, value, Header::SECOND_EDITION)
+}
+
+#[no_mangle]
+pub extern "C" fn frame2_replace(frame: &mut [u8], key: &[u8], value: &[u8]) -> u32
+    ensures { λ n. ⌜ ReplacePromise edition2 (now (frame .entry)) (now (key .entry)) (now (value .entry)) n (now (frame .exit)) ⌝ }
+{
+    calls::replace(frame, key, value, Header::SECOND_EDITION)
+}
+
+#[no_mangle]
+pub extern "C" fn frame2_erase(frame: &mut [u8], key: &[u8]) -> u32
+    ensures { λ n. ⌜ ErasePromise edition2 (now (frame .entry)) (now (key .entry)) n (now (frame .exit)) ⌝ }
+{
+    calls::erase(frame, key, Header::SECOND_EDITION)
+}
+
+#[no_mangle]
+pub extern "C" fn frame2_pack(frame: &[u8], out: &mut [u8]) -> u32
+    ensures { λ n. ⌜ PackPromise edition2 (now (frame .entry)) (now (out .entry)) n (now (out .exit)) ⌝ }
+{
+    calls::pack(frame, out, Header::SECOND_EDITION)
+}
+
+#[no_mangle]
+pub extern "C" fn frame2_info(frame: &[u8], counts: &mut [u64]) -> u32
+    ensures { λ n. ⌜ Informed edition2 (now (frame .entry)) (now (counts .entry)) n (now (counts .exit)) ⌝ }
+{
+    calls::info(frame, counts, Header::SECOND_EDITION)
+}
+
+#[no_mangle]
+pub extern "C" fn frame2_list(
+    frame: &[u8],
+    prefix: &[u8],
+    start: &[u8],
+    given: usize,
+    delimiter: usize,
+    buffer: &mut [u8],
+    page: &mut [u64],
+) -> u32
+    ensures { λ n. ⌜ Listed edition2 (now (frame .entry)) (now (prefix .entry)) (now (start .entry)) given delimiter (now (buffer .entry)) (now (page .entry)) n (now (buffer .exit)) (now (page .exit)) ⌝ }
+{
+    calls::list(
+        frame,
+        prefix,
+        start,
+        given,
+        delimiter,
+        buffer,
+        page,
+        Header::SECOND_EDITION,
+    )
+}
+
+#[no_mangle]
+pub extern "C" fn frame2_batch(
+    frame: &mut [u8],
+    second: &mut [u8],
+    changes: &[u8],
+    answers: &mut [u8],
+) -> u64
+    ensures { λ r. ⌜ Batched edition2 (now (frame .entry)) (now (second .entry)) (now (changes .entry)) (now (answers .entry)) r (now (frame .exit)) (now (second .exit)) (now (answers .exit)) ⌝ }
+{
+    calls::batch(frame, second, changes, answers, Header::SECOND_EDITION)
 }

@@ -8,7 +8,7 @@ use lib.ListN.{length}
 use Rattle.layout.specs.Place.{entryAt}
 use Rattle.layout.specs.Kind.{Leaf, Prefix, bodySize}
 use Rattle.layout.specs.Entry.{highOf, placeOf}
-use Rattle.model.specs.Edition.{Edition, edition1}
+use Rattle.model.specs.Edition.{Edition}
 use Rattle.model.specs.State.{State}
 use Rattle.model.specs.Item.{Item, body, onSlot, cover, sum}
 use Rattle.model.specs.Frame.{Lay, LayKids, Root, tree, rootItems, slotOf, IsNode, items, itemsAll, freed, Entry, NodeOf, LeafOf, Tree, Stands}
@@ -38,31 +38,31 @@ pub record IsInner (f : List ℕ) (s : ℕ) (l : Lay) : Type 0 where
   pub kids : LayKids
   pub is : l ≡ node s (placeOf f s) (highOf f s) kids
 
-module _ (f path : List ℕ) (s o : ℕ) where
-  pub leaf-lay : (l : Lay) → Tree edition1 f path l → slotOf l ≡ s → highOf f s ≡ Leaf → placeOf f s ≡ o → IsLeaf s o l
+module _ (E : Edition) (f path : List ℕ) (s o : ℕ) where
+  pub leaf-lay : (l : Lay) → Tree E f path l → slotOf l ≡ s → highOf f s ≡ Leaf → placeOf f s ≡ o → IsLeaf s o l
   unfolding Tree
   leaf-lay (leaf s' o' e k v) T q h p = let w = entry-at f s' s Leaf Leaf o' o q h p (T .0) in let y = w .1 in record { extent = e; key = k; value = v; is = cc }
   leaf-lay (prefix s' o' b l) T q h p = absurd (omega (arith, entry-at f s' s Prefix Leaf o' o q h p (T .0) .0))
   leaf-lay (node s' o' kind ks) T q h p = absurd (omega (arith, entry-at f s' s kind Leaf o' o q h p (T .0) .0, T .1 .inner .range))
 
-  pub prefix-lay : (l : Lay) → Tree edition1 f path l → slotOf l ≡ s → highOf f s ≡ Prefix → placeOf f s ≡ o → IsPrefix s o l
+  pub prefix-lay : (l : Lay) → Tree E f path l → slotOf l ≡ s → highOf f s ≡ Prefix → placeOf f s ≡ o → IsPrefix s o l
   unfolding Tree
   prefix-lay (leaf s' o' e k v) T q h p = absurd (omega (arith, entry-at f s' s Leaf Prefix o' o q h p (T .0) .0))
   prefix-lay (prefix s' o' b l) T q h p = let w = entry-at f s' s Prefix Prefix o' o q h p (T .0) in let y = w .1 in record { bytes = b; below = l; is = cc }
   prefix-lay (node s' o' kind ks) T q h p = absurd (omega (arith, entry-at f s' s kind Prefix o' o q h p (T .0) .0, T .1 .inner .range))
 
-pub inner-lay : (f path : List ℕ) (s : ℕ) (l : Lay) → Tree edition1 f path l → slotOf l ≡ s → 4 ≤ highOf f s → IsInner f s l
+pub inner-lay : (E : Edition) (f path : List ℕ) (s : ℕ) (l : Lay) → Tree E f path l → slotOf l ≡ s → 4 ≤ highOf f s → IsInner f s l
 unfolding Tree
-inner-lay f path s (leaf s' o e k v) T q low = absurd (omega (arith, entry-at f s' s Leaf (highOf f s) o (placeOf f s) q refl refl (T .0) .0))
-inner-lay f path s (prefix s' o b l) T q low = absurd (omega (arith, entry-at f s' s Prefix (highOf f s) o (placeOf f s) q refl refl (T .0) .0))
-inner-lay f path s (node s' o kind ks) T q low = let w = entry-at f s' s kind (highOf f s) o (placeOf f s) q refl refl (T .0) in let y = w .0 in let z = w .1 in record { kids = ks; is = cc }
+inner-lay E f path s (leaf s' o e k v) T q low = absurd (omega (arith, entry-at f s' s Leaf (highOf f s) o (placeOf f s) q refl refl (T .0) .0))
+inner-lay E f path s (prefix s' o b l) T q low = absurd (omega (arith, entry-at f s' s Prefix (highOf f s) o (placeOf f s) q refl refl (T .0) .0))
+inner-lay E f path s (node s' o kind ks) T q low = let w = entry-at f s' s kind (highOf f s) o (placeOf f s) q refl refl (T .0) in let y = w .0 in let z = w .1 in record { kids = ks; is = cc }
 
 -- what is neither a Leaf nor a Prefix is an inner node
-pub is-node : (f path : List ℕ) (s : ℕ) (l : Lay) → Tree edition1 f path l → slotOf l ≡ s → (highOf f s ≡ Leaf → ⊥) → (highOf f s ≡ Prefix → ⊥) → IsNode l
+pub is-node : (E : Edition) (f path : List ℕ) (s : ℕ) (l : Lay) → Tree E f path l → slotOf l ≡ s → (highOf f s ≡ Leaf → ⊥) → (highOf f s ≡ Prefix → ⊥) → IsNode l
 unfolding Tree
-is-node f path s (leaf s' o e k v) T q x y = absurd (x (rw q at (T .0 .kindIs)))
-is-node f path s (prefix s' o p l) T q x y = absurd (y (rw q at (T .0 .kindIs)))
-is-node f path s (node s' o kind ks) T q x y = tt
+is-node E f path s (leaf s' o e k v) T q x y = absurd (x (rw q at (T .0 .kindIs)))
+is-node E f path s (prefix s' o p l) T q x y = absurd (y (rw q at (T .0 .kindIs)))
+is-node E f path s (node s' o kind ks) T q x y = tt
 
 -- every slot's entry lies in the frame
 pub slot-in : (f : List ℕ) (s : ℕ) (l : Lay) → Inside f l → slotOf l ≡ s → SlotIn f s

@@ -9,7 +9,7 @@ use Rattle.layout.specs.Place.{entryAt, atR}
 use Rattle.layout.specs.Kind.{Leaf, Kind}
 use Rattle.layout.specs.Entry.{placeOf}
 use Rattle.fields.specs.Body.{putLeafBody}
-use Rattle.model.specs.Edition.{edition1}
+use Rattle.model.specs.Edition.{Edition}
 use Rattle.model.specs.Tree.{up8}
 use Rattle.model.specs.State.{State}
 use Rattle.model.specs.Frame.{View, Heap, Stands}
@@ -61,14 +61,14 @@ module _ {f k v : List ℕ} (M : Makes f k v) {f1 : List ℕ} {s : ℕ} (took : 
   -- the whole
   pub leaf-law : {f2 f3 : List ℕ} {e o : ℕ} → ((h : View) → Heap f1 h → h .nums .B + up8 (length k + length v) ≤ h .nums .F → Extended f1 f2 h k v e) → o ≡ placeOf f1 s → f3 ≡ putLeafBody f2 o e (length k) (length v)
       → NewLeaf f f3 k v s
-  leaf-law {e = e} ext eo eg h xs n ts loose path W R legal begins =
+  leaf-law {e = e} ext eo eg E h xs n ts loose path W R legal begins =
       let T' = took h (W .heap) (roomy-leaf (W .heap) R) in
       let w = makes-writes ext eo in
       leaf-made path W T' (ext (taken h Leaf) (T' .heap) (bytes-after (W .heap) R)) eo (leaf-written e (length k) (length v) eg (w .0) (w .1) (M .keyFits) (M .valueFits)) legal begins
 
 -- ---- R grows
 
-pub counts-of : {f g : List ℕ} {s : State} {h : View} (w : Stands edition1 f s) → Heap g h → h .nums .R ≡ w .nums .R → Counts g
+pub counts-of : {E : Edition} {f g : List ℕ} {s : State} {h : View} (w : Stands E f s) → Heap g h → h .nums .R ≡ w .nums .R → Counts g
 counts-of {h = h} w H e = record { view = h; heap = H; few = omega (arith, records-few w) }
 
 pub count-law : {f g : List ℕ} {r : ℕ} → r ≡ le 4 f atR → ((h : View) → Heap f h → Renumbered f g h (recorded h (r + 1))) → Counted f g

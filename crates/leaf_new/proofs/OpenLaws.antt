@@ -5,7 +5,7 @@ use mathlib.Core.List.{List, [], _∷_, _++_}
 use native.Mathlib.Omega.{arith}
 use lib.ListN.{length}
 use Rattle.layout.specs.Kind.{Leaf}
-use Rattle.model.specs.Edition.{edition1}
+use Rattle.model.specs.Edition.{Edition}
 use Rattle.model.specs.Tree.{extentOf}
 use Rattle.model.specs.State.{State}
 use Rattle.model.specs.Item.{body, extent}
@@ -16,11 +16,11 @@ use Rattle.between.specs.Hole.{Step, plug, pathOf, stepsItems}
 use Rattle.between.specs.Work.{Suits, forestItems, Work}
 use Rattle.between.proofs.WorkLaws.{standsView, work-of, work-open, first-owns, open-leaf}
 
-module _ {f : List ℕ} {s : State} (w : Stands edition1 f s) (xs : List Step) (n o e : ℕ) (k v : List ℕ) (er : w .root ≡ tree (plug xs (leaf n o e k v))) where
-  pub leaf-opened : Work edition1 f (standsView w) xs n ((pathOf xs, leaf n o e k v) ∷ []) [] × Suits xs (leaf n o e k v)
+module _ {E : Edition} {f : List ℕ} {s : State} (w : Stands E f s) (xs : List Step) (n o e : ℕ) (k v : List ℕ) (er : w .root ≡ tree (plug xs (leaf n o e k v))) where
+  pub leaf-opened : Work E f (standsView w) xs n ((pathOf xs, leaf n o e k v) ∷ []) [] × Suits xs (leaf n o e k v)
   leaf-opened = work-open xs (leaf n o e k v) [] (work-of w (plug xs (leaf n o e k v)) er) refl
 
-  pub leaf-loose : Work edition1 f (standsView w) xs n [] (body n Leaf o ∷ extent e (extentOf k v) ∷ []) × LeafOf edition1 f (pathOf xs) o e k v
+  pub leaf-loose : Work E f (standsView w) xs n [] (body n Leaf o ∷ extent e (extentOf k v) ∷ []) × LeafOf E f (pathOf xs) o e k v
   leaf-loose = open-leaf (pathOf xs) [] [] n o e k v (leaf-opened .0)
 
   pub leaf-lies : Lies (standsView w) n Leaf o

@@ -4,7 +4,7 @@ use mathlib.Core.Path.{_≡_}
 use mathlib.Core.List.{List, [], _∷_}
 use lib.ListN.{length}
 use Rattle.layout.specs.Kind.{Leaf}
-use Rattle.model.specs.Edition.{edition1}
+use Rattle.model.specs.Edition.{Edition}
 use Rattle.model.specs.Tree.{extentOf}
 use Rattle.model.specs.Item.{Item}
 use Rattle.model.specs.Frame.{Lay, View, Heap, Begins}
@@ -30,8 +30,8 @@ pub record Makes (f k v : List ℕ) : Type 0 where
 -- a Leaf of slot n was made, whatever else the work is and whichever path will lead to the Leaf
 abbrev pub NewLeaf : List ℕ → List ℕ → List ℕ → List ℕ → ℕ → Type 0
 NewLeaf f g k v n =
-    (h : View) (xs : List Step) (s : ℕ) (ts : List (List ℕ × Lay)) (loose : List Item) (path : List ℕ) → Work edition1 f h xs s ts loose → LeafRoom h k v → edition1 .keyFault k ≡ 0 → Begins (edition1 .walked k) path
-    → MadeLeaf edition1 f g h xs s ts loose path n k v
+    (E : Edition) (h : View) (xs : List Step) (s : ℕ) (ts : List (List ℕ × Lay)) (loose : List Item) (path : List ℕ) → Work E f h xs s ts loose → LeafRoom h k v → E .keyFault k ≡ 0 → Begins (E .walked k) path
+    → MadeLeaf E f g h xs s ts loose path n k v
 
 -- a frame whose R can grow
 pub record Counts (f : List ℕ) : Type 0 where

@@ -1,11 +1,11 @@
 -- Put at a spot of a good frame: what an edit counts on, and what it leaves.
-use Prim.Native.Nat.{ℕ}
+use Prim.Native.Nat.{ℕ, _≤_}
 use mathlib.Core.Path.{_≡_}
 use mathlib.Core.List.{List, _++_}
 use mathlib.Core.Bool.{true}
 use lib.ListN.{length}
 use lib.Dec.{ltb}
-use Rattle.model.specs.Edition.{edition1, Legal, LegalValue}
+use Rattle.model.specs.Edition.{Edition, Lawful, Legal, LegalValue}
 use Rattle.model.specs.State.{State, putChange, callPut}
 use Rattle.model.specs.State as state
 use Rattle.model.specs.Frame.{Lay, tree, Stands}
@@ -13,26 +13,29 @@ use Rattle.model.specs.Touch.{Outside, putTouch, findAt, extentAt, dying}
 use Rattle.descent.specs.declared.spot.Spot.{Spot}
 use Rattle.descent.specs.Spot.{Way}
 
--- a good frame with room for a put of a legal key and value
-pub record PutReady (f k v : List ℕ) : Type 0 where
-  pub st : State
-  pub stands : Stands edition1 f st
-  pub legal : Legal edition1 k
-  pub legalValue : LegalValue v
-  pub room : state.room st (putChange edition1 st k v) ≡ true
+module _ (E : Edition) where
+  -- a good frame with room for a put of a legal key and value
+  pub record PutReady (f k v : List ℕ) : Type 0 where
+    pub lawful : Lawful E
+    pub st : State
+    pub stands : Stands E f st
+    pub legal : Legal E k
+    pub some : 1 ≤ length k
+    pub legalValue : LegalValue v
+    pub room : state.room st (putChange E st k v) ≡ true
 
--- and the spot where the key's way ends in its tree
-pub record PutAt (f k v : List ℕ) (p : Spot) : Type 0 where
-  pub ready : PutReady f k v
-  pub lay : Lay
-  pub is : ready .stands .root ≡ tree lay
-  pub way : Way k lay p
+  -- and the spot where the key's way ends in its tree
+  pub record PutAt (f k v : List ℕ) (p : Spot) : Type 0 where
+    pub ready : PutReady f k v
+    pub lay : Lay
+    pub is : ready .stands .root ≡ tree lay
+    pub way : Way E k lay p
 
--- the state after, and what is settled of the bytes: the promise's clause of a put that is done
-abbrev pub Stepped : (f k v f' : List ℕ) (s : State) → Stands edition1 f s → Type 0
-Stepped f k v f' s w =
-    (w' : Stands edition1 f' (callPut edition1 s k v .state)) × (let c = putChange edition1 s k v in
-    Outside f f' (w .root) (w' .root) (w .lists) (w' .lists) (c .takes ++ c .frees) (putTouch edition1 (w .root) k v) (extentAt (length k) (findAt edition1 (w' .root) k)) (dying (c .dead) (extentAt (length k) (findAt edition1 (w .root) k))) (ltb 0 (c .extent)))
+  -- the state after, and what is settled of the bytes: the promise's clause of a put that is done
+  abbrev pub Stepped : (f k v f' : List ℕ) (s : State) → Stands E f s → Type 0
+  Stepped f k v f' s w =
+      (w' : Stands E f' (callPut E s k v .state)) × (let c = putChange E s k v in
+      Outside f f' (w .root) (w' .root) (w .lists) (w' .lists) (c .takes ++ c .frees) (putTouch E (w .root) k v) (extentAt (length k) (findAt E (w' .root) k)) (dying (c .dead) (extentAt (length k) (findAt E (w .root) k))) (ltb 0 (c .extent)))
 
-pub record PutStep (f k v f' : List ℕ) : Type 0 where
-  pub after : (s : State) (w : Stands edition1 f s) → Stepped f k v f' s w
+  pub record PutStep (f k v f' : List ℕ) : Type 0 where
+    pub after : (s : State) (w : Stands E f s) → Stepped f k v f' s w

@@ -11,69 +11,68 @@ use lib.ListN.{length, take, drop, length-append, length-drop}
 use lib.Seq.{take-at, drop-at, drop-drop}
 use lib.Dec.{leb}
 use borrow.Author.Tests.{lt-ltb, le-ltb, le-leb, eq-eqb, ne-eqb}
-use Rattle.model.specs.Strings.{pick, same, before, All, Byte}
-use Rattle.model.specs.Edition.{Edition, edition1}
+use Rattle.model.specs.Strings.{pick, same, before}
+use Rattle.model.specs.Edition.{Edition, Legal}
 use Rattle.model.specs.Records.{Record, AllKeys, Ahead, Ascending}
 use Rattle.model.specs.Image.{digits}
 use Rattle.model.proofs.StringLaws.{bool-cases, eqb-cases, ltb-cases, leb-cases, clash, same-true, before-trans}
-use Rattle.model.proofs.Edition1.{Positive}
-use Rattle.listing.specs.Listing.{begins, entryFor, addName, names, afterStart, fitting, laid, Listed, refusedAs, written, page, Gave}
+use Rattle.listing.specs.Listing.{begins, entryFor, addName, names, afterStart, fitting, laid, Listed, refusedAs, page, Gave}
 use Rattle.listing.specs.Seek.{Leafy, weigh, reach, firstFrom}
 use Rattle.listing.specs.Bound.{tailFor, above, KeysAlike}
 use Rattle.listing.proofs.ListingLaws.{NotAfter, First, names-first, names-rising, page-next}
-use Rattle.listing.proofs.BoundLaws.{entry-bound, prefix-bound}
+use Rattle.listing.proofs.BoundLaws.{entry-key, prefix-key, past-text}
 
 -- ---- the keys at or above a bound
 
 -- the seek gives the first of them
-pub first-none : (E : Edition) (g : List ℕ) (t : ℕ) (rs : List Record) (xs : List Leafy) → KeysAlike rs xs → firstFrom E g t xs ≡ none → above E g t rs ≡ []
-first-none E g t [] xs A e = refl
-first-none E g t (r ∷ rs) [] A e = absurd A
-first-none E g t (r ∷ rs) (x ∷ xs) A e = bool-cases (reach E g t (x .key))
+pub first-none : (g : List ℕ) (t : ℕ) (rs : List Record) (xs : List Leafy) → KeysAlike rs xs → firstFrom g t xs ≡ none → above g t rs ≡ []
+first-none g t [] xs A e = refl
+first-none g t (r ∷ rs) [] A e = absurd A
+first-none g t (r ∷ rs) (x ∷ xs) A e = bool-cases (reach g t (x .key))
     (λ u. clash (let z = rw u at e in cc))
-    (λ u. rw (A .0, u) (first-none E g t rs xs (A .1) (rw u at e)))
+    (λ u. rw (A .0, u) (first-none g t rs xs (A .1) (rw u at e)))
 
-pub record Begun (E : Edition) (g : List ℕ) (t : ℕ) (rs : List Record) (k : List ℕ) : Type 0 where
+pub record Begun (g : List ℕ) (t : ℕ) (rs : List Record) (k : List ℕ) : Type 0 where
   pub head : Record
   pub rest : List Record
-  pub is : above E g t rs ≡ head ∷ rest
+  pub is : above g t rs ≡ head ∷ rest
   pub keyIs : head .key ≡ k
-  pub reached : reach E g t k ≡ true
+  pub reached : reach g t k ≡ true
 
-pub first-some : (E : Edition) (g : List ℕ) (t : ℕ) (rs : List Record) (xs : List Leafy) (l : Leafy) → KeysAlike rs xs → firstFrom E g t xs ≡ some l → Begun E g t rs (l .key)
-first-some E g t [] [] l A e = clash (cc)
-first-some E g t [] (x ∷ xs) l A e = absurd A
-first-some E g t (r ∷ rs) [] l A e = absurd A
-first-some E g t (r ∷ rs) (x ∷ xs) l A e = bool-cases (reach E g t (x .key))
+pub first-some : (g : List ℕ) (t : ℕ) (rs : List Record) (xs : List Leafy) (l : Leafy) → KeysAlike rs xs → firstFrom g t xs ≡ some l → Begun g t rs (l .key)
+first-some g t [] [] l A e = clash (cc)
+first-some g t [] (x ∷ xs) l A e = absurd A
+first-some g t (r ∷ rs) [] l A e = absurd A
+first-some g t (r ∷ rs) (x ∷ xs) l A e = bool-cases (reach g t (x .key))
     (λ u. let q : some x ≡ some l = rw u at e in let w : x ≡ l = cc in
-    let v : reach E g t (r .key) ≡ true = rw (A .0) u in
-    record { head = r; rest = above E g t rs; is = rw v; keyIs = A .0 ∙ ap (λ (y : Leafy). y .key) w; reached = rw (← w) u })
-    (λ u. let v : reach E g t (r .key) ≡ false = rw (A .0) u in
-    let on = first-some E g t rs xs l (A .1) (rw u at e) in
+    let v : reach g t (r .key) ≡ true = rw (A .0) u in
+    record { head = r; rest = above g t rs; is = rw v; keyIs = A .0 ∙ ap (λ (y : Leafy). y .key) w; reached = rw (← w) u })
+    (λ u. let v : reach g t (r .key) ≡ false = rw (A .0) u in
+    let on = first-some g t rs xs l (A .1) (rw u at e) in
     record { head = on .head; rest = on .rest; is = rw v (on .is); keyIs = on .keyIs; reached = on .reached })
 
-above-keys : (E : Edition) (g : List ℕ) (t : ℕ) (P : List ℕ → Type 0) (rs : List Record) → AllKeys P rs → AllKeys P (above E g t rs)
-above-keys E g t P [] h = tt
-above-keys E g t P (r ∷ rs) h = bool-cases (reach E g t (r .key)) (λ u. rw u (h .0, above-keys E g t P rs (h .1))) (λ u. rw u (above-keys E g t P rs (h .1)))
+above-keys : (g : List ℕ) (t : ℕ) (P : List ℕ → Type 0) (rs : List Record) → AllKeys P rs → AllKeys P (above g t rs)
+above-keys g t P [] h = tt
+above-keys g t P (r ∷ rs) h = bool-cases (reach g t (r .key)) (λ u. rw u (h .0, above-keys g t P rs (h .1))) (λ u. rw u (above-keys g t P rs (h .1)))
 
-above-ascending : (E : Edition) (g : List ℕ) (t : ℕ) (rs : List Record) → Ascending rs → Ascending (above E g t rs)
-above-ascending E g t [] h = tt
-above-ascending E g t (r ∷ rs) h = bool-cases (reach E g t (r .key))
-    (λ u. rw u (above-keys E g t (Ahead (r .key)) rs (h .0), above-ascending E g t rs (h .1)))
-    (λ u. rw u (above-ascending E g t rs (h .1)))
+above-ascending : (g : List ℕ) (t : ℕ) (rs : List Record) → Ascending rs → Ascending (above g t rs)
+above-ascending g t [] h = tt
+above-ascending g t (r ∷ rs) h = bool-cases (reach g t (r .key))
+    (λ u. rw u (above-keys g t (Ahead (r .key)) rs (h .0), above-ascending g t rs (h .1)))
+    (λ u. rw u (above-ascending g t rs (h .1)))
 
 -- ---- the names of the keys at or above a bound
 
 -- a bound that no matching key is below shuts none out
-pub above-all : (d : Option ℕ) (p g : List ℕ) (t : ℕ) (rs : List Record) → ((k : List ℕ) → begins p k ≡ true → reach edition1 g t k ≡ true) → names d p (above edition1 g t rs) ≡ names d p rs
+pub above-all : (d : Option ℕ) (p g : List ℕ) (t : ℕ) (rs : List Record) → ((k : List ℕ) → begins p k ≡ true → reach g t k ≡ true) → names d p (above g t rs) ≡ names d p rs
 above-all d p g t [] h = refl
 above-all d p g t (r ∷ rs) h = let on = above-all d p g t rs h in bool-cases (begins p (r .key))
     (λ u. rw (h (r .key) u, u) (ap (λ (x : List (List ℕ)). addName (entryFor d p (r .key)) x) on))
-    (λ u. bool-cases (reach edition1 g t (r .key)) (λ v. rw (v, u) on) (λ v. rw (v, u) on))
+    (λ u. bool-cases (reach g t (r .key)) (λ v. rw (v, u) on) (λ v. rw (v, u) on))
 
 -- from the prefix on
-pub above-prefix : (d : Option ℕ) (p : List ℕ) (rs : List Record) → names d p (above edition1 p 0 rs) ≡ names d p rs
-above-prefix d p rs = above-all d p p 0 rs (λ k b. prefix-bound p k b)
+pub above-prefix : (d : Option ℕ) (p : List ℕ) (rs : List Record) → names d p (above p 0 rs) ≡ names d p rs
+above-prefix d p rs = above-all d p p 0 rs (λ k b. prefix-key p k b)
 
 -- one entry more, before or after the start key
 start-add : (s e : List ℕ) (es : List (List ℕ)) → First e es → afterStart (some s) (addName e es) ≡ pick (before s e) (addName e (afterStart (some s) es)) (afterStart (some s) es)
@@ -90,27 +89,24 @@ start-add s e (x ∷ es) h = bool-cases (same e x)
     follows (inl q) u = rw (← q) u
     follows (inr b) u = before-trans s e x u b
 
-abbrev pub Plain : List ℕ → Type 0
-Plain k = All Positive k × All Byte k
-
 -- from a start key, or an entry, that begins with the prefix: what its bound lets through are the entries after it
-pub above-start : (d : Option ℕ) (p s : List ℕ) (rs : List Record) → begins p s ≡ true → All Positive s → Ascending rs → AllKeys Plain rs
-    → names d p (above edition1 (entryFor d p s) (tailFor d p s) rs) ≡ afterStart (some s) (names d p rs)
-above-start d p s [] b a A L = refl
-above-start d p s (r ∷ rs) b a A L =
-    let on = above-start d p s rs b a (A .1) (L .1) in
+pub above-start : (E : Edition) (d : Option ℕ) (p s : List ℕ) (rs : List Record) → begins p s ≡ true → Ascending rs → AllKeys (Legal E) rs
+    → names d p (above (entryFor d p s) (tailFor d p s) rs) ≡ afterStart (some s) (names d p rs)
+above-start E d p s [] b A L = refl
+above-start E d p s (r ∷ rs) b A L =
+    let on = above-start E d p s rs b (A .1) (L .1) in
     let k = r .key in
     let e = entryFor d p k in
     bool-cases (begins p k)
     (λ u.
-    let q = entry-bound d p s k b u a (L .0 .0) (L .0 .1) in
+    let q = entry-key d p s k b u (L .0 .bytes) in
     let F = names-first d p k rs u (A .0) in
     bool-cases (before s e)
-    (λ v. let w : reach edition1 (entryFor d p s) (tailFor d p s) k ≡ true = sym q ∙ v in
+    (λ v. let w : reach (entryFor d p s) (tailFor d p s) k ≡ true = sym q ∙ v in
     rw (w, u, start-add s e (names d p rs) F, v) (ap (λ (x : List (List ℕ)). addName e x) on))
-    (λ v. let w : reach edition1 (entryFor d p s) (tailFor d p s) k ≡ false = sym q ∙ v in
+    (λ v. let w : reach (entryFor d p s) (tailFor d p s) k ≡ false = sym q ∙ v in
     rw (w, u, start-add s e (names d p rs) F, v) on))
-    (λ u. bool-cases (reach edition1 (entryFor d p s) (tailFor d p s) k) (λ v. rw (v, u) on) (λ v. rw (v, u) on))
+    (λ u. bool-cases (reach (entryFor d p s) (tailFor d p s) k) (λ v. rw (v, u) on) (λ v. rw (v, u) on))
 
 -- ---- a start key that does not begin with the prefix
 
@@ -155,44 +151,10 @@ start-none d p s h (r ∷ rs) A = let on = start-none d p s h rs (A .1) in bool-
 
 -- ---- a key that does not begin with the prefix ends the listing
 
--- what is at or above the bound of a text that begins with the prefix is at or above the prefix
-pub reach-prefix : (p g : List ℕ) (t : ℕ) (w : List ℕ) → begins p g ≡ true → leb 1 (weigh g t w) ≡ true → leb 1 (weigh p 0 w) ≡ true
-reach-prefix [] g t [] b r = refl
-reach-prefix [] g t (x ∷ w) b r = rw (le-leb 0 x (omega arith))
-reach-prefix (z ∷ p) [] t w b r = clash (cc)
-reach-prefix (z ∷ p) (y ∷ g) t [] b r = refl
-reach-prefix (z ∷ p) (y ∷ g) t (x ∷ w) b r = eqb-cases z y
-    (λ e q. ltb-cases y x
-    (λ u o. rw (lt-ltb z x (omega arith)))
-    (λ u o. eqb-cases y x
-    (λ v s. rw (le-ltb z x (omega arith), eq-eqb z x (omega arith)) (reach-prefix p g t w (rw e at b) (rw (u, v) at r)))
-    (λ v s. clash (let k = rw (u, v) at r in cc))))
-    (λ e q. clash (let k = rw e at b in cc))
-
-past-key : (p k l : List ℕ) → leb 1 (weigh p 0 (k ++ 0 ∷ [])) ≡ true → begins p k ≡ false → before k l ≡ true → All Positive l → begins p l ≡ false
-past-key [] k l r b o a = clash (cc)
-past-key (z ∷ p) [] [] r b o a = clash (cc)
-past-key (z ∷ p) [] (y ∷ l) r b o a = eqb-cases z 0
-    (λ t q. let h = a .0 in rw (ne-eqb z y (λ s. omega arith)))
-    (λ t q. clash (let e = rw (le-ltb z 0 (omega arith), t) at r in cc))
-past-key (z ∷ p) (x ∷ k) [] r b o a = clash (cc)
-past-key (z ∷ p) (x ∷ k) (y ∷ l) r b o a = ltb-cases z x
-    (λ t n. ltb-cases x y
-    (λ u m. rw (ne-eqb z y (λ s. omega arith)))
-    (λ u m. eqb-cases x y
-    (λ v q. rw (ne-eqb z y (λ s. omega arith)))
-    (λ v q. clash (let e = rw (u, v) at o in cc))))
-    (λ t n. eqb-cases z x
-    (λ w q. ltb-cases x y
-    (λ u m. rw (ne-eqb z y (λ s. omega arith)))
-    (λ u m. eqb-cases x y
-    (λ v s. rw (eq-eqb z y (omega arith)) (past-key p k l (rw (t, w) at r) (rw w at b) (rw (u, v) at o) (a .1)))
-    (λ v s. clash (let e = rw (u, v) at o in cc))))
-    (λ w q. clash (let e = rw (t, w) at r in cc)))
-
-none-match : (d : Option ℕ) (p k : List ℕ) (rs : List Record) → leb 1 (weigh p 0 (k ++ 0 ∷ [])) ≡ true → begins p k ≡ false → AllKeys (Ahead k) rs → AllKeys Plain rs → names d p rs ≡ []
-none-match d p k [] r b A L = refl
-none-match d p k (x ∷ rs) r b A L = rw (past-key p k (x .key) r b (A .0 .fore) (L .0 .0)) (none-match d p k rs r b (A .1) (L .1))
+none-match : (d : Option ℕ) (p g : List ℕ) (t : ℕ) (k : List ℕ) (rs : List Record) → begins p g ≡ true → reach g t k ≡ true → begins p k ≡ false → AllKeys (Ahead k) rs
+    → names d p rs ≡ []
+none-match d p g t k [] b r n A = refl
+none-match d p g t k (x ∷ rs) b r n A = rw (past-text p g t k (x .key) b r n (A .0 .fore)) (none-match d p g t k rs b r n (A .1))
 
 -- ---- the next entry
 
@@ -204,22 +166,21 @@ add-head e (x ∷ es) = bool-cases (same e x)
 
 -- the entries that are left are those of the keys at or above a bound
 module _ (d : Option ℕ) (p g : List ℕ) (t : ℕ) (rs : List Record) (s : Option (List ℕ)) (A : Ascending rs)
-    (left : names d p (above edition1 g t rs) ≡ afterStart s (names d p rs)) where
+    (left : names d p (above g t rs) ≡ afterStart s (names d p rs)) where
   -- there is no such key
-  pub left-none : above edition1 g t rs ≡ [] → afterStart s (names d p rs) ≡ []
+  pub left-none : above g t rs ≡ [] → afterStart s (names d p rs) ≡ []
   left-none e = sym left ∙ ap (λ (x : List Record). names d p x) e
 
   -- the first of them does not match
-  pub left-past : AllKeys Plain rs → begins p g ≡ true → {k : List ℕ} → Begun edition1 g t rs k → begins p k ≡ false → afterStart s (names d p rs) ≡ []
-  left-past L b {k} B n =
-      let O : Ascending (B .head ∷ B .rest) = rw (B .is) at (above-ascending edition1 g t rs A) in
-      let P : AllKeys Plain (B .head ∷ B .rest) = rw (B .is) at (above-keys edition1 g t Plain rs L) in
+  pub left-past : begins p g ≡ true → {k : List ℕ} → Begun g t rs k → begins p k ≡ false → afterStart s (names d p rs) ≡ []
+  left-past b {k} B n =
+      let O : Ascending (B .head ∷ B .rest) = rw (B .is) at (above-ascending g t rs A) in
       let h : AllKeys (Ahead k) (B .rest) = rw (B .keyIs) at (O .0) in
       let m : begins p (B .head .key) ≡ false = rw (B .keyIs) n in
-      sym left ∙ ap (λ (x : List Record). names d p x) (B .is) ∙ rw m (none-match d p k (B .rest) (reach-prefix p g t (k ++ 0 ∷ []) b (B .reached)) n h (P .1))
+      sym left ∙ ap (λ (x : List Record). names d p x) (B .is) ∙ rw m (none-match d p g t k (B .rest) b (B .reached) n h)
 
   -- it does: its entry, and what is left after that
-  pub left-some : {k : List ℕ} → Begun edition1 g t rs k → begins p k ≡ true → afterStart s (names d p rs) ≡ entryFor d p k ∷ afterStart (some (entryFor d p k)) (names d p rs)
+  pub left-some : {k : List ℕ} → Begun g t rs k → begins p k ≡ true → afterStart s (names d p rs) ≡ entryFor d p k ∷ afterStart (some (entryFor d p k)) (names d p rs)
   left-some {k} B m =
       let e = entryFor d p k in
       let H = add-head e (names d p (B .rest)) in

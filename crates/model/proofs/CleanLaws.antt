@@ -39,7 +39,7 @@ lawful-before = record {
   short = λ k h. lawful1 .short k (legal1 h);
   apart = λ k l t h g e. lawful1 .apart k l t (legal1 h) (legal1 g) e;
   order = λ w x y b s c t h g e f l. lawful1 .order w x y b s c t (legal1 h) (legal1 g) e f l;
-  fields = record { number = lawful1 .fields .number; keys = λ k h. lawful1 .fields .keys k (legal1 h) };
+  fields = record { number = lawful1 .fields .number; keys = λ k h. lawful1 .fields .keys k (legal1 h); words = lawful1 .fields .words };
 }
 
 -- two editions of one number that take the same keys and walk them alike

@@ -6,7 +6,7 @@ use mathlib.Core.Path.{_≡_, refl, sym, _∙_}
 use mathlib.Core.List.{List, [], _∷_, _++_, head-eq-of-cons-eq, tail-eq-of-cons-eq}
 use mathlib.Core.Bool.{true, false}
 use lib.ListN.{length, getD, length-append}
-use lib.Dec.{lit<}
+use lib.Dec.{lit<, lit≤}
 use borrow.Author.Tests.{lt-ltb, le-ltb, eq-eqb, ne-eqb}
 use Rattle.model.specs.Strings.{before, hasZero, All, Byte}
 use Rattle.model.specs.Edition.{edition1, Lawful}
@@ -102,7 +102,7 @@ lawful1 = record {
   short = λ k h. (let o = key-passes k (h .passes) .short in omega (arith, length-append k (0 ∷ [])));
   apart = λ k l t h g e. apart1 k l t (key-passes k (h .passes) .chars) (key-passes l (g .passes) .chars) e;
   order = λ w x y b s c t h g e f l. order1 w x y b s c t e f l;
-  fields = record { number = lit< tt; keys = λ k h. (let o = key-passes k (h .passes) .short in omega arith) };
+  fields = record { number = lit< tt; keys = λ k h. (let o = key-passes k (h .passes) .short in omega arith); words = lit≤ tt };
 }
 
 -- ---- paths and Prefixes

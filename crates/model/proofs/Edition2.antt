@@ -6,7 +6,7 @@ use mathlib.Core.Path.{_≡_, refl, sym, _∙_}
 use mathlib.Core.List.{List, [], _∷_, _++_, head-eq-of-cons-eq, tail-eq-of-cons-eq}
 use mathlib.Core.Bool.{Bool, true, false}
 use lib.ListN.{length}
-use lib.Dec.{lit<, eqb}
+use lib.Dec.{lit<, lit≤, eqb}
 use borrow.Author.Tests.{lt-ltb, le-ltb, eq-eqb, ne-eqb}
 use Rattle.model.specs.Strings.{pick, before, All, Byte}
 use Rattle.model.specs.Edition.{Edition, escaped, edition1, edition2, editionOf, Lawful}
@@ -89,7 +89,7 @@ lawful2 = record {
   short = λ k h. (let o = key-passes2 k (h .passes) .short in omega (arith, escaped-length k));
   apart = λ k l t h g e. apart2 k l t e;
   order = λ w x y b s c t h g e f l. order2 w x y b s c t e f l;
-  fields = record { number = lit< tt; keys = λ k h. (let o = key-passes2 k (h .passes) .short in omega arith) };
+  fields = record { number = lit< tt; keys = λ k h. (let o = key-passes2 k (h .passes) .short in omega arith); words = lit≤ tt };
 }
 
 -- ---- the edition of any number

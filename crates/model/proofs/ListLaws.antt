@@ -1,17 +1,17 @@
 -- A list of a kind that put or erase neither takes nor frees is the same list after it: the same slots and places in the same order. So two
 -- frames that one promise permits have it in common. Of erase where the path below a Prefix is no longer than one. Assumes nothing.
-use Prim.Native.Nat.{ℕ, zero, suc, _+_, _-_, _<_, _≤_}
+use Prim.Native.Nat.{ℕ, zero, suc, _+_, _-_, _*_, _<_, _≤_}
 use mathlib.Core.Path.{_≡_, refl, sym, ap, _∙_}
-use mathlib.Core.List.{List, [], _∷_, _++_, map}
+use mathlib.Core.List.{List, [], _∷_, _++_, map, append-assoc, append-nil}
 use mathlib.Core.Bool.{Bool, true, false}
 use mathlib.Core.Logic.{_⊎_, inl, inr, ⊎-elim}
 use mathlib.Core.Option.{Option, none, some}
 use native.Mathlib.Omega.{arith}
 use native.Mathlib.Decide.{decLe}
-use lib.ListN.{length, getD, drop, length-append, List·getD-map}
+use lib.ListN.{length, getD, drop, length-append, length-drop, List·getD-map}
 use lib.Dec.{ltb, eqb}
-use borrow.Author.Tests.{eq-eqb, ne-eqb}
-use Rattle.layout.specs.Number.{le, byteAt, Bytes}
+use borrow.Author.Tests.{ltb-true, eq-eqb, ne-eqb}
+use Rattle.layout.specs.Number.{le, byteAt}
 use Rattle.layout.specs.Place.{atB, atSpare, atHead, entryAt, dataStart, prefixMost}
 use Rattle.layout.specs.Kind.{Leaf, Prefix, EmptyRoot, bodySize, most, shrinkMark}
 use Rattle.layout.specs.Entry.{placeOf, highOf, entryPlace, entryHigh}
@@ -19,13 +19,13 @@ use Rattle.layout.proofs.NumberLaws.{le-same, le-zero}
 use Rattle.model.specs.Strings.{pick, same, shared}
 use Rattle.model.specs.Edition.{Edition}
 use Rattle.model.specs.Tree as model
-use Rattle.model.specs.Tree.{Art, Kids, isInner, extentOf, Change, over, has, chain, prefixes, putTree, putKids, findTree, Left, gone, one, kept, LeftKids, fewer, still, lessOne, close, closeUnder, afterKids, consKid, fromChild, eraseTree, eraseKids}
+use Rattle.model.specs.Tree.{Art, Kids, extentOf, Change, over, has, chain, prefixes, putTree, putKids, findTree, Left, gone, one, kept, LeftKids, fewer, still, lessOne, close, closeUnder, afterKids, consKid, fromChild, eraseTree, eraseKids}
 use Rattle.model.specs.State.{State, Done, tally, kinds, room, after, putIn, putChange, Write, onWrite, eraseChange, treeLeft, eraseDone, eraseFound, eraseIn, onErase}
 use Rattle.model.specs.Item.{Item, body, extent, onSlot, cover, onEntry, leafy, sum}
-use Rattle.model.specs.Frame.{Lay, LayKids, Root, bare, tree, IsNode, Below, atop, art, artKids, NodeOf, rootArt, items, itemsAll, rootItems, RootAt, Tree, Trees, Chain, listItems, freed, Stands}
+use Rattle.model.specs.Frame.{Lay, LayKids, Root, bare, tree, Below, art, artKids, NodeOf, rootArt, items, itemsAll, rootItems, RootAt, Tree, Trees, Chain, listItems, freed, Stands}
 use Rattle.model.specs.Frame.Lay.{leaf, prefix, node}
 use Rattle.model.specs.Frame.LayKids.{nil, kid}
-use Rattle.model.specs.Touch.{Touch, among, ofKinds, isBody, size, hasByte, without, touchPut, touchPutKids, putTouch, Above, held, under, next, touchLone, touchLost, touchErase, touchEraseKids, touchChild, eraseTouch, Part, findLay, findLayKids, findAt, extentAt, Outside}
+use Rattle.model.specs.Touch.{Touch, among, ofKinds, isBody, chainSlots, chainLong, size, hasByte, without, touchPut, touchPutKids, putTouch, Above, held, under, chainAbove, lastOf, touchLone, touchLost, touchErase, touchEraseKids, touchChild, eraseTouch, Part, findLay, findLayKids, findAt, extentAt, Outside}
 use Rattle.model.specs.Promise.{changes, WritePromise, eraseKinds, ErasePromise}
 use Rattle.model.proofs.Commute.{write-cases}
 use Rattle.model.proofs.StringLaws.{clash, bool-cases, eqb-cases}
@@ -33,8 +33,8 @@ use Rattle.model.proofs.WellLaws.{two}
 use Rattle.model.proofs.ItemLaws.{in-where, in-yes, in-over, sum-app, slot-once, entry-few}
 use Rattle.model.proofs.UniqueLaws.{chain-unique, list-zero}
 use Rattle.model.proofs.StandsGood.{node-well, bodied, sound-bodies}
-use Rattle.model.proofs.ChainLaws.{below-hung, put-atop, inner-atop}
-use Rattle.model.proofs.OneBody.{Narrow, narrow-node, node-inner, join-one}
+use Rattle.model.proofs.ChainLaws.{shared-off, below-hung, put-atop}
+use Rattle.model.proofs.TipLaws.{chainBytes, tip, chain-long, tip-art, tip-erase}
 use Rattle.model.proofs.AlikeLaws.{slot-stays, result-of, put-number, erase-number, put-same-cap, erase-same-cap}
 use Rattle.model.proofs.ExtentLaws.{dying-less, found-low}
 use Rattle.model.proofs.SettledLaws.{is-body, is-body-self, body-weighs, slot-of-body, kinds-less}
@@ -270,10 +270,23 @@ first-frees s t k o is gs h g = eqb-cases s t
     (λ q e. record { kind = k; place = o; there = rw e (omega (arith, is-body-self t k o)); freed = g })
     (λ q e. let z : false ≡ true = rw q at h in clash (cc))
 
-cut-one : (q : ℕ) (p : List ℕ) → q ≡ 0 → length p ≡ 1 → among Prefix (prefixes (chain (length p) - (chain q + chain (length (drop (suc q) p))))) ≡ true
-cut-one q [] e h = absurd (omega arith)
-cut-one q (x ∷ []) e h = rw e refl
-cut-one q (x ∷ y ∷ p) e h = absurd (omega arith)
+-- a chain's body is a Prefix
+chain-frees : (s : ℕ) (l : Lay) (gs : List ℕ) → among s (chainSlots l) ≡ true → among Prefix gs ≡ true → Frees s (items l) gs
+unfolding items sum
+chain-frees s (leaf t o e k v) gs h g = clash (cc)
+chain-frees s (prefix t o p l) gs h g = eqb-cases s t
+    (λ q e. record { kind = Prefix; place = o; there = rw e (omega (arith, is-body-self t Prefix o)); freed = g })
+    (λ q e. frees-up (λ k i. omega arith) (λ x y. y) (chain-frees s l gs (rw q at h) g))
+chain-frees s (node t o kind ks) gs h g = clash (cc)
+
+among-last : (s : ℕ) (ss : List ℕ) → among s (lastOf ss) ≡ true → among s ss ≡ true
+among-last s [] h = h
+among-last s (a ∷ []) h = h
+among-last s (a ∷ b ∷ ss) h = bool-cases (eqb s a) (λ t. rw t refl) (λ t. rw t (among-last s (b ∷ ss) h))
+
+prefixes-some : (n : ℕ) → 1 ≤ n → among Prefix (prefixes n) ≡ true
+prefixes-some zero h = absurd (omega arith)
+prefixes-some (suc n) h = refl
 
 has-is : (b : ℕ) (ks : LayKids) → has b (artKids ks) ≡ hasByte b ks
 has-is b nil = refl
@@ -284,11 +297,22 @@ count-is nil = refl
 count-is (kid c j l ks) = ap suc (count-is ks)
 
 module _ (E : Edition) (k v : List ℕ) where
-  -- of a Prefix of one byte that is cut nothing is left
-  cut-kind : (p : List ℕ) (l : Lay) (d : ℕ) → Below p l → eqb (shared p (drop d (E .walked k))) (length p) ≡ false → shared p (drop d (E .walked k)) ≡ 0 → length p ≡ 1 → among Prefix (putTree E (art (prefix 0 0 p l)) d k v .frees) ≡ true
-  cut-kind p (leaf s o e k' v') d B t q n = absurd B
-  cut-kind p (prefix s o p' l) d B t q n = absurd (omega arith)
-  cut-kind p (node s o kind ks) d B t q n = rw t (cut-one (shared p (drop d (E .walked k))) p q n)
+  -- a chain that loses its first byte, and with it a body
+  first-cut : (p : List ℕ) (a : Art) (d : ℕ) → shared p (drop d (E .walked k)) ≡ 0 → 1 ≤ length p → chain (length p - 1) < chain (length p) → among Prefix (putTree E (Art.prefix p a) d k v .frees) ≡ true
+  first-cut p a d q h g =
+      let t : eqb (shared p (drop d (E .walked k))) (length p) ≡ false = ne-eqb (shared p (drop d (E .walked k))) (length p) (λ e. omega arith) in
+      let z : putTree E (Art.prefix p a) d k v .frees ≡ prefixes (chain (length p) - (chain (shared p (drop d (E .walked k))) + chain (length (drop (suc (shared p (drop d (E .walked k)))) p)))) = rw t refl in
+      ap (among Prefix) z ∙ rw q (prefixes-some (chain (length p) - (chain 0 + chain (length (drop 1 p)))) (omega (arith, length-drop 1 p)))
+
+  cut-kind : (f path : List ℕ) (s o : ℕ) (p : List ℕ) (l : Lay) (d : ℕ) → Tree E f path (prefix s o p l) → (shared p (drop d (E .walked k)) ≡ length p → ⊥) → shared p (drop d (E .walked k)) ≡ 0
+      → (let n = length p + chainLong l in chain (n - 1) < chain n) → among Prefix (putTree E (art (prefix s o p l)) d k v .frees) ≡ true
+  unfolding Tree
+  cut-kind f path s o p l d T n q g =
+      let m = length-append p (chainBytes l) in
+      let i = chain-long l in
+      let e : length p + chainLong l ≡ length (p ++ chainBytes l) = omega arith in
+      ap (λ (x : Art). among Prefix (putTree E x d k v .frees)) (tip-art E f path s o p l T .1)
+      ∙ first-cut (p ++ chainBytes l) (art (tip l)) d (shared-off p (chainBytes l) (drop d (E .walked k)) n ∙ q) (omega (arith, T .1 .some)) (rw e at g)
 
   module _ (f : List ℕ) (s : ℕ) where
     mutual
@@ -298,11 +322,13 @@ module _ (E : Edition) (k v : List ℕ) where
       goes-frees (leaf t o e k' v') h d p T g = bool-cases (same k k') (λ a. let z : false ≡ true = rw a at g in clash (cc)) (λ a. let z : false ≡ true = rw a at g in clash (cc))
       goes-frees (prefix t o q l) h d p T g = eqb-cases (shared q (drop d (E .walked k))) (length q)
           (λ a e. frees-up (λ c i. omega arith) (λ x y. ap (λ (z : Change Art). among x (z .frees)) (put-atop E q (art l) d k v (below-hung q l (T .2)) e) ∙ y) (goes-frees l t (d + length q) (p ++ q) (T .3) (rw a at g)))
-          (λ a e. eqb-cases (shared q (drop d (E .walked k))) 0
-          (λ b z. eqb-cases (length q) 1
-          (λ c n. first-frees s t Prefix o (items l) (putTree E (art (prefix t o q l)) d k v .frees) (rw (a, b, c) at g) (cut-kind q l d (T .2) a z n))
-          (λ c n. let z : false ≡ true = rw (a, b, c) at g in clash (cc)))
-          (λ b z. bool-cases (eqb (suc (shared q (drop d (E .walked k)))) (length q)) (λ c. let z : false ≡ true = rw (a, b, c) at g in clash (cc)) (λ c. let z : false ≡ true = rw (a, b, c) at g in clash (cc))))
+          (λ a e.
+          let n = length q + chainLong l in
+          eqb-cases (shared q (drop d (E .walked k))) 0
+          (λ b z. bool-cases (ltb (chain (n - 1)) (chain n))
+          (λ c. first-frees s t Prefix o (items l) (putTree E (art (prefix t o q l)) d k v .frees) (rw (a, b, c) at g) (cut-kind f p t o q l d T e z (ltb-true (chain (n - 1)) (chain n) c)))
+          (λ c. let z : false ≡ true = rw (a, b, c) at g in clash (cc)))
+          (λ b z. let z : false ≡ true = rw (a, b) at g in clash (cc)))
       goes-frees (node t o kind ks) h d p T g = bool-cases (hasByte (getD (E .walked k) d 0) ks)
           (λ a. let a' = has-is (getD (E .walked k) d 0) ks ∙ a in rw a' (frees-up (λ c i. omega arith) (λ x y. y) (all-frees ks t d p (T .2) (rw a at g))))
           (λ a. let a' = has-is (getD (E .walked k) d 0) ks ∙ a in bool-cases (ltb (size ks) (most kind))
@@ -407,39 +433,52 @@ after-more kind x (still ks) c h = h
 under-leaf : (p : List ℕ) (b : ℕ) (k v : List ℕ) (l : Left) (c : Change Left) → l ≡ one b (Art.leaf k v) → 1 ≤ length p → among Prefix (closeUnder p l c .frees) ≡ true
 under-leaf p b k v l c e h = rw e (among-prefixes (chain (length p)) (c .frees) (omega arith))
 
-under-join : (p : List ℕ) (b : ℕ) (q : List ℕ) (a : Art) (l : Left) (c : Change Left) → l ≡ one b (atop q a) → isInner a ≡ true → 1 ≤ length q → 1 ≤ length p → length p + 1 + length q ≤ prefixMost → among Prefix (closeUnder p l c .frees) ≡ true
-under-join p b q a l c e i h some' g = ap (λ (x : Left). among Prefix (closeUnder p x c .frees)) e ∙ ap (λ (x : Change Left). among Prefix (x .frees)) (join-one c p b some' q a i h g)
+under-join : (p : List ℕ) (b : ℕ) (q : List ℕ) (a : Art) (l : Left) (c : Change Left) → l ≡ one b (Art.prefix q a) → chain (length p + suc (length q)) < chain (length p) + chain (length q) → among Prefix (closeUnder p l c .frees) ≡ true
+under-join p b q a l c e h = rw e (among-prefixes (chain (length p) + chain (length q) - chain (length p + suc (length q))) (c .frees) (omega arith))
+
+-- where the last of full Prefixes has i bytes, it alone counts
+fewer-all : (n j i m : ℕ) → n ≡ prefixMost * j + i → 1 ≤ i → i ≤ prefixMost → chain (i + suc m) < suc (chain m) → chain (n + suc m) < chain n + chain m
+fewer-all n j i m e a b h = omega arith
 
 -- what is left of a body, below a node or the root field, or below a Prefix of bytes bs
 abbrev closeBy : Above → List ℕ → Change Left → Change Left
 closeBy (held h) bs c = close (c .now) c
-closeBy (under q h) bs c = closeUnder bs (c .now) c
+closeBy (under q i u) bs c = closeUnder bs (c .now) c
 
 closing : (u : Above) (bs : List ℕ) (c : Change Left) (x : ℕ) → among x (c .frees) ≡ true → among x (closeBy u bs c .frees) ≡ true
 closing (held h) bs c x g = close-more (c .now) c x g
-closing (under q h) bs c x g = under-more bs (c .now) c x g
+closing (under q i u) bs c x g = under-more bs (c .now) c x g
 
-abbrev Named : Above → ℕ → Type 0
-Named (held h) s = ⊥
-Named (under q h) s = s ≡ q
+-- n bytes stand just above, in Prefixes that are full but the last
+abbrev Filled : Above → ℕ → Type 0
+Filled (held h) n = n ≡ 0
+Filled (under p i u) n = (1 ≤ i) × (i ≤ prefixMost) × ((j : ℕ) × (n ≡ prefixMost * j + i))
 
-abbrev Ready : Above → List ℕ → List ℕ → Type 0
-Ready (held h) bs p = Unit {0}
-Ready (under q h) bs p = (1 ≤ length bs) × (length bs ≤ length p)
+-- the bytes bs of a chain stand above the rest of it: all of them full, if a Prefix follows
+abbrev Hangs : Above → List ℕ → Lay → Type 0
+Hangs u bs (leaf s o e k v) = ⊥
+Hangs u bs (prefix s o p l) = (j : ℕ) × (length bs ≡ prefixMost * j)
+Hangs (held h) bs (node s o kind ks) = ⊥
+Hangs (under p i u) bs (node s o kind ks) = Filled (under p i u) (length bs)
 
--- a slot that goes is that of a body of a kind that is freed, or of the Prefix above, and a Prefix is freed
+hangs-on : (s : ℕ) (q : List ℕ) (l : Lay) (u : Above) (bs : List ℕ) → 1 ≤ length q → length q ≤ prefixMost → Below q l → ((j : ℕ) × (length bs ≡ prefixMost * j)) → Hangs (under s (length q) u) (bs ++ q) l
+hangs-on s q (leaf t o e k v) u bs h g B R = absurd B
+hangs-on s q (prefix t o p l) u bs h g B R = (suc (R .0), omega (arith, R .1, length-append bs q))
+hangs-on s q (node t o kind ks) u bs h g B R = (h, g, (R .0, omega (arith, R .1, length-append bs q)))
+
+-- a slot that goes is that of a body of a kind that is freed, or of a Prefix just above, and a Prefix is freed
 abbrev Goes : Above → ℕ → List Item → List ℕ → Type 0
-Goes u s is fs = Frees s is fs ⊎ (Named u s × (among Prefix fs ≡ true))
+Goes u s is fs = Frees s is fs ⊎ ((among s (chainAbove u) ≡ true) × (among Prefix fs ≡ true))
+
+-- past a Prefix of slot t
+goes-past : (t i o s : ℕ) (u : Above) (is : List Item) (fs : List ℕ) → Goes (under t i u) s is fs → Goes u s (body t Prefix o ∷ is) fs
+unfolding sum
+goes-past t i o s u is fs G = ⊎-elim
+    (λ F. inl (frees-up (λ k i. omega arith) (λ x y. y) F))
+    (λ n. eqb-cases s t (λ q e. inl (record { kind = Prefix; place = o; there = rw e (omega (arith, is-body-self t Prefix o)); freed = n .1 })) (λ q e. inr (rw q at (n .0), n .1))) G
 
 goes-at : (u : Above) (bs : List ℕ) (s : ℕ) (is : List Item) (c c' : Change Left) → c ≡ c' → Goes u s is (closeBy u bs c' .frees) → Goes u s is (closeBy u bs c .frees)
 goes-at u bs s is c c' e G = rw e G
-
--- below a Prefix of slot t
-under-frees : (t h o s : ℕ) (is : List Item) (fs gs : List ℕ) → ((x : ℕ) → among x fs ≡ true → among x gs ≡ true) → Goes (under t h) s is fs → Frees s (body t Prefix o ∷ is) gs
-unfolding sum
-under-frees t h o s is fs gs up G = ⊎-elim
-    (λ F. frees-up (λ k i. omega arith) up F)
-    (λ n. record { kind = Prefix; place = o; there = rw (n .0) (omega (arith, is-body-self t Prefix o)); freed = up Prefix (n .1) }) G
 
 without-size : (b : ℕ) (ks : LayKids) → size ks ≤ suc (size (without b ks))
 without-size b nil = omega arith
@@ -460,7 +499,7 @@ without-trees E f p b (kid c j l ks) T = bool-cases (eqb b c) (λ t. rw t (T .1)
 node-two : (f : List ℕ) (o kind : ℕ) (ks : LayKids) → NodeOf f o kind ks → 2 ≤ size ks
 node-two f o kind ks N = omega (arith, two kind (artKids ks) (node-well f o kind ks N), count-is ks)
 
-module _ (E : Edition) (narrow : Narrow E) (f : List ℕ) (B : Bytes f) (s : ℕ) where
+module _ (E : Edition) (f : List ℕ) (s : ℕ) where
   -- a node of slot n, kind and place lost its Leaf of slot g
   module _ (n kind o g og : ℕ) (is : List Item) (node-in : 1 ≤ sum (isBody n kind o) is) (leaf-in : 1 ≤ sum (isBody g Leaf og) is) where
     two-go : (u : Above) (fs : List ℕ) → among Leaf fs ≡ true → among kind fs ≡ true → (ss : List ℕ) → among s (g ∷ n ∷ ss) ≡ true → (among s ss ≡ true → Goes u s is fs) → Goes u s is fs
@@ -468,25 +507,35 @@ module _ (E : Edition) (narrow : Narrow E) (f : List ℕ) (B : Bytes f) (s : ℕ
         (λ t e. inl (record { kind = Leaf; place = og; there = rw e leaf-in; freed = a }))
         (λ t e. eqb-cases s n (λ t' e'. inl (record { kind = kind; place = o; there = rw e' node-in; freed = b })) (λ t' e'. on (rw (t, t') at h)))
 
-    one-goes : (u : Above) (bs : List ℕ) (l : Lay) (b : ℕ) (p : List ℕ) (c : Change Left) → c .now ≡ one b (art l) → among Leaf (c .frees) ≡ true → among kind (c .frees) ≡ true → Ready u bs p → Tree E f (p ++ b ∷ []) l
+    -- of the chain below, the last goes where the bytes are one body fewer
+    join-goes : (a i : ℕ) (u : Above) (bs : List ℕ) (t o' : ℕ) (r : List ℕ) (l : Lay) (b : ℕ) (p : List ℕ) (c : Change Left) → c .now ≡ one b (art (prefix t o' r l)) → Filled (under a i u) (length bs) → Tree E f p (prefix t o' r l)
+        → ((k i : ℕ) → sum (isBody s k i) (items (prefix t o' r l)) ≤ sum (isBody s k i) is) → (let m = length r + chainLong l in among s (pick (ltb (chain (i + suc m)) (suc (chain m))) (lastOf (t ∷ chainSlots l)) []) ≡ true)
+        → Goes (under a i u) s is (closeUnder bs (c .now) c .frees)
+    join-goes a i u bs t o' r l b p c en R T I q =
+        let m = length r + chainLong l in
+        let e : length (r ++ chainBytes l) ≡ m = omega (arith, length-append r (chainBytes l), chain-long l) in
+        bool-cases (ltb (chain (i + suc m)) (suc (chain m)))
+        (λ t'.
+        let less = fewer-all (length bs) (R .2 .0) i m (R .2 .1) (R .0) (R .1) (ltb-true (chain (i + suc m)) (suc (chain m)) t') in
+        let freed' = under-join bs b (r ++ chainBytes l) (art (tip l)) (c .now) c (en ∙ ap (one b) (tip-art E f p t o' r l T .1)) (rw e less) in
+        inl (frees-up I (λ x w. w) (chain-frees s (prefix t o' r l) (closeUnder bs (c .now) c .frees) (among-last s (t ∷ chainSlots l) (rw t' at q)) freed')))
+        (λ t'. let z : false ≡ true = rw t' at q in clash (cc))
+
+    one-goes : (u : Above) (bs : List ℕ) (l : Lay) (b : ℕ) (p : List ℕ) (c : Change Left) → c .now ≡ one b (art l) → among Leaf (c .frees) ≡ true → among kind (c .frees) ≡ true → Filled u (length bs) → Tree E f (p ++ b ∷ []) l
         → ((k i : ℕ) → sum (isBody s k i) (items l) ≤ sum (isBody s k i) is) → among s (touchLone u n g l .goes) ≡ true → Goes u s is (closeBy u bs c .frees)
-    unfolding Tree items sum
     one-goes (held h) bs (leaf t i e k v) b p c en x y R T I q = two-go (held h) (closeBy (held h) bs c .frees) (closing (held h) bs c Leaf x) (closing (held h) bs c kind y) [] q (λ z. clash (cc))
     one-goes (held h) bs (prefix t i r l) b p c en x y R T I q = two-go (held h) (closeBy (held h) bs c .frees) (closing (held h) bs c Leaf x) (closing (held h) bs c kind y) [] q (λ z. clash (cc))
     one-goes (held h) bs (node t i kind' ks) b p c en x y R T I q = two-go (held h) (closeBy (held h) bs c .frees) (closing (held h) bs c Leaf x) (closing (held h) bs c kind y) [] q (λ z. clash (cc))
-    one-goes (under a h) bs (leaf t i e k v) b p c en x y R T I q =
-        two-go (under a h) (closeBy (under a h) bs c .frees) (closing (under a h) bs c Leaf x) (closing (under a h) bs c kind y) (a ∷ []) q
-        (λ z. inr (eqb-cases s a (λ t e. e) (λ t e. let w : false ≡ true = rw t at z in clash (cc)), under-leaf bs b k v (c .now) c en (R .0)))
-    one-goes (under a h) bs (prefix t i r l) b p c en x y R T I q =
-        two-go (under a h) (closeBy (under a h) bs c .frees) (closing (under a h) bs c Leaf x) (closing (under a h) bs c kind y) (t ∷ []) q
-        (λ z.
-        let short = narrow f ((p ++ b ∷ []) ++ r) r l B (T .2) (T .3) in
-        let inner = node-inner l (narrow-node E narrow f (p ++ b ∷ []) r l B (T .2) (T .3)) in
-        let freed' = under-join bs b r (art l) (c .now) c en inner (T .1 .some) (R .0) (omega (arith, R .1, short, length-append (p ++ b ∷ []) r, length-append p (b ∷ []))) in
-        inl (frees-up I (λ m w. w) (first-frees s t Prefix i (items l) (closeBy (under a h) bs c .frees) z freed')))
-    one-goes (under a h) bs (node t i kind' ks) b p c en x y R T I q = two-go (under a h) (closeBy (under a h) bs c .frees) (closing (under a h) bs c Leaf x) (closing (under a h) bs c kind y) [] q (λ z. clash (cc))
+    one-goes (under a j u) bs (leaf t i e k v) b p c en x y R T I q =
+        two-go (under a j u) (closeBy (under a j u) bs c .frees) (closing (under a j u) bs c Leaf x) (closing (under a j u) bs c kind y) (a ∷ chainAbove u) q
+        (λ z. inr (z, under-leaf bs b k v (c .now) c en (omega (arith, R .0, R .2 .1))))
+    one-goes (under a j u) bs (prefix t i r l) b p c en x y R T I q =
+        let m = length r + chainLong l in
+        two-go (under a j u) (closeBy (under a j u) bs c .frees) (closing (under a j u) bs c Leaf x) (closing (under a j u) bs c kind y) (pick (ltb (chain (j + suc m)) (suc (chain m))) (lastOf (t ∷ chainSlots l)) []) q
+        (join-goes a j u bs t i r l b (p ++ b ∷ []) c en R T I)
+    one-goes (under a j u) bs (node t i kind' ks) b p c en x y R T I q = two-go (under a j u) (closeBy (under a j u) bs c .frees) (closing (under a j u) bs c Leaf x) (closing (under a j u) bs c kind y) [] q (λ z. clash (cc))
 
-    lost-goes : (u : Above) (bs : List ℕ) (ks : LayKids) (p : List ℕ) (c : Change Left) → among Leaf (c .frees) ≡ true → 1 ≤ size ks → Ready u bs p → Trees E f p ks
+    lost-goes : (u : Above) (bs : List ℕ) (ks : LayKids) (p : List ℕ) (c : Change Left) → among Leaf (c .frees) ≡ true → 1 ≤ size ks → Filled u (length bs) → Trees E f p ks
         → ((k i : ℕ) → sum (isBody s k i) (itemsAll ks) ≤ sum (isBody s k i) is) → among s (touchLost u n kind g ks .goes) ≡ true → Goes u s is (closeBy u bs (lessOne kind (artKids ks) c) .frees)
     unfolding Trees itemsAll
     lost-goes u bs nil p c x z R T I q = absurd (omega arith)
@@ -507,34 +556,55 @@ module _ (E : Edition) (narrow : Narrow E) (f : List ℕ) (B : Bytes f) (s : ℕ
         (λ a e. let w : false ≡ true = rw (t, a) at q in clash (cc)))
 
   module _ (k : List ℕ) (c : Part) where
-    -- a Prefix on the way
-    prefix-erase : (t o : ℕ) (q : List ℕ) (l : Lay) (d : ℕ) → IsNode l → eqb (shared q (drop d (E .walked k))) (length q) ≡ true → (let e = eraseTree E (art l) (d + length q) k in eraseTree E (art (prefix t o q l)) d k ≡ closeUnder q (e .now) e)
-    prefix-erase t o q l d I a = ap (λ (x : Art). eraseTree E x d k) (sym (inner-atop q (art l) (node-inner l I))) ∙ rw a refl
-
     -- what a child frees, its node frees
     node-up : (u : Above) (bs : List ℕ) (kind : ℕ) (all : LayKids) (d : ℕ) (fs : List ℕ) → eraseKids E (artKids all) d k .frees ≡ fs → (x : ℕ) → among x fs ≡ true → among x (closeBy u bs (eraseTree E (Art.node kind (artKids all)) d k) .frees) ≡ true
     node-up u bs kind all d fs ef x h =
         let c = eraseKids E (artKids all) d k in closing u bs (afterKids kind (c .now) c) x (after-more kind x (c .now) c (ap (among x) ef ∙ h))
 
+    -- a chain below a node or the root field, from what its first Prefix has below it
+    chain-up : (t o : ℕ) (q : List ℕ) (l : Lay) (h d : ℕ) (p : List ℕ) → Tree E f p (prefix t o q l) → findLay E (prefix t o q l) d k ≡ some c
+        → (let w = q ++ chainBytes l in let e = eraseTree E (art (tip l)) (d + length q + length (chainBytes l)) k in Goes (under t (length q) (held h)) s (items l) (closeUnder w (e .now) e .frees))
+        → (let e = eraseTree E (art (prefix t o q l)) d k in Frees s (items (prefix t o q l)) (close (e .now) e .frees))
+    unfolding items
+    chain-up t o q l h d p T i G =
+        let e = eraseTree E (art (prefix t o q l)) d k in
+        let x = eraseTree E (art (tip l)) (d + length q + length (chainBytes l)) k in
+        let n : d + length (q ++ chainBytes l) ≡ d + length q + length (chainBytes l) = omega (arith, length-append q (chainBytes l)) in
+        let es : e ≡ closeUnder (q ++ chainBytes l) (x .now) x = rw n at (tip-erase E k f p c t o q l d T i) in
+        ⊎-elim (λ F. frees-up (λ m r. omega arith) (λ y w. close-more (e .now) e y (ap (λ (z : Change Left). among y (z .frees)) es ∙ w)) F) (λ z. clash (let w = z .0 in cc)) (goes-past t (length q) o s (held h) (items l) (closeUnder (q ++ chainBytes l) (x .now) x .frees) G)
+
     mutual
       unfolding Tree Trees items itemsAll sum
 
-      erase-goes : (l : Lay) (u : Above) (bs : List ℕ) (d : ℕ) (p : List ℕ) → Tree E f p l → findLay E l d k ≡ some c → Ready u bs p → among s (touchErase E l u d k .goes) ≡ true
-          → Goes u s (items l) (closeBy u bs (eraseTree E (art l) d k) .frees)
-      erase-goes (leaf t o e k' v') u bs d p T h R g = bool-cases (same k k')
-          (λ a. inl (first-frees s t Leaf o (extent e (extentOf k' v') ∷ []) (closeBy u bs (eraseTree E (Art.leaf k' v') d k) .frees) g (closing u bs (eraseTree E (Art.leaf k' v') d k) Leaf (rw a refl))))
-          (λ a. let z : none ≡ some c = rw a at h in clash (cc))
-      erase-goes (prefix t o q l) u bs d p T h R g = bool-cases (eqb (shared q (drop d (E .walked k))) (length q))
-          (λ a.
-          let x = eraseTree E (art l) (d + length q) k in
-          let e = prefix-erase t o q l d (narrow-node E narrow f p q l B (T .2) (T .3)) a in
-          let G = erase-goes l (under t (next u)) q (d + length q) (p ++ q) (T .3) (rw a at h) (T .1 .some, omega (arith, length-append p q)) g in
-          inl (under-frees t (next u) o s (items l) (closeUnder q (x .now) x .frees) (closeBy u bs (eraseTree E (art (prefix t o q l)) d k) .frees)
-          (λ y w. closing u bs (eraseTree E (art (prefix t o q l)) d k) y (ap (λ (z : Change Left). among y (z .frees)) e ∙ w)) G))
-          (λ a. let z : none ≡ some c = rw a at h in clash (cc))
-      erase-goes (node t o kind ks) u bs d p T h R g = all-goes ks u bs t o kind ks d p (T .2) h R (T .2) (node-two f o kind ks (T .1)) (λ m i. omega arith) refl (λ z. z) g
+      -- a tree below a node or the root field
+      erase-goes : (l : Lay) (h d : ℕ) (p : List ℕ) → Tree E f p l → findLay E l d k ≡ some c → among s (touchErase E l (held h) d k .goes) ≡ true → (let e = eraseTree E (art l) d k in Frees s (items l) (close (e .now) e .frees))
+      erase-goes (leaf t o e k' v') h d p T i g = bool-cases (same k k')
+          (λ a. first-frees s t Leaf o (extent e (extentOf k' v') ∷ []) (closeBy (held h) [] (eraseTree E (Art.leaf k' v') d k) .frees) g (closing (held h) [] (eraseTree E (Art.leaf k' v') d k) Leaf (rw a refl)))
+          (λ a. let z : none ≡ some c = rw a at i in clash (cc))
+      erase-goes (prefix t o q l) h d p T i g =
+          bool-cases (eqb (shared q (drop d (E .walked k))) (length q))
+          (λ a. chain-up t o q l h d p T i (chain-goes l (under t (length q) (held h)) q (d + length q) (p ++ q) (T .3) (rw a at i) (hangs-on t q l (held h) [] (T .1 .some) (T .1 .most) (T .2) (0, refl)) g))
+          (λ a. let z : none ≡ some c = rw a at i in clash (cc))
+      erase-goes (node t o kind ks) h d p T i g =
+          ⊎-elim (λ F. F) (λ z. clash (cc)) (all-goes ks (held h) [] t o kind ks d p (T .2) i refl (T .2) (node-two f o kind ks (T .1)) (λ m i. omega arith) refl (λ z. z) g)
 
-      all-goes : (ks : LayKids) (u : Above) (bs : List ℕ) (n o kind : ℕ) (all : LayKids) (d : ℕ) (p : List ℕ) → Trees E f p ks → findLayKids E ks d k ≡ some c → Ready u bs p → Trees E f p all → 2 ≤ size all
+      -- the rest of a chain, of which bs stands above
+      chain-goes : (l : Lay) (u : Above) (bs : List ℕ) (d : ℕ) (p : List ℕ) → Tree E f p l → findLay E l d k ≡ some c → Hangs u bs l → among s (touchErase E l u d k .goes) ≡ true
+          → (let w = bs ++ chainBytes l in let e = eraseTree E (art (tip l)) (d + length (chainBytes l)) k in Goes u s (items l) (closeUnder w (e .now) e .frees))
+      chain-goes (leaf t o e k' v') u bs d p T i R g = absurd R
+      chain-goes (prefix t o q l) u bs d p T i R g = bool-cases (eqb (shared q (drop d (E .walked k))) (length q))
+          (λ a.
+          let G = chain-goes l (under t (length q) u) (bs ++ q) (d + length q) (p ++ q) (T .3) (rw a at i) (hangs-on t q l u bs (T .1 .some) (T .1 .most) (T .2) R) g in
+          let n : d + length (q ++ chainBytes l) ≡ d + length q + length (chainBytes l) = omega (arith, length-append q (chainBytes l)) in
+          rw (n, ← append-assoc bs q (chainBytes l)) (goes-past t (length q) o s u (items l) _ G))
+          (λ a. let z : none ≡ some c = rw a at i in clash (cc))
+      chain-goes (node t o kind ks) (held h) bs d p T i R g = absurd R
+      chain-goes (node t o kind ks) (under b j u) bs d p T i R g =
+          let G = all-goes ks (under b j u) bs t o kind ks d p (T .2) i R (T .2) (node-two f o kind ks (T .1)) (λ m i. omega arith) refl (λ z. z) g in
+          let n : d + 0 ≡ d = omega arith in
+          rw (n, append-nil bs) G
+
+      all-goes : (ks : LayKids) (u : Above) (bs : List ℕ) (n o kind : ℕ) (all : LayKids) (d : ℕ) (p : List ℕ) → Trees E f p ks → findLayKids E ks d k ≡ some c → Filled u (length bs) → Trees E f p all → 2 ≤ size all
           → ((m i : ℕ) (t : ℕ) → sum (isBody t m i) (itemsAll ks) ≤ sum (isBody t m i) (itemsAll all)) → eraseKids E (artKids all) d k .frees ≡ eraseKids E (artKids ks) d k .frees
           → (eraseKids E (artKids ks) d k .now ≡ fewer (artKids (without (getD (E .walked k) d 0) ks)) → eraseKids E (artKids all) d k .now ≡ fewer (artKids (without (getD (E .walked k) d 0) all)))
           → among s (touchEraseKids E ks u n kind all d k .goes) ≡ true → Goes u s (body n kind o ∷ itemsAll all) (closeBy u bs (eraseTree E (Art.node kind (artKids all)) d k) .frees)
@@ -545,7 +615,7 @@ module _ (E : Edition) (narrow : Narrow E) (f : List ℕ) (B : Bytes f) (s : ℕ
           (λ a e. all-goes ks u bs n o kind all d p (T .1) (rw a at h) R A both (λ m i t. omega (arith, less m i t, sum-app (isBody t m i) (items l) (itemsAll ks))) (ef ∙ rw a refl)
           (λ z. en (rw (a, ne-eqb (getD (E .walked k) d 0) y (λ w. e (sym w))) (ap (consKid y j (art l)) z))) (rw a at g))
 
-      child-goes : (l : Lay) (u : Above) (bs : List ℕ) (n o kind y : ℕ) (all : LayKids) (d : ℕ) (p : List ℕ) → Tree E f (p ++ y ∷ []) l → findLay E l (d + 1) k ≡ some c → Ready u bs p → Trees E f p all → 2 ≤ size all
+      child-goes : (l : Lay) (u : Above) (bs : List ℕ) (n o kind y : ℕ) (all : LayKids) (d : ℕ) (p : List ℕ) → Tree E f (p ++ y ∷ []) l → findLay E l (d + 1) k ≡ some c → Filled u (length bs) → Trees E f p all → 2 ≤ size all
           → ((m i : ℕ) (t : ℕ) → sum (isBody t m i) (items l) ≤ sum (isBody t m i) (itemsAll all)) → (let e = eraseTree E (art l) (d + 1) k in eraseKids E (artKids all) d k .frees ≡ close (e .now) e .frees)
           → (let e = eraseTree E (art l) (d + 1) k in close (e .now) e .now ≡ gone → eraseKids E (artKids all) d k .now ≡ fewer (artKids (without y all)))
           → among s (touchChild E l u n kind (without y all) d k .goes) ≡ true → Goes u s (body n kind o ∷ itemsAll all) (closeBy u bs (eraseTree E (Art.node kind (artKids all)) d k) .frees)
@@ -558,26 +628,24 @@ module _ (E : Edition) (narrow : Narrow E) (f : List ℕ) (B : Bytes f) (s : ℕ
           (lost-goes n kind o t i (body n kind o ∷ itemsAll all) (omega (arith, is-body-self n kind o)) (omega (arith, less Leaf i t, is-body-self t Leaf i)) u bs (without y all) p (over (λ z. gone) x) (rw fs refl)
           (omega (arith, without-size y all)) R (without-trees E f p y all A) (λ q r. omega (arith, without-items (isBody s q r) y all)) g))
           (λ a. let z : none ≡ some c = rw a at h in clash (cc))
-      child-goes (prefix t i q l) u bs n o kind y all d p T h R A both less ef en g = bool-cases (eqb (shared q (drop (d + 1) (E .walked k))) (length q))
-          (λ a.
-          let x = eraseTree E (art l) (d + 1 + length q) k in
+      child-goes (prefix t i q l) u bs n o kind y all d p T h R A both less ef en g =
           let e = eraseTree E (art (prefix t i q l)) (d + 1) k in
-          let same-e = prefix-erase t i q l (d + 1) (narrow-node E narrow f (p ++ y ∷ []) q l B (T .2) (T .3)) a in
-          let G = erase-goes l (under t n) q (d + 1 + length q) ((p ++ y ∷ []) ++ q) (T .3) (rw a at h) (T .1 .some, omega (arith, length-append (p ++ y ∷ []) q)) g in
-          let F = under-frees t n i s (items l) (closeUnder q (x .now) x .frees) (close (e .now) e .frees) (λ m w. close-more (e .now) e m (ap (λ (z : Change Left). among m (z .frees)) same-e ∙ w)) G in
-          inl (frees-up (λ m r. omega (arith, less m r s)) (node-up u bs kind all d (close (e .now) e .frees) ef) F))
+          bool-cases (eqb (shared q (drop (d + 1) (E .walked k))) (length q))
+          (λ a.
+          let G = chain-goes l (under t (length q) (held n)) q (d + 1 + length q) ((p ++ y ∷ []) ++ q) (T .3) (rw a at h) (hangs-on t q l (held n) [] (T .1 .some) (T .1 .most) (T .2) (0, refl)) g in
+          inl (frees-up (λ m r. omega (arith, less m r s)) (node-up u bs kind all d (close (e .now) e .frees) ef) (chain-up t i q l n (d + 1) (p ++ y ∷ []) T h G)))
           (λ a. let z : none ≡ some c = rw a at h in clash (cc))
       child-goes (node t i kind' ks) u bs n o kind y all d p T h R A both less ef en g =
           let e = eraseTree E (Art.node kind' (artKids ks)) (d + 1) k in
-          let G = all-goes ks (held n) [] t i kind' ks (d + 1) (p ++ y ∷ []) (T .2) h tt (T .2) (node-two f i kind' ks (T .1)) (λ m r w. omega arith) refl (λ z. z) g in
-          ⊎-elim (λ F. inl (frees-up (λ m r. omega (arith, less m r s)) (node-up u bs kind all d (close (e .now) e .frees) ef) F)) (λ z. absurd (z .0)) G
+          let G = all-goes ks (held n) [] t i kind' ks (d + 1) (p ++ y ∷ []) (T .2) h refl (T .2) (node-two f i kind' ks (T .1)) (λ m r w. omega arith) refl (λ z. z) g in
+          ⊎-elim (λ F. inl (frees-up (λ m r. omega (arith, less m r s)) (node-up u bs kind all d (close (e .now) e .frees) ef) F)) (λ z. clash (cc)) G
 
     root-goes : (r : Root) → RootAt E f r → findAt E r k ≡ some c → among s (eraseTouch E r k .goes) ≡ true → Frees s (rootItems r) (eraseKinds E r k)
     unfolding RootAt rootItems
     root-goes (bare t o) T h g = clash (cc)
     root-goes (tree l) T h g =
         let e = eraseTree E (art l) 0 k in
-        ⊎-elim (λ F. frees-up (λ m i. omega arith) (λ x a. among-after x (close (e .now) e .takes) (close (e .now) e .frees) a) F) (λ z. absurd (z .0)) (erase-goes l (held 0) [] 0 [] T h tt g)
+        frees-up (λ m i. omega arith) (λ x a. among-after x (close (e .now) e .takes) (close (e .now) e .frees) a) (erase-goes l 0 0 [] T h g)
 
 -- ---- erase
 
@@ -627,7 +695,7 @@ module _ (k : ℕ) (kind : k ≤ 8) (E : Edition) (s : State) (x : List ℕ) whe
       (λ t. let n' : eraseIn E s x (s .tree) .state .U ≡ 1 → ⊥ = rw t at n in rw t (ap (λ (d : Done). freeAt (d .state) k) q ∙ in-free r h (λ z. n' (ap (λ (d : Done). d .state .U) q ∙ z))))
       (λ t. rw t refl)
 
-module _ {E : Edition} {f x : List ℕ} {n : ℕ} {f' : List ℕ} (P : ErasePromise E f x n f') {s : State} (w : Stands E f s) (done : n ≡ 0) (more : 2 ≤ s .R) (narrow : Narrow E) (k : ℕ) (low : 1 ≤ k) (high : k ≤ 8)
+module _ {E : Edition} {f x : List ℕ} {n : ℕ} {f' : List ℕ} (P : ErasePromise E f x n f') {s : State} (w : Stands E f s) (done : n ≡ 0) (more : 2 ≤ s .R) (k : ℕ) (low : 1 ≤ k) (high : k ≤ 8)
     (off : among k (eraseKinds E (w .root) x) ≡ false) where
   abbrev after-erase : Stands E f' (onErase E s x .state)
   after-erase = P .after s w .0
@@ -640,7 +708,7 @@ module _ {E : Edition} {f x : List ℕ} {n : ℕ} {f' : List ℕ} (P : EraseProm
       let t : s .tree ≡ rootArt (w .root) = ap (λ (z : State). z .tree) (w .state) in
       let F = erase-found E x w (sym (P .answer s w) ∙ done) in
       list-same w w' O (erase-same-cap x w w') (λ a l. omega (arith, none-sum (cover a), found-low w x a l)) k (k - 1) is (omega arith) off (body-some k (k - 1) is (omega arith))
-      (spared w k (eraseKinds E (w .root) x) (eraseTouch E (w .root) x .goes) off (λ u. root-goes E narrow f (w .bytes) u x (F .0) (w .root) (w .rootAt) (F .1)))
+      (spared w k (eraseKinds E (w .root) x) (eraseTouch E (w .root) x .goes) off (λ u. root-goes E f u x (F .0) (w .root) (w .rootAt) (F .1)))
       (sym (list-long w' k (k - 1) is) ∙ erase-free k high E s x (w .root) t off (not-one w w' O more) ∙ list-long w k (k - 1) is)
 
 -- ---- two results have the list in common
@@ -650,7 +718,7 @@ module _ {E : Edition} {a : Write} {f x v : List ℕ} {n m : ℕ} {f' f'' : List
   pub put-lists : getD (P .after s w .0 .lists) (k - 1) [] ≡ getD (Q .after s w .0 .lists) (k - 1) []
   put-lists = put-list P w done k low high off ∙ sym (put-list Q w (rw (← put-number P Q w) done) k low high off)
 
-module _ {E : Edition} {f x : List ℕ} {n m : ℕ} {f' f'' : List ℕ} (P : ErasePromise E f x n f') (Q : ErasePromise E f x m f'') {s : State} (w : Stands E f s) (done : n ≡ 0) (more : 2 ≤ s .R) (narrow : Narrow E) (k : ℕ)
+module _ {E : Edition} {f x : List ℕ} {n m : ℕ} {f' f'' : List ℕ} (P : ErasePromise E f x n f') (Q : ErasePromise E f x m f'') {s : State} (w : Stands E f s) (done : n ≡ 0) (more : 2 ≤ s .R) (k : ℕ)
     (low : 1 ≤ k) (high : k ≤ 8) (off : among k (eraseKinds E (w .root) x) ≡ false) where
   pub erase-lists : getD (P .after s w .0 .lists) (k - 1) [] ≡ getD (Q .after s w .0 .lists) (k - 1) []
-  erase-lists = erase-list P w done more narrow k low high off ∙ sym (erase-list Q w (sym (erase-number P Q w) ∙ done) more narrow k low high off)
+  erase-lists = erase-list P w done more k low high off ∙ sym (erase-list Q w (sym (erase-number P Q w) ∙ done) more k low high off)

@@ -1,22 +1,24 @@
 -- Laws of the clause `stays`: said of every body, and sums over the marks of a tree, so that their order does not matter. Assumes nothing.
-use Prim.Native.Nat.{ℕ, _+_, _≤_}
+use Prim.Native.Nat.{ℕ, suc, _+_, _<_, _≤_}
 use mathlib.Core.Path.{_≡_, refl, sym, ap, _∙_}
 use mathlib.Core.List.{List, [], _∷_, _++_}
 use mathlib.Core.Bool.{Bool, true, false}
 use mathlib.Core.Logic.{_⊎_, inl, inr}
 use native.Mathlib.Omega.{arith}
 use native.Mathlib.Decide.{decLe}
+use lib.ListN.{length, take}
+use lib.Seq.{take-take, length-take-le}
 use lib.Dec.{ltb, eqb}
 use borrow.Author.Tests.{lt-ltb, ltb-true, eq-eqb}
 use Rattle.layout.specs.Kind.{Leaf, Prefix, EmptyRoot}
-use Rattle.model.specs.Strings.{pick, same}
+use Rattle.model.specs.Strings.{pick, same, shared}
 use Rattle.model.specs.Frame.{Lay, LayKids, bare, tree}
 use Rattle.model.specs.Frame.Lay.{leaf, prefix, node}
 use Rattle.model.specs.Frame.LayKids.{nil, kid}
-use Rattle.model.specs.Mark.{Mark, mark, marks, marksAll, rootMarks, like, count}
+use Rattle.model.specs.Mark.{Mark, mark, marks, marksAll, rootMarks, is, common, like, count, In}
 use Rattle.model.specs.Touch.{among, stay}
-use Rattle.model.specs.Freedom.{is, In}
 use Rattle.model.proofs.StringLaws.{clash, bool-cases, eqb-cases, same-true, same-refl}
+use Rattle.model.proofs.WayLaws.{shared-self, shared-after, shared-turn, shared-least}
 
 -- every body of ms but those of some slots is known by the same in ms'
 pub record Stay (goes : List ℕ) (ms ms' : List Mark) : Type 0 where
@@ -78,8 +80,8 @@ is-tests m x = go (eqb (m .slot) (x .slot)) (eqb (m .kind) (x .kind)) (pick (sam
     go true b n = refl
     go false b n = refl
 
-like-tests : (m x : Mark) → like m x ≡ pick (body-is m x) (pick (same (m .from) (x .from)) 1 (pick (same (m .to) (x .to)) 1 0)) 0
-like-tests m x = go (eqb (m .slot) (x .slot)) (eqb (m .kind) (x .kind)) (pick (same (m .from) (x .from)) 1 (pick (same (m .to) (x .to)) 1 0))
+like-tests : (m x : Mark) → like m x ≡ pick (body-is m x) (pick (common m x) 1 (is m x)) 0
+like-tests m x = go (eqb (m .slot) (x .slot)) (eqb (m .kind) (x .kind)) (pick (common m x) 1 (is m x))
   where
     go : (a b : Bool) (n : ℕ) → pick a (pick b n 0) 0 ≡ pick (pick a b false) n 0
     go true b n = refl
@@ -108,48 +110,86 @@ is-self m = rw (eq-eqb (m .slot) (m .slot) refl, eq-eqb (m .kind) (m .kind) refl
 pub record Like (m x : Mark) : Type 0 where
   pub slot : m .slot ≡ x .slot
   pub kind : m .kind ≡ x .kind
-  pub ends : (m .from ≡ x .from) ⊎ (m .to ≡ x .to)
+  pub known : (common m x ≡ true) ⊎ (m ≡ x)
 
 pub like-of : (m x : Mark) → 1 ≤ like m x → Like m x
-like-of m x h = go (body-is m x) (same (m .from) (x .from)) (same (m .to) (x .to)) refl refl refl (omega (arith, like-tests m x))
+like-of m x h = go (body-is m x) (common m x) refl refl (omega (arith, like-tests m x))
   where
-    go : (a b c : Bool) → body-is m x ≡ a → same (m .from) (x .from) ≡ b → same (m .to) (x .to) ≡ c → 1 ≤ pick a (pick b 1 (pick c 1 0)) 0 → Like m x
-    go true true c p q r h = let a = body-same m x p in record { slot = a .0; kind = a .1; ends = inl (same-true (m .from) (x .from) q) }
-    go true false true p q r h = let a = body-same m x p in record { slot = a .0; kind = a .1; ends = inr (same-true (m .to) (x .to) r) }
-    go true false false p q r h = absurd (omega arith)
-    go false b c p q r h = absurd (omega arith)
+    go : (a b : Bool) → body-is m x ≡ a → common m x ≡ b → 1 ≤ pick a (pick b 1 (is m x)) 0 → Like m x
+    go true true p q h = let a = body-same m x p in record { slot = a .0; kind = a .1; known = inl q }
+    go true false p q h = let a = body-same m x p in record { slot = a .0; kind = a .1; known = inr (is-same m x h) }
+    go false b p q h = absurd (omega arith)
 
--- a Prefix with other bytes is known by its start, or by its end
-pub is-from : (m : Mark) (s k : ℕ) (a b c : List ℕ) → is m (mark s k a b) ≤ like m (mark s k a c)
-is-from m s k a b c = go (eqb (m .slot) s) (eqb (m .kind) k) (same (m .from) a) (same (m .to) b) (same (m .to) c)
-  where
-    go : (t u x y z : Bool) → pick t (pick u (pick x (pick y 1 0) 0) 0) 0 ≤ pick t (pick u (pick x 1 (pick z 1 0)) 0) 0
-    go true true true true z = omega arith
-    go true true true false z = omega arith
-    go true true false y z = omega arith
-    go true false x y z = omega arith
-    go false u x y z = omega arith
-
-pub is-to : (m : Mark) (s k : ℕ) (a b c : List ℕ) → is m (mark s k a b) ≤ like m (mark s k c b)
-is-to m s k a b c = go (eqb (m .slot) s) (eqb (m .kind) k) (same (m .from) a) (same (m .from) c) (same (m .to) b)
-  where
-    go : (t u x y z : Bool) → pick t (pick u (pick x (pick z 1 0) 0) 0) 0 ≤ pick t (pick u (pick y 1 (pick z 1 0)) 0) 0
-    go true true true true true = omega arith
-    go true true true true false = omega arith
-    go true true true false true = omega arith
-    go true true true false false = omega arith
-    go true true false y z = omega arith
-    go true false x y z = omega arith
-    go false u x y z = omega arith
-
+-- equal ones are like, and so is a Prefix with a byte in common
 pub is-like : (m x : Mark) → is m x ≤ like m x
-is-like m x = is-from m (x .slot) (x .kind) (x .from) (x .to) (x .to)
+is-like m x = elim (decLe 1 (is m x)) [
+  | yes q ↦ let e = is-same m x q in rw e (omega (arith, is-self x, like-self x))
+  | no q ↦ omega arith
+]
+  where
+    go : (a b : Bool) (n : ℕ) → a ≡ true → 1 ≤ n → 1 ≤ pick a (pick b 1 n) 0
+    go true true n e h = omega arith
+    go true false n e h = h
+    go false b n e h = clash (cc)
+
+    like-self : (x : Mark) → 1 ≤ like x x
+    like-self x = omega (arith, like-tests x x, go (body-is x x) (common x x) (is x x) (rw (eq-eqb (x .slot) (x .slot) refl) (eq-eqb (x .kind) (x .kind) refl)) (omega (arith, is-self x)))
+
+like-common : (m x : Mark) → m .slot ≡ x .slot → m .kind ≡ x .kind → common m x ≡ true → like m x ≡ 1
+like-common m x e k c = rw (eq-eqb (m .slot) (x .slot) e, eq-eqb (m .kind) (x .kind) k, c) refl
+
+pub is-common : (m : Mark) (s k : ℕ) (a b c d : List ℕ) → common (mark s k a b) (mark s k c d) ≡ true → is m (mark s k a b) ≤ like m (mark s k c d)
+is-common m s k a b c d h = elim (decLe 1 (is m (mark s k a b))) [
+  | yes q ↦ let e = is-same m (mark s k a b) q in rw e (omega (arith, like-common (mark s k a b) (mark s k c d) refl refl h, is-self (mark s k a b)))
+  | no q ↦ omega arith
+]
+
+-- ---- bytes in common
+
+pub record Common (m x : Mark) : Type 0 where
+  pub left : length (m .from) < shared (m .to) (x .to)
+  pub right : length (x .from) < shared (m .to) (x .to)
+
+pub common-of : (m x : Mark) → common m x ≡ true → Common m x
+common-of m x h = go (ltb (length (m .from)) (shared (m .to) (x .to))) (ltb (length (x .from)) (shared (m .to) (x .to))) refl refl h
+  where
+    go : (a b : Bool) → ltb (length (m .from)) (shared (m .to) (x .to)) ≡ a → ltb (length (x .from)) (shared (m .to) (x .to)) ≡ b → pick a b false ≡ true → Common m x
+    go true true p q h = record { left = ltb-true (length (m .from)) (shared (m .to) (x .to)) p; right = ltb-true (length (x .from)) (shared (m .to) (x .to)) q }
+    go true false p q h = clash (cc)
+    go false b p q h = clash (cc)
+
+pub of-common : (m x : Mark) → Common m x → common m x ≡ true
+of-common m x C = rw (lt-ltb (length (m .from)) (shared (m .to) (x .to)) (C .left)) (lt-ltb (length (x .from)) (shared (m .to) (x .to)) (C .right))
+
+pub common-turn : (m x : Mark) → Common m x → Common x m
+common-turn m x C = let e = shared-turn (m .to) (x .to) in record { left = omega (arith, C .right); right = omega (arith, C .left) }
+
+-- two parts of one string that lie over each other
+pub common-way : (w : List ℕ) (s k i j i' j' : ℕ) → j ≤ length w → j' ≤ length w → i < j → i < j' → i' < j → i' < j' → common (mark s k (take i w) (take j w)) (mark s k (take i' w) (take j' w)) ≡ true
+common-way w s k i j i' j' h h' a b c d = of-common (mark s k (take i w) (take j w)) (mark s k (take i' w) (take j' w)) (record {
+  left = omega (arith, reach (suc i) (omega arith) (omega arith), length-take-le i w (omega arith));
+  right = omega (arith, reach (suc i') (omega arith) (omega arith), length-take-le i' w (omega arith));
+})
+  where
+    reach : (n : ℕ) → n ≤ j → n ≤ j' → n ≤ shared (take j w) (take j' w)
+    reach n p q = shared-least n (take j w) (take j' w) (omega (arith, length-take-le j w h)) (omega (arith, length-take-le j' w h')) (take-take n j w p ∙ sym (take-take n j' w q))
+
+-- a Prefix with other bytes keeps its first one, or its last
+pub is-from : (m : Mark) (s k : ℕ) (a p q : List ℕ) → 1 ≤ shared p q → is m (mark s k a (a ++ p)) ≤ like m (mark s k a (a ++ q))
+is-from m s k a p q h = is-common m s k a (a ++ p) a (a ++ q) (of-common (mark s k a (a ++ p)) (mark s k a (a ++ q)) (record { left = omega (arith, shared-after a p q); right = omega (arith, shared-after a p q) }))
+
+pub is-to : (m : Mark) (s k : ℕ) (a b c : List ℕ) → length a < length b → length c < length b → is m (mark s k a b) ≤ like m (mark s k c b)
+is-to m s k a b c h g = is-common m s k a b c b (of-common (mark s k a b) (mark s k c b) (record { left = omega (arith, shared-self b); right = omega (arith, shared-self b) }))
 
 -- a body that goes is none of those that stay
 pub is-gone : (m : Mark) (goes : List ℕ) (s k : ℕ) (a b : List ℕ) → among (m .slot) goes ≡ false → among s goes ≡ true → is m (mark s k a b) ≡ 0
 is-gone m goes s k a b n t = eqb-cases (m .slot) s
     (λ q e. let u : among (m .slot) goes ≡ among s goes = ap (λ (i : ℕ). among i goes) e in let z : true ≡ false = cc in clash (cc))
     (λ q e. rw q refl)
+
+-- of another kind it is another one
+pub is-other : (m : Mark) (s k : ℕ) (a b : List ℕ) → (m .kind ≡ k → ⊥) → is m (mark s k a b) ≡ 0
+is-other m s k a b n = elim (decLe 1 (is m (mark s k a b))) [ yes q ↦ absurd (n (ap (λ (z : Mark). z .kind) (is-same m (mark s k a b) q))) | no q ↦ omega arith ]
 
 pub counts-like : (m : Mark) (ms : List Mark) → count (is m) ms ≤ count (like m) ms
 unfolding count

@@ -7,8 +7,8 @@ use mathlib.Core.Bool.{true}
 use native.Mathlib.Omega.{arith}
 use lib.ListN.{length, drop, length-append}
 use lib.Seq.{drop-append-seam}
-use lib.Dec.{eqb}
-use borrow.Author.Tests.{ne-eqb}
+use lib.Dec.{ltb, eqb}
+use borrow.Author.Tests.{lt-ltb, le-ltb, ne-eqb}
 use Rattle.layout.specs.Number.{Bytes}
 use Rattle.layout.specs.Place.{prefixMost}
 use Rattle.layout.specs.Kind.{Prefix}
@@ -16,8 +16,9 @@ use Rattle.model.specs.Strings.{pick, shared}
 use Rattle.model.specs.Edition.{Edition, Legal, edition1}
 use Rattle.model.specs.Tree.{Art, Kids, Change, Left, isInner, chain, prefixes, rechained, loneChild, underPrefix}
 use Rattle.model.specs.Tree.Left.{kept}
-use Rattle.model.specs.Frame.{Lay, IsNode, Below, atop, art, Tree, Single}
+use Rattle.model.specs.Frame.{Lay, IsNode, Below, atop, art, Tree}
 use Rattle.model.specs.Frame.Lay.{leaf, prefix, node}
+use Rattle.model.specs.Touch.{Touch, touch, holder, chainSlots, chainLong, touchPut, Above, held, under, touchLone}
 use Rattle.model.proofs.StringLaws.{eqb-cases, shared-at}
 use Rattle.model.proofs.WellLaws.{parted-from}
 use Rattle.model.proofs.StandsGood.{below-inside, tree-well}
@@ -37,22 +38,16 @@ node-below p (leaf s o e k v) I = absurd I
 node-below p (prefix s o q l) I = absurd I
 node-below p (node s o kind ks) I = tt
 
--- of an edition: the path to what stands below a Prefix is short
-abbrev pub Narrow : Edition → Type 0
-Narrow E = (f path p : List ℕ) (l : Lay) → Bytes f → Below p l → Tree E f path l → length path ≤ prefixMost
-
-pub below-short : Narrow edition1
+-- the path to what stands below a Prefix is short
+pub below-short : (f path p : List ℕ) (l : Lay) → Bytes f → Below p l → Tree edition1 f path l → length path ≤ prefixMost
 below-short f path p l B H T = inside1 path (below-inside lawful1 f path p l B H T) .short
 
 -- so it is an inner node
-pub narrow-node : (E : Edition) → Narrow E → Single E
+pub below-node : (f path p : List ℕ) (l : Lay) → Bytes f → Below p l → Tree edition1 f (path ++ p) l → IsNode l
 unfolding Tree
-narrow-node E short f path p (leaf s o e k v) B H T = absurd H
-narrow-node E short f path p (prefix s o q l) B H T = absurd (omega (arith, short f (path ++ p ++ q) q l B (T .2) (T .3), length-append (path ++ p) q, length-append path p, T .1 .some))
-narrow-node E short f path p (node s o kind ks) B H T = tt
-
-pub below-node : Single edition1
-below-node = narrow-node edition1 below-short
+below-node f path p (leaf s o e k v) B H T = absurd H
+below-node f path p (prefix s o q l) B H T = absurd (omega (arith, below-short f (path ++ p ++ q) q l B (T .2) (T .3), length-append (path ++ p) q, length-append path p, T .1 .some))
+below-node f path p (node s o kind ks) B H T = tt
 
 -- n bytes above a tree go into one Prefix with those that it begins with
 abbrev pub OneBody : ℕ → Lay → Type 0
@@ -139,3 +134,51 @@ module _ (c : Change Left) where
     -- "If it is an inner node, a Prefix above takes the byte"
     pub back-one : (kind : ℕ) (ks : Kids) → length p + 1 ≤ prefixMost → underPrefix p b (Art.node kind ks) c ≡ freeing [] (Art.prefix (p ++ b ∷ []) (Art.node kind ks))
     back-one kind ks g = rechained-by (chain (length p)) (chain (length p + 1)) 0 (Art.prefix (p ++ b ∷ []) (Art.node kind ks)) (omega arith) (omega arith)
+
+-- ---- what is touched: document 01's lists
+
+node-chain : (l : Lay) → IsNode l → (chainSlots l ≡ []) × (chainLong l ≡ 0)
+node-chain (leaf s o e k v) I = absurd I
+node-chain (prefix s o p l) I = absurd I
+node-chain (node s o kind ks) I = (refl, refl)
+
+module _ (s : ℕ) (p : List ℕ) (h : ℕ) (deep : Touch) where
+  -- the lists of a cut after q bytes: of a chain, whose rest is told; and of one Prefix
+  abbrev chainCut : List ℕ → ℕ → ℕ → Touch
+  chainCut rest more q =
+      let n = length p + more in
+      let none = pick (ltb (chain (n - 1)) (chain n)) (touch (rest ++ holder h) (s ∷ [])) (touch (s ∷ rest ++ holder h) []) in
+      pick (eqb q (length p)) deep (pick (eqb q 0) none (touch (s ∷ rest) []))
+
+  abbrev pub oneCut : ℕ → Touch
+  oneCut q = pick (eqb q (length p)) deep (pick (eqb q 0) (pick (eqb (length p) 1) (touch (holder h) (s ∷ [])) (touch (s ∷ holder h) [])) (touch (s ∷ []) []))
+
+  cut-lists : (q : ℕ) → 1 ≤ length p → length p ≤ prefixMost → chainCut [] 0 q ≡ oneCut q
+  cut-lists q some most =
+      let n : length p + 0 ≡ length p = omega arith in
+      rw (n, fewer) refl
+    where
+      fewer : ltb (chain (length p - 1)) (chain (length p)) ≡ eqb (length p) 1
+      fewer = eqb-cases (length p) 1
+          (λ t i. rw t (lt-ltb (chain (length p - 1)) (chain (length p)) (omega arith)))
+          (λ t i. rw t (le-ltb (chain (length p - 1)) (chain (length p)) (omega arith)))
+
+-- "Both non-empty: one more Prefix. One: the old body is rewritten. None: it is freed."
+pub cut-touch : (E : Edition) (s o : ℕ) (p : List ℕ) (l : Lay) (h d : ℕ) (k v : List ℕ) → IsNode l → 1 ≤ length p → length p ≤ prefixMost
+    → touchPut E (prefix s o p l) h d k v ≡ oneCut s p h (touchPut E l s (d + length p) k v) (shared p (drop d (E .walked k)))
+cut-touch E s o p l h d k v I some most =
+    let q = shared p (drop d (E .walked k)) in
+    let deep = touchPut E l s (d + length p) k v in
+    let c = node-chain l I in
+    ap (λ (z : List ℕ). chainCut s p h deep z (chainLong l) q) (c .0) ∙ ap (λ (z : ℕ). chainCut s p h deep [] z q) (c .1) ∙ cut-lists s p h deep q some most
+
+module _ (s g c o : ℕ) (q : List ℕ) (l : Lay) (I : IsNode l) where
+  -- "If it is a Prefix, the byte joins it"
+  pub lone-touch : (h : ℕ) → touchLone (held h) s g (prefix c o q l) ≡ touch (c ∷ holder h) (g ∷ s ∷ [])
+  lone-touch h = rw (node-chain l I .0) refl
+
+  -- "(and a Prefix above joins as well, the lower body then freed)"
+  pub join-touch : (p n : ℕ) (u : Above) → 1 ≤ length q → n + 1 + length q ≤ prefixMost → touchLone (under p n u) s g (prefix c o q l) ≡ touch (p ∷ c ∷ []) (g ∷ s ∷ c ∷ [])
+  join-touch p n u some most =
+      let e : length q + 0 ≡ length q = omega arith in
+      rw (node-chain l I .0, node-chain l I .1, e, lt-ltb (chain (n + suc (length q))) (suc (chain (length q))) (omega arith)) refl

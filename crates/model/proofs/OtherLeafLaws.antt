@@ -1,6 +1,6 @@
 -- Of the Leaves, put and erase touch that of their own key alone: a Leaf of another key is none of the bodies that they free or rewrite. Assumes
 -- nothing.
-use Prim.Native.Nat.{ℕ, zero, suc, _+_, _≤_}
+use Prim.Native.Nat.{ℕ, zero, suc, _+_, _-_, _≤_}
 use mathlib.Core.Path.{_≡_, refl, ap, _∙_}
 use mathlib.Core.List.{List, [], _∷_, _++_}
 use mathlib.Core.Bool.{Bool, true, false}
@@ -14,15 +14,14 @@ use borrow.Author.Tests.{eq-eqb}
 use Rattle.layout.specs.Kind.{Leaf, Prefix, EmptyRoot, most, shrinkMark}
 use Rattle.model.specs.Strings.{pick, same, shared}
 use Rattle.model.specs.Edition.{Edition}
-use Rattle.model.specs.Tree.{Art, findTree, findKids}
+use Rattle.model.specs.Tree.{Art, chain, findTree, findKids}
 use Rattle.model.specs.State.{State, findIn, eraseFound, eraseIn, onErase}
 use Rattle.model.specs.Item.{onSlot, sum}
 use Rattle.model.specs.Frame.{Lay, LayKids, art, artKids, Root, bare, tree, rootArt, rootItems, RootAt, Tree, Trees, freed, Stands}
 use Rattle.model.specs.Frame.Lay.{leaf, prefix, node}
 use Rattle.model.specs.Frame.LayKids.{nil, kid}
-use Rattle.model.specs.Mark.{Mark, mark, marks, marksAll, rootMarks, count}
-use Rattle.model.specs.Touch.{Touch, holder, size, hasByte, without, touchPut, touchPutKids, putTouch, Above, held, under, next, touchLone, touchLost, touchErase, touchEraseKids, touchChild, eraseTouch, Part, findLay, findLayKids, findAt, among}
-use Rattle.model.specs.Freedom.{In, slotIs}
+use Rattle.model.specs.Mark.{Mark, mark, marks, marksAll, rootMarks, count, In, slotIs}
+use Rattle.model.specs.Touch.{Touch, holder, chainSlots, chainLong, size, hasByte, without, touchPut, touchPutKids, putTouch, Above, held, under, next, chainAbove, top, lastOf, touchLone, touchLost, touchErase, touchEraseKids, touchChild, eraseTouch, Part, findLay, findLayKids, findAt, among}
 use Rattle.model.proofs.StringLaws.{clash, bool-cases, eqb-cases, same-true, same-refl}
 use Rattle.model.proofs.ItemLaws.{sum-app, slot-once}
 use Rattle.model.proofs.MarkLaws.{find, weight-in, only, leaf-marks, prefix-marks, node-marks, kid-marks, tree-marks, bare-marks}
@@ -51,6 +50,18 @@ module _ (P : ℕ → Type 0) where
   each-holder : (h : ℕ) → P h → Each P (holder h)
   each-holder zero p = each-none
   each-holder (suc h) p = each-one (suc h) p
+
+  each-app : (ss rs : List ℕ) → Each P ss → Each P rs → Each P (ss ++ rs)
+  each-app [] rs p q = q
+  each-app (a ∷ ss) rs p q = each-cons a (ss ++ rs) (p a (rw (eq-eqb a a refl) refl)) (each-app ss rs (λ s h. p s (later s h)) q)
+    where
+      later : (s : ℕ) → among s ss ≡ true → among s (a ∷ ss) ≡ true
+      later s h = bool-cases (eqb s a) (λ t. rw t refl) (λ t. rw t h)
+
+  each-last : (ss : List ℕ) → Each P ss → Each P (lastOf ss)
+  each-last [] p = p
+  each-last (a ∷ []) p = p
+  each-last (a ∷ b ∷ ss) p = each-last (b ∷ ss) (λ s h. p s (bool-cases (eqb s a) (λ t. rw t refl) (λ t. rw t h)))
 
   either : {t u : Touch} (b : Bool) → (b ≡ true → Touches P t) → (b ≡ false → Touches P u) → Touches P (pick b t u)
   either true p q = p refl
@@ -87,6 +98,14 @@ module _ (E : Edition) (k x : List ℕ) (apart : same k x ≡ false) where
     abbrev NearAll : ℕ → List ℕ → LayKids → ℕ → Type 0
     NearAll h p ks s = (s ≡ h) ⊎ (1 ≤ count (besides x s) (marksAll p ks))
 
+    -- the Prefixes of a chain are the tree's own
+    each-chain : (p : List ℕ) (l : Lay) → Each (λ s. 1 ≤ count (besides x s) (marks p l)) (chainSlots l)
+    each-chain p (leaf s o e k' v) = each-none (λ u. 1 ≤ count (besides x u) (marks p (leaf s o e k' v)))
+    each-chain p (prefix s o q l) =
+        each-cons (λ u. 1 ≤ count (besides x u) (marks p (prefix s o q l))) s (chainSlots l) (omega (arith, prefix-marks (besides x s) p s o q l, own-prefix s p (p ++ q)))
+        (λ u h. omega (arith, prefix-marks (besides x u) p s o q l, each-chain (p ++ q) l u h))
+    each-chain p (node s o kind ks) = each-none (λ u. 1 ≤ count (besides x u) (marks p (node s o kind ks)))
+
     module _ (v : List ℕ) where
       put-leaf : (s o e : ℕ) (k' v' : List ℕ) (h d : ℕ) (p : List ℕ) → Touches (Near h p (leaf s o e k' v')) (touchPut E (leaf s o e k' v') h d k v)
       put-leaf s o e k' v' h d p =
@@ -101,15 +120,16 @@ module _ (E : Edition) (k x : List ℕ) (apart : same k x ≡ false) where
           let own : 1 ≤ count (besides x s) (marks p (prefix s o q l)) = omega (arith, prefix-marks (besides x s) p s o q l, own-prefix s p (p ++ q)) in
           let me : P s = inr own in
           let r = shared q (drop d (E .walked k)) in
+          let n = length q + chainLong l in
+          let rest : Each P (chainSlots l) = λ u i. inr (omega (arith, prefix-marks (besides x u) p s o q l, each-chain (p ++ q) l u i)) in
+          let mine : Each P (s ∷ chainSlots l) = each-cons P s (chainSlots l) me rest in
           either P (eqb r (length q))
           (λ t. touches-more (λ u n. ⊎-elim (λ e. inr (rw e own)) (λ c. inr (omega (arith, prefix-marks (besides x u) p s o q l))) n) T)
           (λ t. either P (eqb r 0)
-          (λ a. either P (eqb (length q) 1)
-          (λ b. record { goes = each-one P s me; rewrites = each-holder P h (inl refl) })
-          (λ b. record { goes = each-none P; rewrites = each-cons P s (holder h) me (each-holder P h (inl refl)) }))
-          (λ a. either P (eqb (suc r) (length q))
-          (λ b. record { goes = each-none P; rewrites = each-one P s me })
-          (λ b. record { goes = each-none P; rewrites = each-cons P s (holder h) me (each-holder P h (inl refl)) })))
+          (λ a. either P (ltb (chain (n - 1)) (chain n))
+          (λ b. record { goes = each-one P s me; rewrites = each-app P (chainSlots l) (holder h) rest (each-holder P h (inl refl)) })
+          (λ b. record { goes = each-none P; rewrites = each-app P (s ∷ chainSlots l) (holder h) mine (each-holder P h (inl refl)) }))
+          (λ a. record { goes = each-none P; rewrites = mine }))
 
       put-node : (s o kind : ℕ) (ks : LayKids) (h d : ℕ) (p : List ℕ) → (kind ≡ Leaf → ⊥) → Touches (NearAll s p ks) (touchPutKids E ks s d k v) → Touches (Near h p (node s o kind ks)) (touchPut E (node s o kind ks) h d k v)
       put-node s o kind ks h d p n T =
@@ -148,11 +168,19 @@ module _ (E : Edition) (k x : List ℕ) (apart : same k x ≡ false) where
 
     abbrev Up : Above → ℕ → Type 0
     Up (held h) s = s ≡ h
-    Up (under q h) s = (s ≡ q) ⊎ (s ≡ h)
+    Up (under q n u) s = (s ≡ q) ⊎ Up u s
 
     up-next : (u : Above) → Up u (next u)
     up-next (held h) = refl
-    up-next (under q h) = inl refl
+    up-next (under q n u) = inl refl
+
+    up-top : (u : Above) → Up u (top u)
+    up-top (held h) = refl
+    up-top (under q n u) = inr (up-top u)
+
+    up-chain : (u : Above) → Each (Up u) (chainAbove u)
+    up-chain (held h) = each-none (Up (held h))
+    up-chain (under q n u) = each-cons (Up (under q n u)) q (chainAbove u) (inl refl) (λ s h. inr (up-chain u s h))
 
     abbrev Around : Above → List ℕ → Lay → ℕ → Type 0
     Around u p l s = Up u s ⊎ (1 ≤ count (besides x s) (marks p l))
@@ -165,19 +193,26 @@ module _ (E : Edition) (k x : List ℕ) (apart : same k x ≡ false) where
       two-go : Each P (g ∷ n ∷ [])
       two-go = each-cons P g (n ∷ []) pg (each-one P n pn)
 
-      lone : (u : Above) (l : Lay) → ((s : ℕ) → Up u s → P s) → ((c o : ℕ) (q : List ℕ) (m : Lay) → l ≡ prefix c o q m → P c) → Touches P (touchLone u n g l)
+      lone : (u : Above) (l : Lay) → ((s : ℕ) → Up u s → P s) → Each P (chainSlots l) → Touches P (touchLone u n g l)
       lone (held h) (leaf c o e k' v) up pc = record { goes = two-go; rewrites = each-holder P h (up h refl) }
-      lone (held h) (prefix c o q m) up pc = record { goes = two-go; rewrites = each-cons P c (holder h) (pc c o q m refl) (each-holder P h (up h refl)) }
+      lone (held h) (prefix c o q m) up pc = record { goes = two-go; rewrites = each-app P (c ∷ chainSlots m) (holder h) pc (each-holder P h (up h refl)) }
       lone (held h) (node c o kind ks) up pc = record { goes = two-go; rewrites = each-holder P h (up h refl) }
-      lone (under q h) (leaf c o e k' v) up pc = record { goes = each-cons P g (n ∷ q ∷ []) pg (each-cons P n (q ∷ []) pn (each-one P q (up q (inl refl)))); rewrites = each-holder P h (up h (inr refl)) }
-      lone (under q h) (prefix c o q' m) up pc = record { goes = each-cons P g (n ∷ c ∷ []) pg (each-cons P n (c ∷ []) pn (each-one P c (pc c o q' m refl))); rewrites = each-one P q (up q (inl refl)) }
-      lone (under q h) (node c o kind ks) up pc = record { goes = two-go; rewrites = each-one P q (up q (inl refl)) }
+      lone (under q i u) (leaf c o e k' v) up pc = record {
+        goes = each-cons P g (n ∷ q ∷ chainAbove u) pg (each-cons P n (q ∷ chainAbove u) pn (λ s h. up s (up-chain (under q i u) s h)));
+        rewrites = each-holder P (top u) (up (top u) (inr (up-top u)));
+      }
+      lone (under q i u) (prefix c o q' m) up pc =
+          let long = length q' + chainLong m in
+          let last = pick (ltb (chain (i + suc long)) (suc (chain long))) (lastOf (c ∷ chainSlots m)) [] in
+          record {
+            goes = each-cons P g (n ∷ last) pg (each-cons P n last pn (each-either P (ltb (chain (i + suc long)) (suc (chain long))) (lastOf (c ∷ chainSlots m)) [] (each-last P (c ∷ chainSlots m) pc) (each-none P)));
+            rewrites = each-cons P q (c ∷ chainSlots m) (up q (inl refl)) pc;
+          }
+      lone (under q i u) (node c o kind ks) up pc = record { goes = two-go; rewrites = each-one P q (up q (inl refl)) }
 
       lost : (u : Above) (kind : ℕ) (p : List ℕ) (ks : LayKids) → ((s : ℕ) → Up u s → P s) → ((c : ℕ) → 1 ≤ count (besides x c) (marksAll p ks) → P c) → Touches P (touchLost u n kind g ks)
       lost u kind p nil up pc = record { goes = two-go; rewrites = each-none P }
-      lost u kind p (kid b j l nil) up pc =
-          lone u l up (λ c o q m e. pc c (let z = ap (λ (y : Lay). count (besides x c) (marks (p ++ b ∷ []) y)) e in
-          omega (arith, kid-marks (besides x c) p b j l nil, prefix-marks (besides x c) (p ++ b ∷ []) c o q m, own-prefix c (p ++ b ∷ []) ((p ++ b ∷ []) ++ q))))
+      lost u kind p (kid b j l nil) up pc = lone u l up (λ c h. pc c (omega (arith, kid-marks (besides x c) p b j l nil, each-chain (p ++ b ∷ []) l c h)))
       lost u kind p (kid b j l (kid b' j' l' ks)) up pc =
           either P (eqb (size (kid b j l (kid b' j' l' ks))) (shrinkMark kind))
           (λ t. record { goes = two-go; rewrites = each-holder P (next u) (up (next u) (up-next u)) })
@@ -204,9 +239,9 @@ module _ (E : Edition) (k x : List ℕ) (apart : same k x ≡ false) where
         touch-erase (prefix s o q l) u d p T h = bool-cases (eqb (shared q (drop d (E .walked k))) (length q))
             (λ t. touches-more
             (λ i n. ⊎-elim
-            (λ a. ⊎-elim (λ e. inr (rw e (omega (arith, prefix-marks (besides x s) p s o q l, own-prefix s p (p ++ q))))) (λ e. inl (rw e (up-next u))) a)
+            (λ a. ⊎-elim (λ e. inr (rw e (omega (arith, prefix-marks (besides x s) p s o q l, own-prefix s p (p ++ q))))) (λ e. inl e) a)
             (λ a. inr (omega (arith, prefix-marks (besides x i) p s o q l))) n)
-            (touch-erase l (under s (next u)) (d + length q) (p ++ q) (T .3) (rw t at h)))
+            (touch-erase l (under s (length q) u) (d + length q) (p ++ q) (T .3) (rw t at h)))
             (λ t. let z : none ≡ some c = rw t at h in clash (cc))
         touch-erase (node s o kind ks) u d p T h =
             touches-more
@@ -233,7 +268,7 @@ module _ (E : Edition) (k x : List ℕ) (apart : same k x ≡ false) where
             (λ i a. ⊎-elim
             (λ e. ⊎-elim (λ e. inr (inr (rw e (omega (arith, le (besides x s), prefix-marks (besides x s) (p ++ b ∷ []) s o q l, own-prefix s (p ++ b ∷ []) ((p ++ b ∷ []) ++ q)))))) (λ e. inr (inl e)) e)
             (λ e. inr (inr (omega (arith, le (besides x i), prefix-marks (besides x i) (p ++ b ∷ []) s o q l)))) a)
-            (touch-erase l (under s n) (d + 1 + length q) ((p ++ b ∷ []) ++ q) (T .3) (rw t at h)))
+            (touch-erase l (under s (length q) (held n)) (d + 1 + length q) ((p ++ b ∷ []) ++ q) (T .3) (rw t at h)))
             (λ t. let z : none ≡ some c = rw t at h in clash (cc))
         touch-child (node s o kind' ks) u n kind b all d p T h le =
             touches-more

@@ -1,18 +1,16 @@
 -- In a tree that stands, no two bodies of one kind are known by the same: no two Leaves have one key, no two inner nodes of a kind one path,
--- no two Prefixes one start or one end, where a chain is one Prefix. Assumes nothing.
+-- no two Prefixes one byte. Assumes nothing.
 use Prim.Native.Nat.{ℕ, suc, _+_, _<_, _≤_}
 use mathlib.Core.Path.{_≡_, refl, sym, ap, _∙_}
 use mathlib.Core.List.{List, [], _∷_, _++_}
-use mathlib.Core.Logic.{_⊎_, ⊎-elim}
 use native.Mathlib.Omega.{arith}
 use native.Mathlib.Decide.{decLe}
 use lib.ListN.{length, take, getD, length-append}
 use lib.Seq.{getD-take, take-take, take-append-seam, getD-append-seam}
-use Rattle.layout.specs.Number.{Bytes}
 use Rattle.layout.specs.Kind.{Leaf, Prefix}
 use Rattle.model.specs.Edition.{Edition}
 use Rattle.model.specs.Body.{Asc}
-use Rattle.model.specs.Frame.{Lay, LayKids, IsNode, pairs, Begins, Tree, Trees, Single}
+use Rattle.model.specs.Frame.{Lay, LayKids, pairs, Begins, Tree, Trees}
 use Rattle.model.specs.Frame.Lay.{leaf, prefix, node}
 use Rattle.model.specs.Frame.LayKids.{nil, kid}
 use Rattle.model.specs.Mark.{Mark, mark, marks, marksAll, count}
@@ -45,14 +43,13 @@ pub begins-self : (y : List ℕ) → Begins y y
 begins-self [] = refl
 begins-self (x ∷ y) = ap (λ (z : List ℕ). x ∷ z) (begins-self y)
 
--- ---- a weight that holds of bodies known by y: of one kind c if that is Prefix
+-- ---- a weight that holds of bodies known by y: a Prefix that starts on the way to y and ends below
 
-pub record Names (E : Edition) (w : Mark → ℕ) (c : ℕ) (y : List ℕ) : Type 0 where
+pub record Names (E : Edition) (w : Mark → ℕ) (y : List ℕ) : Type 0 where
   pub one : (m : Mark) → w m ≤ 1
-  pub kind : c ≡ Prefix → (s k : ℕ) (p : List ℕ) → 4 ≤ k → 1 ≤ w (mark s k p p) → ⊥
   pub leaf : (s : ℕ) (k : List ℕ) → 1 ≤ w (mark s Leaf k k) → E .walked k ≡ y
   pub node : (s k : ℕ) (p : List ℕ) → 4 ≤ k → 1 ≤ w (mark s k p p) → p ≡ y
-  pub prefix : (s : ℕ) (p q : List ℕ) → 1 ≤ w (mark s Prefix p (p ++ q)) → Begins y p × ((length y < length p + length q) ⊎ ((c ≡ Prefix) × (length y ≤ length p + length q)))
+  pub prefix : (s : ℕ) (p q : List ℕ) → 1 ≤ length q → 1 ≤ w (mark s Prefix p (p ++ q)) → Begins y p × (length y < length p + length q)
 
 -- n bodies of a tree to which p leads
 record Few (y p : List ℕ) (n : ℕ) : Type 0 where
@@ -66,38 +63,32 @@ record Below (lo : ℕ) (y p : List ℕ) (n : ℕ) : Type 0 where
   pub long : 1 ≤ n → length p < length y
   pub byte : 1 ≤ n → lo ≤ getD y (length p) 0
 
--- a tree: also, of a node and of Prefixes, all stand below
-record Least (y p : List ℕ) (c : ℕ) (l : Lay) (n : ℕ) : Type 0 where
-  pub few : Few y p n
-  pub deep : IsNode l → c ≡ Prefix → 1 ≤ n → length p < length y
-
-module _ {E : Edition} {w : Mark → ℕ} {c : ℕ} {y : List ℕ} (N : Names E w c y) (f : List ℕ) (chains : Single E) (B : Bytes f) where
-  prefix-least : (s o : ℕ) (p q : List ℕ) (l : Lay) → IsNode l → Least y (p ++ q) c l (count w (marks (p ++ q) l)) → Least y p c (prefix s o q l) (count w (marks p (prefix s o q l)))
-  prefix-least s o p q l i L =
+module _ {E : Edition} {w : Mark → ℕ} {y : List ℕ} (N : Names E w y) (f : List ℕ) where
+  prefix-few : (s o : ℕ) (p q : List ℕ) (l : Lay) → 1 ≤ length q → Few y (p ++ q) (count w (marks (p ++ q) l)) → Few y p (count w (marks p (prefix s o q l)))
+  prefix-few s o p q l i L =
       let m = mark s Prefix p (p ++ q) in
       let e = prefix-marks w p s o q l in
-      let r = length-append p q in
       elim (decLe 1 (w m)) [
         | yes h ↦
-            let P = N .prefix s p q h in
+            let P = N .prefix s p q i h in
             let z : count w (marks (p ++ q) l) ≡ 0 = (elim (decLe 1 (count w (marks (p ++ q) l))) [
-              | yes g ↦ absurd (⊎-elim (λ u. omega (arith, begins-long y (p ++ q) (L .few .begins g))) (λ u. omega (arith, L .deep i (u .0) g, u .1)) (P .1))
+              | yes g ↦ absurd (omega (arith, P .1, length-append p q, begins-long y (p ++ q) (L .begins g)))
               | no g ↦ omega arith
             ]) in
-            record { few = record { few = omega (arith, N .one m); begins = λ g. P .0 }; deep = λ t. absurd t }
-        | no h ↦ record { few = record { few = omega (arith, L .few .few); begins = λ g. begins-less y p q (L .few .begins (omega arith)) }; deep = λ t. absurd t }
+            record { few = omega (arith, N .one m); begins = λ g. P .0 }
+        | no h ↦ record { few = omega (arith, L .few); begins = λ g. begins-less y p q (L .begins (omega arith)) }
       ]
 
-  node-least : (s o kind : ℕ) (p : List ℕ) (ks : LayKids) → 4 ≤ kind → Below 0 y p (count w (marksAll p ks)) → Least y p c (node s o kind ks) (count w (marks p (node s o kind ks)))
-  node-least s o kind p ks k4 B =
+  node-few : (s o kind : ℕ) (p : List ℕ) (ks : LayKids) → 4 ≤ kind → Below 0 y p (count w (marksAll p ks)) → Few y p (count w (marks p (node s o kind ks)))
+  node-few s o kind p ks k4 B =
       let m = mark s kind p p in
       let e = node-marks w p s o kind ks in
       elim (decLe 1 (w m)) [
         | yes h ↦
             let q : p ≡ y = N .node s kind p k4 h in
             let z : count w (marksAll p ks) ≡ 0 = (elim (decLe 1 (count w (marksAll p ks))) [ yes g ↦ absurd (omega (arith, B .long g, ap length q)) | no g ↦ omega arith ]) in
-            record { few = record { few = omega (arith, N .one m); begins = λ g. rw q (begins-self y) }; deep = λ t u g. absurd (N .kind u s kind p k4 h) }
-        | no h ↦ record { few = record { few = omega (arith, B .few); begins = λ g. B .begins (omega arith) }; deep = λ t u g. B .long (omega arith) }
+            record { few = omega (arith, N .one m); begins = λ g. rw q (begins-self y) }
+        | no h ↦ record { few = omega (arith, B .few); begins = λ g. B .begins (omega arith) }
       ]
 
   kid-below : (lo b j : ℕ) (p : List ℕ) (l : Lay) (ks : LayKids) → lo ≤ b → Few y (p ++ b ∷ []) (count w (marks (p ++ b ∷ []) l)) → Below (suc b) y p (count w (marksAll p ks))
@@ -116,18 +107,16 @@ module _ {E : Edition} {w : Mark → ℕ} {c : ℕ} {y : List ℕ} (N : Names E 
   mutual
     unfolding Tree Trees
 
-    tree-least : (p : List ℕ) (l : Lay) → Tree E f p l → Least y p c l (count w (marks p l))
-    tree-least p (leaf s o e k v) T =
-        let q = leaf-marks w p s o e k v in
-        record { few = record { few = omega (arith, N .one (mark s Leaf k k)); begins = λ h. rw (← N .leaf s k (omega arith)) (T .1 .begins) }; deep = λ t. absurd t }
-    tree-least p (prefix s o q l) T = prefix-least s o p q l (chains f p q l B (T .2) (T .3)) (tree-least (p ++ q) l (T .3))
-    tree-least p (node s o kind ks) T = node-least s o kind p ks (T .1 .inner .range .0) (trees-below 0 p ks (T .2) (inner-asc f o kind (pairs ks) (T .1 .inner)))
+    tree-few : (p : List ℕ) (l : Lay) → Tree E f p l → Few y p (count w (marks p l))
+    tree-few p (leaf s o e k v) T = let q = leaf-marks w p s o e k v in record { few = omega (arith, N .one (mark s Leaf k k)); begins = λ h. rw (← N .leaf s k (omega arith)) (T .1 .begins) }
+    tree-few p (prefix s o q l) T = prefix-few s o p q l (T .1 .some) (tree-few (p ++ q) l (T .3))
+    tree-few p (node s o kind ks) T = node-few s o kind p ks (T .1 .inner .range .0) (trees-below 0 p ks (T .2) (inner-asc f o kind (pairs ks) (T .1 .inner)))
 
     trees-below : (lo : ℕ) (p : List ℕ) (ks : LayKids) → Trees E f p ks → Asc lo (pairs ks) → Below lo y p (count w (marksAll p ks))
     trees-below lo p nil T A =
         let q = nil-marks w p in record { few = omega arith; begins = λ h. absurd (omega arith); long = λ h. absurd (omega arith); byte = λ h. absurd (omega arith) }
     trees-below lo p (kid b j l ks) T A =
-        let U = asc-kid lo b j l ks A in kid-below lo b j p l ks (U .0) (tree-least (p ++ b ∷ []) l (T .0) .few) (trees-below (suc b) p ks (T .1) (U .3))
+        let U = asc-kid lo b j l ks A in kid-below lo b j p l ks (U .0) (tree-few (p ++ b ∷ []) l (T .0)) (trees-below (suc b) p ks (T .1) (U .3))
 
   pub tree-once : (p : List ℕ) (l : Lay) → Tree E f p l → count w (marks p l) ≤ 1
-  tree-once p l T = tree-least p l T .few .few
+  tree-once p l T = tree-few p l T .few

@@ -28,7 +28,8 @@ use Rattle.model.specs.Promise.{changes, WritePromise, ErasePromise}
 use Rattle.model.specs.Freedom.{padding}
 use Rattle.model.proofs.StringLaws.{clash, bool-cases, eqb-cases, same-true}
 use Rattle.model.proofs.ItemLaws.{in-where, in-yes, sum-app, slot-once}
-use Rattle.model.proofs.AlikeLaws.{Result, slot-stays, result-of, put-number, erase-number, put-same-cap, erase-same-cap}
+use Rattle.model.proofs.ShiftLaws.{Result}
+use Rattle.model.proofs.AlikeLaws.{slot-stays, result-of, put-number, erase-number, put-same-cap, erase-same-cap}
 use Rattle.model.proofs.CleanLaws.{stands-clean, freed-bare}
 use Rattle.model.proofs.ExtentLaws.{dying-less, placed, sized, root-past, found-low}
 use Rattle.model.proofs.BytesLaws.{entry-bytes, leaf-bytes, prefix-bytes, node-bytes}

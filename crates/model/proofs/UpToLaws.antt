@@ -1,31 +1,27 @@
--- Two frames that one promise permits of one frame, key and value are equal up to what docs/ lists, where a chain is one Prefix. Assumes nothing.
+-- Two frames that one promise permits of one frame, key and value are equal up to what docs/ lists. Assumes nothing.
 use Prim.Native.Nat.{ℕ, _+_, _<_, _≤_}
 use mathlib.Core.Path.{_≡_, refl, sym, _∙_}
 use mathlib.Core.List.{List, [], _∷_, _++_}
 use mathlib.Core.Bool.{Bool, true, false}
-use mathlib.Core.Logic.{inl, inr, ⊎-elim}
 use native.Mathlib.Omega.{arith}
 use native.Mathlib.Decide.{decLe}
 use lib.ListN.{length}
 use Rattle.layout.specs.Number.{byteAt, Bytes}
 use Rattle.layout.specs.Kind.{bodySize}
 use Rattle.model.specs.Edition.{Edition}
-use Rattle.model.specs.Tree.{Art}
 use Rattle.model.specs.State.{State, Write, putChange, onWrite, onErase}
 use Rattle.model.specs.Item.{Item, body, extent, onSlot, cover, sum}
 use Rattle.model.specs.Body.{LeafAt, PrefixAt}
-use Rattle.model.specs.Frame.{Lay, LayKids, slotOf, art, artKids, Root, bare, tree, rootArt, rootItems, RootAt, Tree, Trees, Single, NodeOf, freed, Stands}
+use Rattle.model.specs.Frame.{Lay, LayKids, slotOf, art, artKids, Root, bare, tree, rootArt, rootItems, RootAt, Tree, Trees, NodeOf, freed, Stands}
 use Rattle.model.specs.Frame.Lay.{leaf, prefix, node}
 use Rattle.model.specs.Frame.LayKids.{nil, kid}
 use Rattle.model.specs.Touch.{Touch, among, isBody, putTouch, eraseTouch, findAt, extentAt, dying, Outside}
 use Rattle.model.specs.Promise.{changes, eraseKinds, WritePromise, ErasePromise}
-use Rattle.model.specs.Freedom.{Cut, Uncut, Alike, LeafTwins, PrefixTwins, NodeTwins, Twins, TwinsAll, RootTwins, UpTo}
+use Rattle.model.specs.Freedom.{Alike, LeafTwins, PrefixTwins, NodeTwins, Twins, TwinsAll, RootTwins, UpTo}
 use Rattle.model.proofs.StringLaws.{clash}
 use Rattle.model.proofs.ItemLaws.{in-where, sum-app, slot-once}
-use Rattle.model.proofs.ChainLaws.{inner-atop}
-use Rattle.model.proofs.OneBody.{node-inner}
-use Rattle.model.proofs.KnotLaws.{erase-knot}
-use Rattle.model.proofs.AlikeLaws.{alike, uncut, result-of, arts-same, put-number, erase-number, put-same-cap, erase-same-cap}
+use Rattle.model.proofs.ShapeLaws.{prefix-same, atop-leaf, atop-node}
+use Rattle.model.proofs.AlikeLaws.{alike, result-of, arts-same, put-number, erase-number, put-same-cap, erase-same-cap}
 use Rattle.model.proofs.CleanLaws.{stands-clean}
 use Rattle.model.proofs.ExtentLaws.{dying-less}
 use Rattle.model.proofs.BytesLaws.{leaf-twin, text-twin, prefix-twin, node-twin}
@@ -34,7 +30,7 @@ use Rattle.model.proofs.KeptLaws.{still-there, kept-byte, not-gone, cov
 
 -- ---- body by body
 
-module _ (E : Edition) (chains : Single E) (f g : List ℕ) (F : Bytes f) (G : Bytes g) where
+module _ (E : Edition) (f g : List ℕ) (F : Bytes f) (G : Bytes g) where
   leaf-twins : (o e o' e' : ℕ) (k v k' v' : List ℕ) → k ≡ k' → v ≡ v' → LeafAt f o e k v → LeafAt g o' e' k' v' → LeafTwins f o e g o' e' (length k + length v)
   leaf-twins o e o' e' k v k' v' ek ev A B =
       let B' : LeafAt g o' e' k v = rw (ek, ev) B in
@@ -47,25 +43,19 @@ module _ (E : Edition) (chains : Single E) (f g : List ℕ) (F : Bytes f) (G : B
   node-twins : (o o' kind kind' : ℕ) (ks ks' : LayKids) → kind ≡ kind' → artKids ks ≡ artKids ks' → NodeOf f o kind ks → NodeOf g o' kind' ks' → NodeTwins f o g o' kind ks ks'
   node-twins o o' kind kind' ks ks' e h A B = let B' : NodeOf g o' kind ks' = rw e B in node-twin f g F G ks ks' h o o' kind A B'
 
-  -- a Prefix stands above an inner node
-  prefix-art : (h : List ℕ) (p : List ℕ) (s o : ℕ) (q : List ℕ) (l : Lay) → Bytes h → Tree E h p (prefix s o q l) → Art.prefix q (art l) ≡ art (prefix s o q l)
-  unfolding Tree
-  prefix-art h p s o q l B T = inner-atop q (art l) (node-inner l (chains h p q l B (T .2) (T .3)))
-
   mutual
     unfolding Tree Trees Twins TwinsAll
 
     twins : (l : Lay) (p p' : List ℕ) (l' : Lay) → Tree E f p l → Tree E g p' l' → art l ≡ art l' → Twins f g l l'
     twins (leaf s o e k v) p p' (leaf s' o' e' k' v') T U h = leaf-twins o e o' e' k v k' v' (cc) (cc) (T .1 .at) (U .1 .at)
-    twins (leaf s o e k v) p p' (prefix s' o' q' l') T U h = let z = h ∙ sym (prefix-art g p' s' o' q' l' G U) in clash (cc)
+    twins (leaf s o e k v) p p' (prefix s' o' q' l') T U h = atop-leaf q' (art l') k v (sym h)
     twins (leaf s o e k v) p p' (node s' o' kind' ks') T U h = clash (cc)
-    twins (prefix s o q l) p p' (leaf s' o' e' k' v') T U h = let z = prefix-art f p s o q l F T ∙ h in clash (cc)
+    twins (prefix s o q l) p p' (leaf s' o' e' k' v') T U h = atop-leaf q (art l) k' v' h
     twins (prefix s o q l) p p' (prefix s' o' q' l') T U h =
-        let z = prefix-art f p s o q l F T ∙ h ∙ sym (prefix-art g p' s' o' q' l' G U) in
-        let e : art l ≡ art l' = cc in (prefix-twins o o' (slotOf l) (slotOf l') q q' (cc) (T .1) (U .1), twins l (p ++ q) (p' ++ q') l' (T .3) (U .3) e)
-    twins (prefix s o q l) p p' (node s' o' kind' ks') T U h = let z = prefix-art f p s o q l F T ∙ h in clash (cc)
+        let e = prefix-same E f g p p' s o q l s' o' q' l' T U h in (prefix-twins o o' (slotOf l) (slotOf l') q q' (e .0) (T .1) (U .1), twins l (p ++ q) (p' ++ q') l' (T .3) (U .3) (e .1))
+    twins (prefix s o q l) p p' (node s' o' kind' ks') T U h = atop-node q (art l) kind' (artKids ks') h
     twins (node s o kind ks) p p' (leaf s' o' e' k' v') T U h = clash (cc)
-    twins (node s o kind ks) p p' (prefix s' o' q' l') T U h = let z = h ∙ sym (prefix-art g p' s' o' q' l' G U) in clash (cc)
+    twins (node s o kind ks) p p' (prefix s' o' q' l') T U h = atop-node q' (art l') kind (artKids ks) (sym h)
     twins (node s o kind ks) p p' (node s' o' kind' ks') T U h =
         let e : artKids ks ≡ artKids ks' = cc in (node-twins o o' kind kind' ks ks' (cc) e (T .1) (U .1), twins-all ks p p' ks' (T .2) (U .2) e)
 
@@ -141,18 +131,18 @@ module _ {E : Edition} {f f' : List ℕ} {s s' : State} (w : Stands E f s) (w' :
 
 -- ---- two results of one step
 
-module _ {E : Edition} (chains : Single E) {f f' f'' : List ℕ} {s s' : State} (w : Stands E f s) (w' : Stands E f' s') (w'' : Stands E f'' s') {kinds : List ℕ} {t : Touch} {xs' xs'' dies : List Item} {new : Bool}
+module _ {E : Edition} {f f' f'' : List ℕ} {s s' : State} (w : Stands E f s) (w' : Stands E f' s') (w'' : Stands E f'' s') {kinds : List ℕ} {t : Touch} {xs' xs'' dies : List Item} {new : Bool}
     (O : Outside f f' (w .root) (w' .root) (w .lists) (w' .lists) kinds t xs' dies new) (Q : Outside f f'' (w .root) (w'' .root) (w .lists) (w'' .lists) kinds t xs'' dies new) (wiped : E .wiped ≡ true) where
-  up-to : (cut : ℕ → Type 0) → Alike cut (w .root) (w' .root) (w'' .root) → Alike cut (w .root) (w'' .root) (w' .root) → w' .nums .N ≡ w .nums .N → Beside (w' .root) xs' → Beside (w'' .root) xs'' → Beside (w .root) dies
-      → UpTo cut (w .root) kinds t dies f' f'' (w' .root) (w'' .root) (w' .lists) (w'' .lists) xs' xs''
-  up-to cut A B cap I J I0 =
+  up-to : Alike (w .root) (w' .root) (w'' .root) → Alike (w .root) (w'' .root) (w' .root) → w' .nums .N ≡ w .nums .N → Beside (w' .root) xs' → Beside (w'' .root) xs'' → Beside (w .root) dies
+      → UpTo (w .root) kinds t dies f' f'' (w' .root) (w'' .root) (w' .lists) (w'' .lists) xs' xs''
+  up-to A B cap I J I0 =
       let N = same-numbers w' w'' refl in
       record {
         forth = A;
         back = B;
         places = λ s k o k' o' h p q. let F = slot-find s (rootItems (w .root)) h in place-kept w w' O s k o (F .0) (F .1) (F .2) p ∙ sym (place-kept w w'' Q s k' o' (F .0) (F .1) (F .2) q);
         kept = λ s k o h n j l u. bytes-kept w w' O cap I I0 s k o h n j u ∙ sym (bytes-kept w w'' Q (sym (N .N) ∙ cap) J I0 s k o h n j u);
-        bodies = root-twins E chains f' f'' (w' .bytes) (w'' .bytes) (w' .root) (w'' .root) (w' .rootAt) (w'' .rootAt) (arts-same w' w'');
+        bodies = root-twins E f' f'' (w' .bytes) (w'' .bytes) (w' .root) (w'' .root) (w' .rootAt) (w'' .rootAt) (arts-same w' w'');
         size = w' .heap .header .size ∙ N .F ∙ sym (w'' .heap .header .size);
         numbers = λ a l. numbers-agree E f' f'' (w' .bytes) (w'' .bytes) a (w' .nums) (w'' .nums) (w' .heap .header) (w'' .heap .header) N l;
         other = λ a h g. O .other a h ∙ sym (Q .other a g);
@@ -161,9 +151,6 @@ module _ {E : Edition} (chains : Single E) {f f' f'' : List ℕ} {s s' : State} 
 
 -- ---- put and erase
 
-swapped : {r r' r'' : Root} → Alike (Cut r r'' r') r r'' r' → Alike (Cut r r' r'') r r'' r'
-swapped A = record { shape = A .shape; same = λ x y hx hy k a b l. ⊎-elim (λ e. inl e) (λ c. inr (⊎-elim (λ h. inr h) (λ h. inl h) c)) (A .same x y hx hy k a b l) }
-
 module _ {E : Edition} {a : Write} {f k v : List ℕ} {n m : ℕ} {f' f'' : List ℕ} (P : WritePromise E a f k v n f') (Q : WritePromise E a f k v m f'') {s : State} (w : Stands E f s) (done : changes n ≡ true) where
   abbrev one : Stands E f' (onWrite E a s k v .state)
   one = P .after s w .0
@@ -171,15 +158,15 @@ module _ {E : Edition} {a : Write} {f k v : List ℕ} {n m : ℕ} {f' f'' : List
   abbrev other : Stands E f'' (onWrite E a s k v .state)
   other = Q .after s w .0
 
-  pub put-up-to : Single E → E .wiped ≡ true → UpTo (Cut (w .root) (one .root) (other .root)) (w .root) (putChange E s k v .takes ++ putChange E s k v .frees) (putTouch E (w .root) k v) (dying (putChange E s k v .dead) (extentAt (length k) (findAt E (w .root) k))) f' f'' (one .root) (other .root) (one .lists) (other .lists)
+  pub put-up-to : E .wiped ≡ true → UpTo (w .root) (putChange E s k v .takes ++ putChange E s k v .frees) (putTouch E (w .root) k v) (dying (putChange E s k v .dead) (extentAt (length k) (findAt E (w .root) k))) f' f'' (one .root) (other .root) (one .lists) (other .lists)
       (extentAt (length k) (findAt E (one .root) k)) (extentAt (length k) (findAt E (other .root) k))
-  put-up-to chains wiped =
+  put-up-to wiped =
       let O = P .after s w .1 done in
       let O' = Q .after s w .1 (rw (← put-number P Q w) done) in
       let R = result-of (w .root) one O in
       let S = result-of (w .root) other O' in
       let e = arts-same one other in
-      up-to chains w one other O O' wiped (Cut (w .root) (one .root) (other .root)) (alike chains R S e) (swapped (alike chains S R (sym e))) (put-same-cap a k v w one) (extent-beside E k (one .root)) (extent-beside E k (other .root))
+      up-to w one other O O' wiped (alike f (w .rootAt) R S e) (alike f (w .rootAt) S R (sym e)) (put-same-cap a k v w one) (extent-beside E k (one .root)) (extent-beside E k (other .root))
       (λ s' k' o' a h. omega (arith, dying-less (cover a) (putChange E s k v .dead) (extentAt (length k) (findAt E (w .root) k)), extent-beside E k (w .root) s' k' o' a h))
 
 module _ {E : Edition} {f k : List ℕ} {n m : ℕ} {f' f'' : List ℕ} (P : ErasePromise E f k n f') (Q : ErasePromise E f k m f'') {s : State} (w : Stands E f s) (done : n ≡ 0) (more : 2 ≤ s .R) where
@@ -189,12 +176,11 @@ module _ {E : Edition} {f k : List ℕ} {n m : ℕ} {f' f'' : List ℕ} (P : Era
   abbrev eother : Stands E f'' (onErase E s k .state)
   eother = Q .after s w .0
 
-  pub erase-up-to : Single E → E .wiped ≡ true → UpTo Uncut (w .root) (eraseKinds E (w .root) k) (eraseTouch E (w .root) k) (extentAt (length k) (findAt E (w .root) k)) f' f'' (eone .root) (eother .root) (eone .lists) (eother .lists) [] []
-  erase-up-to chains wiped =
+  pub erase-up-to : E .wiped ≡ true → UpTo (w .root) (eraseKinds E (w .root) k) (eraseTouch E (w .root) k) (extentAt (length k) (findAt E (w .root) k)) f' f'' (eone .root) (eother .root) (eone .lists) (eother .lists) [] []
+  erase-up-to wiped =
       let O = P .after s w .1 done more in
       let O' = Q .after s w .1 (sym (erase-number P Q w) ∙ done) more in
       let R = result-of (w .root) eone O in
       let S = result-of (w .root) eother O' in
       let e = arts-same eone eother in
-      up-to chains w eone eother O O' wiped Uncut (uncut chains f R S (erase-knot k w eone) (erase-knot k w eother) (w .bytes) (w .rootAt) e) (uncut chains f S R (erase-knot k w eother) (erase-knot k w eone) (w .bytes) (w .rootAt) (sym e)) (erase-same-cap k w eone)
-      (none-beside (eone .root)) (none-beside (eother .root)) (extent-beside E k (w .root))
+      up-to w eone eother O O' wiped (alike f (w .rootAt) R S e) (alike f (w .rootAt) S R (sym e)) (erase-same-cap k w eone) (none-beside (eone .root)) (none-beside (eother .root)) (extent-beside E k (w .root))

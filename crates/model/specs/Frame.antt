@@ -124,10 +124,6 @@ unfoldable mutual
   Trees E f path nil = Unit {0}
   Trees E f path (kid b j l ks) = Tree E f (path ++ b ∷ []) l × Trees E f path ks
 
--- of an edition: in a good frame every chain is one Prefix
-abbrev pub Single : Edition → Type 0
-Single E = (f path p : List ℕ) (l : Lay) → Bytes f → Below p l → Tree E f (path ++ p) l → IsNode l
-
 -- "EmptyRoot stands only at the root"
 pub data Root : Type 0 where
   bare : ℕ → ℕ → Root  -- slot, place

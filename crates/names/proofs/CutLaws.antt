@@ -20,7 +20,7 @@ use Rattle.model.proofs.StringLaws.{bool-cases, eqb-cases, clash}
 use Rattle.listing.specs.Listing.{begins, upto, entryFor, delimiterOf}
 use Rattle.listing.specs.Bound.{tailUp, tailFor}
 use Rattle.listing.proofs.BoundLaws.{upto-twice}
-use Rattle.seek.proofs.LeafLaws.{text-part}
+use Rattle.keys.proofs.KeyLaws.{text-part}
 use Rattle.names.specs.declared.entry.Cut.{Cut}
 use Rattle.names.specs.declared.entry.Entry.{Entry}
 use Rattle.names.specs.Entry.{CutAt, OfKey}

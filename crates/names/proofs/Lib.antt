@@ -1,3 +1,5 @@
+pub mod EditionLaws
+pub mod SoughtLaws
 pub mod CutLaws
 pub mod WriteLaws
 pub mod EntryLaws

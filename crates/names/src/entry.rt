@@ -7,12 +7,13 @@ ghost use mathlib.Core.Bool.{false};
 ghost use mathlib.Core.List.{List, _++_};
 ghost use Prim.Native.Nat.{ℕ, _+_, _≤_, _<_};
 ghost use lib.ListN.{length, take, drop};
+ghost use Rattle.model.specs.Edition.{editionOf, SomeEdition};
 ghost use Rattle.model.specs.Image.{digits};
 ghost use Rattle.model.specs.Body.{LeafAt};
 ghost use Rattle.listing.specs.Listing.{begins, delimiterOf};
 ghost use Rattle.seek.specs.Sub.{Sub};
-ghost use Rattle.seek.specs.Seek.{LeafSome};
-ghost use Rattle.names.specs.Entry.{CutAt, OfKey, EntryFrom};
+ghost use Rattle.seek.specs.Seek.{LeafSome, Tail};
+ghost use Rattle.names.specs.Entry.{CutAt, OfKey, EntryFrom, wordRoom, SpeltBound, chosenOf};
 
 // behind the text of a bound: past the key that is the text, and past all keys that begin with it
 const PAST_KEY: usize = 1;
@@ -94,7 +95,7 @@ pub fn ending(key: &[u8], from: usize, delimiter: usize) -> Cut
 
 // The entry of the key of the Leaf at a place, if it begins with the prefix.
 fn of_leaf(f: &[u8], place: usize, prefix: &[u8], delimiter: usize) -> Entry
-    requires { ⌜ LeafSome (now f) place ⌝ }
+    requires { ⌜ SomeEdition (λ E. LeafSome E (now f) place) ⌝ }
     ensures { λ r. ⌜ ((e : ℕ) (k v : List ℕ) → LeafAt (now (f .entry)) place e k v → OfKey (now (f .entry)) (now (prefix .entry)) (delimiterOf delimiter) k r) ⌝ }
 {
     let at = Leaf::extent(f, place);
@@ -112,7 +113,34 @@ fn of_leaf(f: &[u8], place: usize, prefix: &[u8], delimiter: usize) -> Entry
     }
 }
 
-// The entry of the first key at or above a bound, if that begins with the prefix.
+// Writes what guides a seek to the bound of a text, and gives its length: in edition 2 the text's walked string without its end, and past the key that
+// is the text with the first byte of that. In edition 1 nothing.
+fn spelt(text: &[u8], tail: usize, word: &mut [u8], edition: usize) -> usize
+    requires { ⌜ (wordRoom (editionOf edition) ≤ length (now word)) × (length (now word) < 65536) × (length (now text) ≤ 255) ⌝ }
+    ensures { λ r. ⌜ SpeltBound (editionOf edition) (now (text .entry)) tail (now (word .exit)) r ⌝ }
+{
+    if edition != keys::SECOND {
+        return 0;
+    }
+    let n = keys::walk(text, word, keys::SECOND);
+    if tail == PAST_KEY {
+        return n - 1;
+    }
+    n - 2
+}
+
+// What guides: in edition 1 the text itself, in edition 2 the first n bytes of the word.
+fn chosen<'a>(text: &'a [u8], word: &'a [u8], n: usize, edition: usize) -> &'a [u8]
+    requires { ⌜ n ≤ length (now word) ⌝ }
+    ensures { λ r. ⌜ now r ≡ chosenOf (editionOf edition) (now (text .entry)) (take n (now (word .entry))) ⌝ }
+{
+    if edition == keys::SECOND {
+        return &word[0..n];
+    }
+    &text[0..]
+}
+
+// The entry of the first key at or above the bound of a text, if that begins with the prefix.
 pub fn from_bound(
     f: &[u8],
     root: usize,
@@ -120,15 +148,19 @@ pub fn from_bound(
     delimiter: usize,
     text: &[u8],
     tail: usize,
+    word: &mut [u8],
+    edition: usize,
 ) -> Entry
-    requires { ⌜ Sub (now f) root 0 × (tail ≤ 256) ⌝ }
-    ensures { λ r. ⌜ EntryFrom (now (f .entry)) root (now (prefix .entry)) (delimiterOf delimiter) (now (text .entry)) tail r ⌝ }
+    requires { ⌜ Sub (editionOf edition) (now f) root 0 × Tail tail × (length (now text) ≤ 255) × (wordRoom (editionOf edition) ≤ length (now word)) × (length (now word) < 65536) ⌝ }
+    ensures { λ r. ⌜ EntryFrom (editionOf edition) (now (f .entry)) root (now (prefix .entry)) (delimiterOf delimiter) (now (text .entry)) tail r ⌝ }
 {
-    let sought = seek::seek(f, root, text, tail);
-    if !sought.found {
+    let n = spelt(text, tail, word, edition);
+    let bound = chosen(text, word, n, edition);
+    let s = seek::seek(f, root, text, bound, tail);
+    if !s.found {
         return none();
     }
-    of_leaf(f, sought.place, prefix, delimiter)
+    of_leaf(f, s.place, prefix, delimiter)
 }
 
 // An entry at a place of the buffer: its length in two bytes, then its bytes.

@@ -4,24 +4,36 @@ mod page;
 
 use answers::List;
 use answers::Refusal;
-use descent::key;
 use fields::header::Header;
 ghost use mathlib.Core.Path.{_≡_};
+ghost use Prim.Native.Nat.{_≤_};
 ghost use Rattle.answers.specs.Number.{listNumber, listCount, listMore};
-ghost use Rattle.model.specs.Edition.{edition1};
-ghost use Rattle.listing.specs.Listing.{startOf, delimiterOf, startFault, ListPromise};
+ghost use Rattle.model.specs.Edition.{editionOf};
+ghost use Rattle.listing.specs.Listing.{startOf, delimiterOf, prefixLimit, startFault, ListPromise};
 
 // the most bytes of a prefix, as of a key
 const LONGEST_PREFIX: usize = 112;
 
+const LONGEST_PREFIX_SECOND: usize = 255;
+
+// The most bytes of a prefix in an edition.
+fn longest_prefix(edition: usize) -> usize
+    ensures { λ r. ⌜ (r ≡ prefixLimit (editionOf edition)) × (r ≤ 255) ⌝ }
+{
+    if edition == keys::SECOND {
+        return LONGEST_PREFIX_SECOND;
+    }
+    LONGEST_PREFIX
+}
+
 // The refusal that a start key gets, and 0 if it is legal or none is given.
-fn start_fault(start: &[u8], given: bool) -> usize
-    ensures { λ r. ⌜ r ≡ startFault edition1 (startOf given (now (start .entry))) ⌝ }
+fn start_fault(start: &[u8], given: bool, edition: usize) -> usize
+    ensures { λ r. ⌜ r ≡ startFault (editionOf edition) (startOf given (now (start .entry))) ⌝ }
 {
     if !given {
         return 0;
     }
-    key::fault(start)
+    keys::fault(start, edition)
 }
 
 // Entries after `start`, if one is given, of the keys that begin with `prefix`; a `delimiter` above 255 is none.
@@ -32,21 +44,22 @@ pub fn list(
     given: bool,
     delimiter: usize,
     buffer: &mut [u8],
+    edition: usize,
 ) -> List
-    ensures { λ r. ⌜ ListPromise edition1 (now (frame .entry)) (now (prefix .entry)) (startOf given (now (start .entry))) (delimiterOf delimiter) (now (buffer .entry)) (listNumber r) (listCount r) (listMore r) (now (buffer .exit)) ⌝ }
+    ensures { λ r. ⌜ ListPromise (editionOf edition) (now (frame .entry)) (now (prefix .entry)) (startOf given (now (start .entry))) (delimiterOf delimiter) (now (buffer .entry)) (listNumber r) (listCount r) (listMore r) (now (buffer .exit)) ⌝ }
 {
-    let n = audit::check(frame);
+    let n = audit::check(frame, edition);
     if n == audit::BAD_LENGTH {
         return List::Refused(Refusal::Length);
     }
     if n != audit::GOOD {
         return List::Refused(Refusal::Frame);
     }
-    if prefix.len() > LONGEST_PREFIX {
+    if prefix.len() > longest_prefix(edition) {
         return List::Refused(Refusal::KeyLength);
     }
-    let fault = start_fault(start, given);
-    if fault == key::BAD_KEY_LENGTH {
+    let fault = start_fault(start, given, edition);
+    if fault == keys::BAD_KEY_LENGTH {
         return List::Refused(Refusal::KeyLength);
     }
     if fault != 0 {
@@ -55,6 +68,21 @@ pub fn list(
     if Header::records(frame) == 0 {
         return List::Done(0, false);
     }
+    if edition == keys::SECOND {
+        let mut word: [u8; keys::LONGEST_WORD] = [0; keys::LONGEST_WORD];
+        return page::fill(
+            frame,
+            Header::root(frame),
+            prefix,
+            start,
+            given,
+            delimiter,
+            buffer,
+            &mut word,
+            edition,
+        );
+    }
+    let mut unspelt: [u8; 0] = [0; 0];
     page::fill(
         frame,
         Header::root(frame),
@@ -63,5 +91,7 @@ pub fn list(
         given,
         delimiter,
         buffer,
+        &mut unspelt,
+        edition,
     )
 }

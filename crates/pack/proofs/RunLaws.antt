@@ -11,7 +11,7 @@ use Rattle.layout.specs.Place.{entryAt}
 use Rattle.layout.specs.Kind.{Inner, bodySize, fewest, most}
 use Rattle.layout.specs.Entry.{highOf, placeOf, entryOf}
 use Rattle.layout.proofs.KindLaws.{inner-range}
-use Rattle.model.specs.Edition.{edition1}
+use Rattle.model.specs.Edition.{Edition, Lawful}
 use Rattle.model.specs.Tree.{count}
 use Rattle.model.specs.Image.{smallest, slots, slotsKids, size, sizeKids, bytesOf, childSlots, nodeBody, entries, entriesKids, bodies, bodiesKids}
 use Rattle.model.specs.Body.{InnerAt, byteIn, childIn}
@@ -21,7 +21,7 @@ use Rattle.model.specs.Frame.LayKids.{nil, kid}
 use Rattle.model.proofs.StringLaws.{clash}
 use Rattle.model.proofs.TextLaws.{has-left}
 use Rattle.model.proofs.Well.{WellKids}
-use Rattle.model.proofs.Edition1.{node-path1}
+use Rattle.model.proofs.WellLaws.{node-inside, inside-short}
 use Rattle.model.proofs.StandsGood.{inner-asc, node-well, trees-well}
 use Rattle.model.proofs.PackedLaws.{Fits, smallest-fits}
 use Rattle.model.proofs.PackedBytes.{length-entries}
@@ -39,7 +39,7 @@ use Rattle.inside.specs.Inside.{InsideAll}
 use Rattle.pack.specs.Walk.{packedLay, packedRun, TreeReady, TreePacked, packedKind, Going}
 use Rattle.pack.proofs.LaidLaws.{laid-as, laid-join, laid-swap, room-first, room-rest, room-only}
 use Rattle.pack.proofs.NodeLaws.{node-slots, node-size, node-entries, node-bodies, glue, count-run, length-part}
-use Rattle.pack.proofs.WalkLaws.{length-packed, is-inner, node-of, node-trees, node-inside, node-room}
+use Rattle.pack.proofs.WalkLaws.{length-packed, is-inner, node-of, node-trees, kids-inside, node-room}
 
 -- ---- what a node's children say
 
@@ -74,13 +74,13 @@ module _ {f : List ℕ} {o kind : ℕ} {ks : LayKids} (N : NodeOf f o kind ks) w
   count-is : {p n : ℕ} → p ≡ o → Counted f p n → n ≡ length (pairs ks)
   count-is e h = h kind (pairs ks) (rw e (N .inner))
 
-  module _ (path : List ℕ) (B : Bytes f) (T : Trees edition1 f path ks) where
-    kids-well : WellKids edition1 (artKids ks) path 0
-    kids-well = trees-well edition1 f B path 0 ks (inner-asc f o kind (pairs ks) (N .inner)) T
+  module _ (E : Edition) (path : List ℕ) (B : Bytes f) (T : Trees E f path ks) where
+    kids-well : WellKids E (artKids ks) path 0
+    kids-well = trees-well E f B path 0 ks (inner-asc f o kind (pairs ks) (N .inner)) T
 
     -- a path to an inner node is not yet whole
-    node-left : length path ≤ 112
-    node-left = node-path1 kind (artKids ks) path (node-well f o kind ks N, kids-well) .short
+    node-left : Lawful E → length path < E .longest
+    node-left L = inside-short L path (node-inside L kind (artKids ks) path (node-well f o kind ks N, kids-well))
 
 -- their bytes ascend
 run-bytes : (ks : LayKids) → bytesOf (packedRun ks) ≡ bytesOf (artKids ks)
@@ -89,13 +89,13 @@ run-bytes (kid b j l ks) = ap (λ (bs : List ℕ). b ∷ bs) (run-bytes ks)
 
 -- ---- the start
 
-module _ {f : List ℕ} {s left : ℕ} {out : List ℕ} {at : Next} (T : TreeReady f s left out at) (low : 4 ≤ highOf f s) where
+module _ {E : Edition} {f : List ℕ} {s left : ℕ} {out : List ℕ} {at : Next} (T : TreeReady E f s left out at) (low : 4 ≤ highOf f s) where
   abbrev kids : LayKids
   kids = is-inner T low .kids
 
   -- the path has a byte left for the child
   pub some-left : 1 ≤ left
-  some-left = let d = T .deep in omega (arith, node-left (node-of T low) (T .path) (T .bytes) (node-trees T low))
+  some-left = let d = T .deep in omega (arith, node-left (node-of T low) E (T .path) (T .bytes) (node-trees T low) (T .lawful))
 
   module _ {o : ℕ} (eo : o ≡ placeOf f s) where
     pub start-in : o + 2 ≤ length f
@@ -118,13 +118,14 @@ module _ {f : List ℕ} {s left : ℕ} {out : List ℕ} {at : Next} (T : TreeRea
       node-fits =
           rw start-kind (let r = inner-range (small-fits (node-of T low) .sort) in record { low = r .0; high = r .1; room = room-first (omega arith) (omega arith) start-room })
 
-      pub going-start : {out' : List ℕ} {here : Next} → Laid (entryOf small (at .place) ∷ []) (partBody small n [] []) at out out' here → Going f s left out at 0 0 out' here
+      pub going-start : {out' : List ℕ} {here : Next} → Laid (entryOf small (at .place) ∷ []) (partBody small n [] []) at out out' here → Going E f s left out at 0 0 out' here
       going-start {out'} {here} L =
           let M : Laid (entryOf (packedKind kids) (at .place) ∷ []) (partBody (packedKind kids) (length (pairs kids)) [] []) at out out' here = rw (start-kind, start-count) at L in
           let b : length (partBody (packedKind kids) (length (pairs kids)) [] []) ≡ bodySize (packedKind kids) = length-part (packedKind kids) (length (pairs kids)) [] [] (small-fits (node-of T low) .sort) refl (omega arith) in
           let z : here .slot ≡ at .slot + 1 = M .slotIs in
           let p : here .place ≡ at .place + bodySize (packedKind kids) = M .placeIs ∙ ap (λ (m : ℕ). at .place + m) b in
           record {
+            lawful = T .lawful;
             kids = kids;
             path = T .path;
             of = node-of T low;
@@ -137,7 +138,7 @@ module _ {f : List ℕ} {s left : ℕ} {out : List ℕ} {at : Next} (T : TreeRea
             rest = kids;
             restIs = refl;
             restTrees = node-trees T low;
-            restInside = node-inside T low;
+            restInside = kids-inside T low;
             bs = [];
             ss = [];
             es = [];
@@ -172,7 +173,7 @@ split c s more (kid b j l ks) e =
     let hb : b ≡ c = ap (λ (x : ℕ × ℕ). x .0) h in
     record { place = j; lay = l; kids = ks; is = ap (λ (x : ℕ). kid x j l ks) hb; slotIs = ap (λ (x : ℕ × ℕ). x .1) h; moreIs = tail-eq-of-cons-eq e }
 
-module _ {f : List ℕ} {s left : ℕ} {out : List ℕ} {at : Next} {i from : ℕ} {out' : List ℕ} {here : Next} (G : Going f s left out at i from out' here) where
+module _ {E : Edition} {f : List ℕ} {s left : ℕ} {out : List ℕ} {at : Next} {i from : ℕ} {out' : List ℕ} {here : Next} (G : Going E f s left out at i from out' here) where
   abbrev small : ℕ
   small = packedKind (G .kids)
 
@@ -231,7 +232,7 @@ module _ {f : List ℕ} {s left : ℕ} {out : List ℕ} {at : Next} {i from : �
         abbrev others : LayKids
         others = next-is .kids
 
-        next-trees : Trees edition1 f (G .path) (kid c (next-is .place) child others)
+        next-trees : Trees E f (G .path) (kid c (next-is .place) child others)
         next-trees = rw (next-is .is) at (G .restTrees)
 
         next-inside : InsideAll f (kid c (next-is .place) child others)
@@ -256,7 +257,7 @@ module _ {f : List ℕ} {s left : ℕ} {out : List ℕ} {at : Next} {i from : �
             ≡ bodiesKids (packedRun (G .kids)) (at .slot + 1) (at .place + bodySize small)
         next-bodies = rw (next-is .is) at (G .bodiesAre)
 
-        child-tree : Tree edition1 f (G .path ++ c ∷ []) child
+        child-tree : Tree E f (G .path ++ c ∷ []) child
         unfolding Trees
         child-tree = next-trees .0
 
@@ -264,24 +265,25 @@ module _ {f : List ℕ} {s left : ℕ} {out : List ℕ} {at : Next} {i from : �
           W : ChildLaid (at .place) small i c (here .slot) out' out''
           W = rw going-kind at L
 
-          pub going-tree : TreeReady f w (left - 1) out'' here
+          pub going-tree : TreeReady E f w (left - 1) out'' here
           unfolding InsideAll
           going-tree =
               record {
+                lawful = G .lawful;
                 lay = child;
                 path = G .path ++ c ∷ [];
                 tree = child-tree;
                 slotIs = next-is .slotIs;
                 inside = next-inside .0;
                 bytes = G .bytes;
-                deep = (let d = G .deep in let m = node-left (G .of) (G .path) (G .bytes) (G .trees) in omega (arith, length-append (G .path) (c ∷ [])));
+                deep = (let d = G .deep in let m = node-left (G .of) E (G .path) (G .bytes) (G .trees) (G .lawful) in omega (arith, length-append (G .path) (c ∷ [])));
                 room = room-only (body-below .0) (room-first (omega arith) (omega arith) next-room) (W .only);
               }
 
           -- its byte and slot stand in the node
           ascending : Ascending 0 (G .bs ++ c ∷ [])
           ascending =
-              let A = well-ascending edition1 (artKids (G .kids)) (G .path) 0 (kids-well (G .of) (G .path) (G .bytes) (G .trees)) in
+              let A = well-ascending E (artKids (G .kids)) (G .path) 0 (kids-well (G .of) E (G .path) (G .bytes) (G .trees)) in
               let e : G .bs ++ c ∷ bytesOf (packedRun others) ≡ bytesOf (artKids (G .kids)) = next-bytes ∙ run-bytes (G .kids) in
               ascending-front 0 (G .bs) c (bytesOf (packedRun others)) (rw e A)
 
@@ -297,22 +299,23 @@ module _ {f : List ℕ} {s left : ℕ} {out : List ℕ} {at : Next} {i from : �
               let t = next-table in let z = G .laid .slotIs in
               laid-swap x y (G .ds) (omega arith) (q ∙ sym p) (G .laid) O (W .more n (G .bs) (G .ss) l g ascending (has-left x (G .ds) (G .laid .text)))
 
-          module _ {out3 : List ℕ} {r : Next} (P : TreePacked f w out'' here out3 r) where
+          module _ {out3 : List ℕ} {r : Next} (P : TreePacked E f w out'' here out3 r) where
             packed-child : Laid (entries (packedLay child) (here .place)) (bodies (packedLay child) (here .slot) (here .place)) here out'' out3 r
             packed-child =
-                let same : P .lay ≡ child = tree-unique edition1 f (P .path) (G .path ++ c ∷ []) (P .lay) child (P .tree) child-tree (P .slotIs ∙ sym (next-is .slotIs)) in
+                let same : P .lay ≡ child = tree-unique E f (P .path) (G .path ++ c ∷ []) (P .lay) child (P .tree) child-tree (P .slotIs ∙ sym (next-is .slotIs)) in
                 laid-as (ap (λ (l : Lay). entries (packedLay l) (here .place)) same) (ap (λ (l : Lay). bodies (packedLay l) (here .slot) (here .place)) same) (P .laid)
 
-            pub going-next : Going f s left out at (i + 1) (c + 1) out3 r
+            pub going-next : Going E f s left out at (i + 1) (c + 1) out3 r
             unfolding Trees InsideAll
             going-next =
                 let a = length-entries (packedLay child) (here .place) in
-                let b = length-packed f (G .path ++ c ∷ []) child (G .bytes) child-tree (here .slot) (here .place) in
+                let b = length-packed (G .lawful) f (G .path ++ c ∷ []) child (G .bytes) child-tree (here .slot) (here .place) in
                 let z : i + 1 ≡ suc i = omega arith in
                 let rs : here .slot + slots (packedLay child) ≡ r .slot = (let y = packed-child .slotIs in omega arith) in
                 let rp : here .place + size (packedLay child) ≡ r .place = (let y = packed-child .placeIs in omega arith) in
                 let t = next-table in let x = G .laid .slotIs in let y = inside-kids in
                 record {
+                  lawful = G .lawful;
                   kids = G .kids;
                   path = G .path;
                   of = G .of;
@@ -353,7 +356,7 @@ unfolding pairs
 none-left nil e = refl
 none-left (kid b j l ks) e = clash (cc)
 
-module _ {f : List ℕ} {s left : ℕ} {out : List ℕ} {at : Next} {i from : ℕ} {out' : List ℕ} {here : Next} (G : Going f s left out at i from out' here) {o m : ℕ} (eo : o ≡ placeOf f s) (em : Counted f o m) (all : m ≤ i) where
+module _ {E : Edition} {f : List ℕ} {s left : ℕ} {out : List ℕ} {at : Next} {i from : ℕ} {out' : List ℕ} {here : Next} (G : Going E f s left out at i from out' here) {o m : ℕ} (eo : o ≡ placeOf f s) (em : Counted f o m) (all : m ≤ i) where
   all-count : i ≡ length (pairs (G .kids))
   all-count = let a = G .most in let b = count-is (G .of) eo em in omega arith
 
@@ -375,7 +378,7 @@ module _ {f : List ℕ} {s left : ℕ} {out : List ℕ} {at : Next} {i from : �
   all-bodies : G .ds ≡ bodiesKids (packedRun (G .kids)) (at .slot + 1) (at .place + bodySize (packedKind (G .kids)))
   all-bodies = sym (append-nil (G .ds)) ∙ rw no-rest at (G .bodiesAre)
 
-  pub going-end : TreePacked f s out at out' here
+  pub going-end : TreePacked E f s out at out' here
   unfolding Tree
   going-end =
       let ks = packedRun (G .kids) in

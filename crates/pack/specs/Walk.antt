@@ -5,23 +5,17 @@ use mathlib.Core.List.{List, _∷_, _++_}
 use lib.ListN.{length, drop}
 use Rattle.layout.specs.Number.{Bytes}
 use Rattle.layout.specs.Place.{entryAt}
-use Rattle.layout.specs.Kind.{Leaf, bodySize}
+use Rattle.layout.specs.Kind.{bodySize}
 use Rattle.layout.specs.Entry.{highOf, placeOf, entryOf}
-use Rattle.model.specs.Edition.{edition1}
+use Rattle.model.specs.Edition.{Edition, Lawful}
 use Rattle.model.specs.Tree.{Art, Kids}
 use Rattle.model.specs.Image.{smallest, packed, packedKids, slots, slotsKids, size, sizeKids, bytesOf, childSlots, entries, entriesKids, bodies, bodiesKids}
 use Rattle.model.specs.Frame.{Lay, LayKids, slotOf, art, artKids, pairs, NodeOf, Tree, Trees}
-use Rattle.model.specs.Frame.Lay.{leaf, prefix, node}
-use Rattle.model.specs.Frame.LayKids.{nil, kid}
 use Rattle.inside.specs.Inside.{Inside, InsideAll}
 use Rattle.node.specs.Kids.{Reached}
 use Rattle.pack_body.specs.Part.{partBody}
 use Rattle.pack.specs.declared.bodies.Next.{Next}
 use Rattle.pack.specs.Laid.{Room, Laid}
-
--- the most bytes of a walked string: a key of 112 and one byte 0
-abbrev pub longestWalk : ℕ
-longestWalk = 113
 
 -- ---- the packed trees of a tree and of children of the frame
 
@@ -33,20 +27,21 @@ packedRun ks = packedKids (artKids ks)
 
 -- ---- the tree at slot s, where a path has so many bytes left
 
-pub record TreeReady (f : List ℕ) (s left : ℕ) (out : List ℕ) (at : Next) : Type 0 where
+pub record TreeReady (E : Edition) (f : List ℕ) (s left : ℕ) (out : List ℕ) (at : Next) : Type 0 where
+  pub lawful : Lawful E
   pub lay : Lay
   pub path : List ℕ
-  pub tree : Tree edition1 f path lay
+  pub tree : Tree E f path lay
   pub slotIs : slotOf lay ≡ s
   pub inside : Inside f lay
   pub bytes : Bytes f
-  pub deep : length path + left ≡ longestWalk
+  pub deep : length path + left ≡ E .longest
   pub room : Room (slots (packedLay lay)) (size (packedLay lay)) at out
 
-pub record TreePacked (f : List ℕ) (s : ℕ) (out : List ℕ) (at : Next) (out' : List ℕ) (r : Next) : Type 0 where
+pub record TreePacked (E : Edition) (f : List ℕ) (s : ℕ) (out : List ℕ) (at : Next) (out' : List ℕ) (r : Next) : Type 0 where
   pub lay : Lay
   pub path : List ℕ
-  pub tree : Tree edition1 f path lay
+  pub tree : Tree E f path lay
   pub slotIs : slotOf lay ≡ s
   pub laid : Laid (entries (packedLay lay) (at .place)) (bodies (packedLay lay) (at .slot) (at .place)) at out out' r
 
@@ -57,19 +52,20 @@ abbrev pub packedKind : LayKids → ℕ
 packedKind ks = smallest (length (pairs ks))
 
 -- its first i children are packed behind its body, which so far names just these: bytes bs, slots ss, entries es, bodies and extents ds
-pub record Going (f : List ℕ) (s left : ℕ) (out : List ℕ) (at : Next) (i from : ℕ) (out' : List ℕ) (here : Next) : Type 0 where
+pub record Going (E : Edition) (f : List ℕ) (s left : ℕ) (out : List ℕ) (at : Next) (i from : ℕ) (out' : List ℕ) (here : Next) : Type 0 where
+  pub lawful : Lawful E
   pub kids : LayKids
   pub path : List ℕ
   pub of : NodeOf f (placeOf f s) (highOf f s) kids
-  pub trees : Trees edition1 f path kids
+  pub trees : Trees E f path kids
   pub bytes : Bytes f
-  pub deep : length path + left ≡ longestWalk
+  pub deep : length path + left ≡ E .longest
   pub most : i ≤ length (pairs kids)
   pub reached : Reached (pairs kids) i from
   pub low : from ≤ 256
   pub rest : LayKids
   pub restIs : pairs rest ≡ drop i (pairs kids)
-  pub restTrees : Trees edition1 f path rest
+  pub restTrees : Trees E f path rest
   pub restInside : InsideAll f rest
   pub bs : List ℕ
   pub ss : List ℕ

@@ -10,33 +10,36 @@ use layout::kind::Kind;
 use pack_body::inner_node;
 ghost use Prim.Native.Nat.{_≤_};
 ghost use Rattle.layout.specs.Entry.{highOf};
+ghost use Rattle.model.specs.Edition.{Edition, SomeEdition};
 ghost use Rattle.pack.specs.Walk.{TreeReady, TreePacked};
 
-// The tree at slot s of the frame, where a path has `left` bytes left. Below a Prefix there is an inner node.
+// The tree at slot s of the frame, where a path has `left` bytes left: the Prefixes of a chain one after another, and the inner node below.
 pub fn tree(f: &[u8], out: &mut [u8], s: usize, left: usize, next: Next) -> Next
-    requires { ⌜ TreeReady (now f) s left (now out) next ⌝ }
-    ensures { λ r. ⌜ TreePacked (now (f .entry)) s (now (out .entry)) next (now (out .exit)) r ⌝ }
+    requires { ⌜ SomeEdition (λ E. TreeReady E (now f) s left (now out) next) ⌝ }
+    ensures { λ r. ⌜ ((E : Edition) → TreeReady E (now (f .entry)) s left (now (out .entry)) next → TreePacked E (now (f .entry)) s (now (out .entry)) next (now (out .exit)) r) ⌝ }
 {
-    let e = Entry::read(f, s);
-    if e.high == Kind::LEAF {
-        return bodies::leaf(f, out, e.place, next);
-    }
     let mut node = s;
     let mut node_left = left;
     let mut here = next;
-    if e.high == Kind::PREFIX {
-        here = bodies::prefix(f, out, e.place, next);
+    loop {
+        let e = Entry::read(f, node);
+        if e.high == Kind::LEAF {
+            return bodies::leaf(f, out, e.place, here);
+        }
+        if e.high != Kind::PREFIX {
+            return run(f, out, node, node_left, here);
+        }
+        here = bodies::prefix(f, out, e.place, here);
         node = Prefix::child(f, e.place);
-        node_left = left - Prefix::length(f, e.place);
+        node_left -= Prefix::length(f, e.place);
     }
-    run(f, out, node, node_left, here)
 }
 
 // The inner node of slot s, at the smallest kind that holds its children, and the run of its children: "A node's children are packed in
 // ascending byte order". What the frame says of the node is read again for each child, so that little is kept while a child is packed.
 fn run(f: &[u8], out: &mut [u8], s: usize, left: usize, next: Next) -> Next
-    requires { ⌜ TreeReady (now f) s left (now out) next × (4 ≤ highOf (now f) s) × (highOf (now f) s ≤ 7) ⌝ }
-    ensures { λ r. ⌜ TreePacked (now (f .entry)) s (now (out .entry)) next (now (out .exit)) r ⌝ }
+    requires { ⌜ SomeEdition (λ E. TreeReady E (now f) s left (now out) next) × (4 ≤ highOf (now f) s) × (highOf (now f) s ≤ 7) ⌝ }
+    ensures { λ r. ⌜ ((E : Edition) → TreeReady E (now (f .entry)) s left (now (out .entry)) next → TreePacked E (now (f .entry)) s (now (out .entry)) next (now (out .exit)) r) ⌝ }
 {
     let top = Entry::read(f, s);
     let count = look::count(f, top.place);

@@ -30,8 +30,8 @@ use Rattle.pack_body.proofs.HasLaws.{zero-at, has-one, has-join, has-pa
 -- ---- the header
 
 -- what is written there
-abbrev pub packedHeader : ℕ → ℕ → ℕ → ℕ → ℕ → Header
-packedHeader f n b u r = record { «frame_length» = f; «slot_capacity» = n; «data_start» = dataStart n; «next_byte» = b; «slots_given» = u; records = r; «dead_bytes» = 0; root = 1 }
+abbrev pub packedHeader : ℕ → ℕ → ℕ → ℕ → ℕ → ℕ → Header
+packedHeader e f n b u r = record { edition = e; «frame_length» = f; «slot_capacity» = n; «data_start» = dataStart n; «next_byte» = b; «slots_given» = u; records = r; «dead_bytes» = 0; root = 1 }
 
 -- the fields, one behind the other
 abbrev fields : ℕ → ℕ → ℕ → ℕ → ℕ → ℕ → ℕ → ℕ → ℕ → List ℕ
@@ -47,14 +47,14 @@ written m e f n d b u r x s h =
     has-more 2 m8 32 s x8 refl (omega arith) (has-more 4 m7 28 x x7 refl (omega arith) (has-more 4 m6 24 r x6 refl (omega arith) (has-more 4 m5 20 u x5 refl (omega arith)
     (has-more 4 m4 16 b x4 refl (omega arith) (has-more 4 m3 12 d x3 refl (omega arith) (has-more 4 m2 8 n x2 refl (omega arith) (has-more 4 m1 4 f x1 refl (omega arith) (has-put 4 m 0 e (omega arith)))))))))
 
-pub header-written : {m g : List ℕ} {f n b u r : ℕ} → 64 ≤ length m → Zero m 0 64 → g ≡ putHeader m (packedHeader f n b u r) → HeaderWritten m g f n b u r
+pub header-written : {m g : List ℕ} {e f n b u r : ℕ} → 64 ≤ length m → Zero m 0 64 → g ≡ putHeader m (packedHeader e f n b u r) → HeaderWritten m g e f n b u r
 unfolding putHeader
-header-written {m} {g} {f} {n} {b} {u} {r} h Z E =
-    let long = length-putHeader m (packedHeader f n b u r) in
-    rw E (record {
-      only = record { size = long; below = λ a l. absurd (omega arith); above = λ a l. byte-putHeader m (packedHeader f n b u r) a (omega arith) };
-      is = has-padded 64 (fields 1 f n (dataStart n) b u r 0 1) (omega arith) (omega arith) (written m 1 f n (dataStart n) b u r 0 1 h)
-          (λ i l. byte-putHeader m (packedHeader f n b u r) (34 + i) (omega arith) ∙ zero-at m 64 Z (34 + i) (omega arith));
+header-written {m} {g} {e} {f} {n} {b} {u} {r} h Z p =
+    let long = length-putHeader m (packedHeader e f n b u r) in
+    rw p (record {
+      only = record { size = long; below = λ a l. absurd (omega arith); above = λ a l. byte-putHeader m (packedHeader e f n b u r) a (omega arith) };
+      is = λ E q. rw q (has-padded 64 (fields e f n (dataStart n) b u r 0 1) (omega arith) (omega arith) (written m e f n (dataStart n) b u r 0 1 h)
+          (λ i l. byte-putHeader m (packedHeader e f n b u r) (34 + i) (omega arith) ∙ zero-at m 64 Z (34 + i) (omega arith)));
     })
 
 -- ---- a part of the frame that is copied

@@ -8,7 +8,7 @@ use lib.Dec.{eqb}
 use Rattle.layout.specs.Place.{headerSize}
 use Rattle.layout.specs.Kind.{Leaf, Prefix, Node4, Node16, Node48, bodySize}
 use Rattle.model.specs.Strings.{pick}
-use Rattle.model.specs.Edition.{edition1}
+use Rattle.model.specs.Edition.{Edition}
 use Rattle.model.specs.Tree.Art.{leaf}
 use Rattle.model.specs.Image.{digits, numbers, padded, spread, upFrom, size, bodies, header}
 use Rattle.model.specs.Body.{Zero, Has, LeafAt, PrefixAt}
@@ -16,9 +16,10 @@ use Rattle.moves.specs.Moved.{Only}
 
 -- ---- the header
 
-pub record HeaderWritten (before after : List ℕ) (f n b u r : ℕ) : Type 0 where
+-- of every edition that has the number e
+pub record HeaderWritten (before after : List ℕ) (e f n b u r : ℕ) : Type 0 where
   pub only : Only before after 0 headerSize
-  pub is : Has after 0 (header edition1 f n b u r)
+  pub is : (E : Edition) → E .number ≡ e → Has after 0 (header E f n b u r)
 
 -- ---- a Leaf
 

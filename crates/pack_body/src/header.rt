@@ -8,9 +8,10 @@ ghost use Rattle.pack_body.specs.Part.{HeaderWritten};
 // The slot that the root of a packed frame has.
 const ROOT_SLOT: usize = 1;
 
-// F, N, B, U and R over zero bytes; nothing is dead, and no list has a slot.
+// The edition's number, F, N, B, U and R over zero bytes; nothing is dead, and no list has a slot.
 pub fn write(
     out: &mut [u8],
+    edition: usize,
     frame_length: usize,
     capacity: usize,
     next_byte: usize,
@@ -18,9 +19,10 @@ pub fn write(
     records: usize,
 )
     requires { ⌜ (64 ≤ length (now out)) × Zero (now out) 0 64 × (capacity ≤ 10240) ⌝ }
-    ensures { λ _. ⌜ HeaderWritten (now (out .entry)) (now (out .exit)) «frame_length» capacity «next_byte» slots records ⌝ }
+    ensures { λ _. ⌜ HeaderWritten (now (out .entry)) (now (out .exit)) edition «frame_length» capacity «next_byte» slots records ⌝ }
 {
     let header = Header {
+        edition: edition,
         frame_length: frame_length,
         slot_capacity: capacity,
         data_start: Header::data_start_of(capacity),

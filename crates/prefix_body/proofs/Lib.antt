@@ -1,2 +1,3 @@
 pub mod PrefixLaws
 pub mod FrontLaws
+pub mod CutLaws

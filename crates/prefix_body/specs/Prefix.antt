@@ -68,3 +68,7 @@ pub record Full (f : List ℕ) (o : ℕ) : Type 0 where
   pub below : ℕ
   pub at : PrefixAt f o bytes below
   pub long : length bytes ≡ 112
+
+-- the bodies at o and at low do not overlap
+abbrev pub Elsewhere : ℕ → ℕ → Type 0
+Elsewhere o low = (o + 128 ≤ low) ⊎ (low + 128 ≤ o)

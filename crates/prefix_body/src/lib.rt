@@ -1,16 +1,14 @@
-// The body of a Prefix: written whole, with a byte more in front or at the end, with bytes of another one, and with its first or its last bytes
-// cut off.
+// The body of a Prefix: written whole, with a byte more in front or at the end, with bytes of another one, with its first or its last bytes
+// cut off, and in two bodies.
 use fields::body::Prefix;
 use moves::fill;
 ghost use mathlib.Core.Path.{_≡_};
 ghost use mathlib.Core.List.{List, [], _∷_, _++_};
 ghost use Prim.Native.Nat.{ℕ, _+_, _≤_, _<_};
-ghost use lib.ListN.{length, getD, take};
-ghost use Rattle.layout.specs.Number.{byteAt};
-ghost use Rattle.layout.specs.Place.{prefixBytes};
+ghost use lib.ListN.{length, getD, take, drop};
 ghost use Rattle.model.specs.Body.{PrefixAt};
 ghost use Rattle.moves.specs.Moved.{Only, Moved};
-ghost use Rattle.prefix_body.specs.Prefix.{PrefixWritten, Spare, Gets, Joins, Longer, Shortened, Drawn, Draws, Full};
+ghost use Rattle.prefix_body.specs.Prefix.{PrefixWritten, Spare, Gets, Joins, Longer, Shortened, Drawn, Draws, Full, Elsewhere};
 
 // ---- written whole
 
@@ -111,14 +109,39 @@ pub fn drop_front(f: &mut [u8], o: usize, q: usize)
     Prefix::set_length(f, o, left);
 }
 
-// The byte that q others stand before; it goes, and so do they.
-pub fn cut_at(f: &mut [u8], o: usize, q: usize) -> u8
-    requires { ⌜ Longer (now f) o (q + 1) ⌝ }
-    ensures { λ r. ⌜ (r ≡ byteAt (now (f .entry)) (o + prefixBytes + q)) × Shortened (now (f .entry)) (now (f .exit)) o (q + 1) ⌝ }
+// The first byte goes.
+pub fn drop_first(f: &mut [u8], o: usize)
+    requires { ⌜ Longer (now f) o 1 ⌝ }
+    ensures { λ _. ⌜ Shortened (now (f .entry)) (now (f .exit)) o 1 ⌝ }
 {
-    let c = Prefix::byte(f, o, q);
-    drop_front(f, o, q + 1);
-    c
+    let n = Prefix::length(f, o);
+    let at = o + Prefix::BYTES;
+    moves::close_byte(f, at, at + n);
+    Prefix::set_length(f, o, n - 1);
+}
+
+// A Prefix at o of the bytes from q on of another, above the same child.
+pub fn tail(f: &mut [u8], o: usize, from: usize, q: usize)
+    requires { ⌜ Longer (now f) from q × (o + 128 ≤ length (now f)) × Elsewhere o from ⌝ }
+    ensures { λ _. ⌜ Only (now (f .entry)) (now (f .exit)) o (o + 128) × ((p : List ℕ) (c : ℕ) → PrefixAt (now (f .entry)) from p c → PrefixAt (now (f .exit)) o (drop q p) c) ⌝ }
+{
+    let left = Prefix::length(f, from) - q;
+    let child = Prefix::child(f, from);
+    moves::clear(f, o, Prefix::SIZE);
+    Prefix::set_child(f, o, child);
+    Prefix::set_length(f, o, left);
+    copy(f, from + Prefix::BYTES + q, o + Prefix::BYTES, left);
+}
+
+// The first q bytes stay, above another child.
+pub fn keep(f: &mut [u8], o: usize, q: usize, child: usize)
+    requires { ⌜ Longer (now f) o q × (1 ≤ q) × (child < 4294967296) ⌝ }
+    ensures { λ _. ⌜ Only (now (f .entry)) (now (f .exit)) o (o + 128) × ((p : List ℕ) (c : ℕ) → PrefixAt (now (f .entry)) o p c → PrefixAt (now (f .exit)) o (take q p) child) ⌝ }
+{
+    let n = Prefix::length(f, o);
+    moves::clear(f, o + Prefix::BYTES + q, n - q);
+    Prefix::set_length(f, o, q);
+    Prefix::set_child(f, o, child);
 }
 
 // The Prefix at o is filled up: the first bytes of the Prefix at `low` go over to its end.

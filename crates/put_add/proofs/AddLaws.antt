@@ -8,14 +8,14 @@ use lib.ListN.{length, getD}
 use borrow.Author.Tests.{lt-ltb}
 use Rattle.layout.specs.Number.{Bytes}
 use Rattle.layout.specs.Kind.{Leaf, most}
-use Rattle.model.specs.Edition.{edition1}
+use Rattle.model.specs.Edition.{Edition}
 use Rattle.model.specs.Tree.{Art, extentOf, newKey, join, placeIn}
 use Rattle.model.specs.State.{State, room, putChange}
 use Rattle.model.specs.Item.{body, cover, leafy}
 use Rattle.model.specs.Frame.{Lay, LayKids, slotOf, artKids, pairs, NodeOf, View, Stands}
 use Rattle.model.specs.Frame.Lay.{node}
+use Rattle.model.specs.Mark.{is}
 use Rattle.model.specs.Touch.{Touch, touch, putTouch, size}
-use Rattle.model.specs.Freedom.{is}
 use Rattle.model.proofs.ItemLaws.{sum-cons}
 use Rattle.model.proofs.MarkLaws.{node-marks, stay-more}
 use Rattle.inner.specs.Inner.{placeAt, NodeOpen, Added}
@@ -37,6 +37,7 @@ use Rattle.between.proofs.BookedLaws.{booked-row, booked-extend, booked-count, 
 use Rattle.between.proofs.SinceLaws.{since-start, since-leaf, since-also, since-write, since-count}
 use Rattle.between.proofs.OutsideLaws.{among-here}
 use Rattle.between.proofs.StayLaws.{join-marks, stay-plug}
+use Rattle.keys.proofs.WordLaws.{spells-at}
 use Rattle.descent.specs.declared.spot.Spot.{Spot}
 use Rattle.leaf_new.specs.Make.{NewLeaf, Makes, Counts, Counted}
 use Rattle.leaf_new.specs.Put.{Stepped, PutStep}
@@ -50,13 +51,13 @@ pub one-row : (h : View) → length (h .lists) ≡ 8 → Booked h (taken h Leaf)
 unfolding takenAll
 one-row h e = booked-row h (Leaf ∷ []) (cons leaf-kind nil) e
 
-module _ {f : List ℕ} {st : State} {S : Stands edition1 f st} {k : List ℕ} {xs : List Step} {n o kind : ℕ} {ks : LayKids} {b : ℕ} {r : List ℕ} (P : Lacks S k xs n o kind ks b r) (v : List ℕ)
-    (few : length (pairs ks) < most kind) (fits : room st (putChange edition1 st k v) ≡ true) where
+module _ {E : Edition} {f : List ℕ} {st : State} {S : Stands E f st} {k : List ℕ} {xs : List Step} {n o kind : ℕ} {ks : LayKids} {b : ℕ} {r : List ℕ} (P : Lacks S k xs n o kind ks b r) (v : List ℕ)
+    (few : length (pairs ks) < most kind) (fits : room st (putChange E st k v) ≡ true) where
   abbrev newArt : Art
   newArt = artIn xs (Art.node kind (join b (placeIn kind (artKids ks)) (Art.leaf k v) (artKids ks)))
 
-  change-is : putChange edition1 st k v ≡ newKey k v newArt [] []
-  change-is = lacks-put P v (node-put edition1 k v (length (pathOf xs)) b kind ks (leads-byte (P .leads)) (lacks-byte P) few)
+  change-is : putChange E st k v ≡ newKey k v newArt [] []
+  change-is = lacks-put P v (node-put E k v (length (pathOf xs)) b kind ks (leads-byte (P .leads)) (lacks-byte P) few)
 
   pub add-room : RoomFor (standsView S) (Leaf ∷ []) (extentOf k v)
   add-room = room-of S (newKey k v newArt [] []) (rw change-is at fits)
@@ -65,8 +66,8 @@ module _ {f : List ℕ} {st : State} {S : Stands edition1 f st} {k : List ℕ} {
     abbrev t1 : Lay
     t1 = leafIn (standsView S) l k v
 
-    M : MadeLeaf edition1 f f1 (standsView S) xs n ((pathOf xs, node n o kind ks) ∷ []) [] (pathOf xs ++ b ∷ []) l k v
-    M = make (standsView S) xs n ((pathOf xs, node n o kind ks) ∷ []) [] (pathOf xs ++ b ∷ []) (lacks-work P) add-room (P .legal .passes) (leads-on (b ∷ []) r (P .leads))
+    M : MadeLeaf E f f1 (standsView S) xs n ((pathOf xs, node n o kind ks) ∷ []) [] (pathOf xs ++ b ∷ []) l k v
+    M = make E (standsView S) xs n ((pathOf xs, node n o kind ks) ∷ []) [] (pathOf xs ++ b ∷ []) (lacks-work P) add-room (P .legal .passes) (leads-on (b ∷ []) r (P .leads))
 
     node-is : NodeOf f1 o kind ks
     node-is = open-node (pathOf xs) ((pathOf xs ++ b ∷ [], t1) ∷ []) [] n o kind ks (work-swap (pathOf xs ++ b ∷ []) t1 (pathOf xs) (node n o kind ks) [] (M .work)) .1
@@ -85,7 +86,7 @@ module _ {f : List ℕ} {st : State} {S : Stands edition1 f st} {k : List ℕ} {
       abbrev T1 : Lay
       T1 = plug xs (node n o kind ks1)
 
-      W2 : Work edition1 f2 (leafView (standsView S) k v) [] (slotOf T1) (([], T1) ∷ []) []
+      W2 : Work E f2 (leafView (standsView S) k v) [] (slotOf T1) (([], T1) ∷ []) []
       W2 = work-close xs (node n o kind ks1) [] (join-made (pathOf xs) [] n o kind b t1 ks (M .work) A (P .absent) few) refl (is-node xs n o kind ks1)
 
       booked : Booked (standsView S) (leafView (standsView S) k v) (Leaf ∷ []) [] (extentOf k v) 0 (S .nums .R)
@@ -98,12 +99,12 @@ module _ {f : List ℕ} {st : State} {S : Stands edition1 f st} {k : List ℕ} {
         C : Renumbered f2 f3 (leafView (standsView S) k v) (recorded (leafView (standsView S) k v) (leafView (standsView S) k v .nums .R + 1))
         C = count (leafView (standsView S) k v) (W2 .heap)
 
-        node-touch : putTouch edition1 (S .root) k v ≡ touch (n ∷ []) []
+        node-touch : putTouch E (S .root) k v ≡ touch (n ∷ []) []
         node-touch =
-            ap (λ x. putTouch edition1 x k v) (P .is) ∙ plug-touch (P .leads) v (node n o kind ks)
+            ap (λ x. putTouch E x k v) (P .is) ∙ plug-touch (P .leads) v (node n o kind ks)
             ∙ rw (rw (← leads-byte (P .leads)) at (lacks-byte P), lt-ltb (size ks) (most kind) (rw (size-is ks) few)) refl
 
-        pub add-put : Stepped f k v f3 st S
+        pub add-put : Stepped E f k v f3 st S
         add-put =
             let h0 = standsView S in
             let d = length (pathOf xs) in
@@ -136,12 +137,13 @@ module _ {f : List ℕ} {st : State} {S : Stands edition1 f st} {k : List ℕ} {
             }))
             (stay-plug xs (node n o kind ks) (node n o kind ks1) (stay-more (λ m z. omega (arith, node-marks (is m) (pathOf xs) n o kind ks, node-marks (is m) (pathOf xs) n o kind ks1, join-marks (is m) (pathOf xs) b i t1 ks)))
             (ap (λ (z : Touch). z .goes) node-touch) (P .is))
+            refl
             (omega (arith, one-row h0 (S .heap .lists .eight) .B))
-            (plug-look (P .leads) (node n o kind ks1) ∙ join-look edition1 k d b i t1 ks (leads-byte (P .leads)) (lacks-byte P) ∙ leaf-look edition1 l q e k v (d + 1))
+            (plug-look (P .leads) (node n o kind ks1) ∙ join-look E k d b i t1 ks (leads-byte (P .leads)) (lacks-byte P) ∙ leaf-look E l q e k v (d + 1))
 
 -- ---- at a spot
 
-module _ {f k v : List ℕ} {p : Spot} (A : Open f k v p) where
+module _ {E : Edition} {f k w v : List ℕ} {p : Spot} (A : Open E f k w v p) where
   P0 : Lacks (A .put .ready .stands) k (A .put .way .steps) (p .here .slot) (p .here .place) (p .here .kind) (A .missing .kids) (A .missing .byte) (A .missing .after)
   P0 = lacks-of (A .put) (A .missing) (A .put .ready .stands)
 
@@ -152,13 +154,13 @@ module _ {f k v : List ℕ} {p : Spot} (A : Open f k v p) where
     pub open-adds : NodeOpen f1 (p .here .place) (p .here .kind) × (1 ≤ l) × (l < 4294967296)
     open-adds = add-open P0 v (A .few) (A .put .ready .room) make
 
-    module _ {f2 : List ℕ} {b : ℕ} (eb : b ≡ getD (edition1 .walked k) (p .depth) 0) (D : Added f1 f2 (p .here .place) (p .here .kind) b l) where
+    module _ {f2 : List ℕ} {b : ℕ} (eb : b ≡ getD w (p .depth) 0) (D : Added f1 f2 (p .here .place) (p .here .kind) b l) where
       added : Added f1 f2 (p .here .place) (p .here .kind) (A .missing .byte) l
-      added = rw (eb ∙ byte-is (A .put) (A .missing)) at D
+      added = rw (eb ∙ spells-at (A .spells) (p .depth) ∙ byte-is (A .put) (A .missing)) at D
 
       pub open-counts : Counts f2
       open-counts = add-counts P0 v (A .few) (A .put .ready .room) make added
 
-      pub open-put : {f3 : List ℕ} → Counted f2 f3 → Bytes f3 → PutStep f k v f3
+      pub open-put : {f3 : List ℕ} → Counted f2 f3 → Bytes f3 → PutStep E f k v f3
       open-put count bytes =
-          record { after = λ s w. add-put (lacks-of (A .put) (A .missing) w) v (A .few) (same-room (A .put .ready .stands) w k v (A .put .ready .room)) make added count bytes }
+          record { after = λ s S. add-put (lacks-of (A .put) (A .missing) S) v (A .few) (same-room (A .put .ready .stands) S k v (A .put .ready .room)) make added count bytes }

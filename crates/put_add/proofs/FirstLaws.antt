@@ -8,14 +8,13 @@ use Rattle.layout.specs.Number.{le, Bytes}
 use Rattle.layout.specs.Place.{atRoot}
 use Rattle.layout.specs.Kind.{Leaf, EmptyRoot, Kind}
 use Rattle.layout.specs.Entry.{placeOf}
-use Rattle.model.specs.Edition.{edition1, Legal}
+use Rattle.model.specs.Edition.{Edition, Legal}
 use Rattle.model.specs.Tree.{Art, extentOf, newKey}
 use Rattle.model.specs.State.{State, room, putChange, putIn}
 use Rattle.model.specs.Item.{Item, body, leafy, sum, Same}
 use Rattle.model.specs.Frame.{Lay, bare, tree, rootArt, rootItems, rootSlot, View, Heap, Stands}
 use Rattle.model.specs.Touch.{putTouch}
-use Rattle.model.specs.Mark.{rootMarks}
-use Rattle.model.specs.Freedom.{is}
+use Rattle.model.specs.Mark.{rootMarks, is}
 use Rattle.model.proofs.ItemLaws.{sum-cons, in-over}
 use Rattle.model.proofs.MarkLaws.{bare-marks, is-gone, stay-of, stay-more}
 use Rattle.room.specs.View.{listOf, placeFrom, taken, released, rooted}
@@ -54,9 +53,9 @@ root-link : Link [] atRoot
 unfolding Link
 root-link = refl
 
-module _ {f : List ℕ} {st : State} (S : Stands edition1 f st) {k : List ℕ} {n o : ℕ} (er : S .root ≡ bare n o) (legal : Legal edition1 k) (v : List ℕ) (fits : room st (putChange edition1 st k v) ≡ true) where
-  change-is : putChange edition1 st k v ≡ newKey k v (Art.leaf k v) [] (EmptyRoot ∷ [])
-  change-is = ap (λ t. putIn edition1 t k v) (ap (λ s. s .tree) (S .state) ∙ ap rootArt er)
+module _ {E : Edition} {f : List ℕ} {st : State} (S : Stands E f st) {k : List ℕ} {n o : ℕ} (er : S .root ≡ bare n o) (legal : Legal E k) (v : List ℕ) (fits : room st (putChange E st k v) ≡ true) where
+  change-is : putChange E st k v ≡ newKey k v (Art.leaf k v) [] (EmptyRoot ∷ [])
+  change-is = ap (λ t. putIn E t k v) (ap (λ s. s .tree) (S .state) ∙ ap rootArt er)
 
   pub first-room : RoomFor (standsView S) (Leaf ∷ []) (extentOf k v)
   first-room = room-of S (newKey k v (Art.leaf k v) [] (EmptyRoot ∷ [])) (rw change-is at fits)
@@ -68,8 +67,8 @@ module _ {f : List ℕ} {st : State} (S : Stands edition1 f st) {k : List ℕ} {
     abbrev h1 : View
     h1 = leafView (standsView S) k v
 
-    M : MadeLeaf edition1 f f1 (standsView S) [] n [] (body n EmptyRoot o ∷ []) [] l k v
-    M = make (standsView S) [] n [] (body n EmptyRoot o ∷ []) [] (work-bare S n o er) first-room (legal .passes) refl
+    M : MadeLeaf E f f1 (standsView S) [] n [] (body n EmptyRoot o ∷ []) [] l k v
+    M = make E (standsView S) [] n [] (body n EmptyRoot o ∷ []) [] (work-bare S n o er) first-room (legal .passes) refl
 
     leaf-lies : Lies h1 l Leaf (placeFrom (standsView S) (listOf (standsView S) Leaf))
     leaf-lies =
@@ -80,7 +79,7 @@ module _ {f : List ℕ} {st : State} (S : Stands edition1 f st) {k : List ℕ} {
       abbrev h2 : View
       h2 = rooted h1 (rootOf [] l)
 
-      W2 : Work edition1 f2 h2 [] l (([], t1) ∷ []) (body n EmptyRoot o ∷ [])
+      W2 : Work E f2 h2 [] l (([], t1) ∷ []) (body n EmptyRoot o ∷ [])
       W2 = let c = M .work .heap .header .slotCap in relinked l (leaf-lies .low) (omega (arith, leaf-lies .table)) atRoot [] root-link (M .work) link
 
       abbrev rest : List Item
@@ -96,7 +95,7 @@ module _ {f : List ℕ} {st : State} (S : Stands edition1 f st) {k : List ℕ} {
         abbrev h3 : View
         h3 = released h2 n EmptyRoot o rest
 
-        W3 : Work edition1 f3 h3 [] l (([], t1) ∷ []) []
+        W3 : Work E f3 h3 [] l (([], t1) ∷ []) []
         W3 = work-free W2 R
 
         booked : Booked (standsView S) h3 (Leaf ∷ []) (EmptyRoot ∷ []) (extentOf k v) 0 (S .nums .R)
@@ -105,7 +104,7 @@ module _ {f : List ℕ} {st : State} (S : Stands edition1 f st) {k : List ℕ} {
         pub first-counts : Counts f3
         first-counts = counts-of S (W3 .heap) (booked .R)
 
-        pub first-put : {f4 : List ℕ} → Counted f3 f4 → Bytes f4 → Stepped f k v f4 st S
+        pub first-put : {f4 : List ℕ} → Counted f3 f4 → Bytes f4 → Stepped E f k v f4 st S
         first-put count bytes =
             let h0 = standsView S in
             let q = placeFrom h0 (listOf h0 Leaf) in
@@ -120,7 +119,7 @@ module _ {f : List ℕ} {st : State} (S : Stands edition1 f st) {k : List ℕ} {
             refl
             (omega (arith, old leafy, leafy-leaf l q e k v, leafy-kind n EmptyRoot o (omega arith)))
             (since-count Z2 N)
-            (rw (ap (λ x. putTouch edition1 x k v) er) (record {
+            (rw (ap (λ x. putTouch E x k v) er) (record {
               takes = tt;
               frees = λ s. refl;
               kindsIn = (refl, tt);
@@ -128,14 +127,15 @@ module _ {f : List ℕ} {st : State} (S : Stands edition1 f st) {k : List ℕ} {
               freesIn = λ w. omega (arith, sum-cons w (body n EmptyRoot o) [], sum-none w, old w);
               rewritesIn = λ w. omega (arith, sum-none w);
             }))
-            (stay-at (rootMarks (tree t1)) (ap (λ x. putTouch edition1 x k v .goes) er) er (stay-of (n ∷ []) (rootMarks (bare n o)) (rootMarks (tree t1)) (stay-more (λ x z. omega (arith, bare-marks (is x) n o, is-gone x (n ∷ []) n EmptyRoot [] [] z (among-here n []))))))
+            (stay-at (rootMarks (tree t1)) (ap (λ x. putTouch E x k v .goes) er) er (stay-of (n ∷ []) (rootMarks (bare n o)) (rootMarks (tree t1)) (stay-more (λ x z. omega (arith, bare-marks (is x) n o, is-gone x (n ∷ []) n EmptyRoot [] [] z (among-here n []))))))
+            refl
             (omega (arith, one-row h0 (S .heap .lists .eight) .B))
-            (leaf-look edition1 l q e k v 0)
+            (leaf-look E l q e k v 0)
 
 -- ---- of an empty frame
 
-module _ {f k v : List ℕ} (A : Vacant f k v) where
-  fits0 : room (A .ready .st) (putChange edition1 (A .ready .st) k v) ≡ true
+module _ {E : Edition} {f k v : List ℕ} (A : Vacant E f k v) where
+  fits0 : room (A .ready .st) (putChange E (A .ready .st) k v) ≡ true
   fits0 = A .ready .room
 
   pub vacant-makes : Makes f k v
@@ -156,6 +156,6 @@ module _ {f k v : List ℕ} (A : Vacant f k v) where
         pub vacant-counts : Counts f3
         vacant-counts = first-counts (A .ready .stands) (A .is) (A .ready .legal) v fits0 make link freed
 
-        pub vacant-put : {f4 : List ℕ} → Counted f3 f4 → Bytes f4 → PutStep f k v f4
+        pub vacant-put : {f4 : List ℕ} → Counted f3 f4 → Bytes f4 → PutStep E f k v f4
         vacant-put count bytes =
             record { after = λ s w. first-put w (same-root (A .ready .stands) w (A .is)) (A .ready .legal) v (same-room (A .ready .stands) w k v (A .ready .room)) make link freed count bytes }

@@ -9,19 +9,18 @@ use native.Mathlib.Omega.{arith}
 use lib.ListN.{length, getD}
 use borrow.Author.Tests.{le-ltb}
 use Rattle.layout.specs.Number.{Bytes}
-use Rattle.layout.specs.Kind.{Leaf, Kind, bodySize, most, kindUp}
+use Rattle.layout.specs.Kind.{Leaf, Kind, bodySize, most, kindUp, Prefix}
 use Rattle.layout.specs.Entry.{placeOf}
 use Rattle.layout.proofs.KindLaws.{size-least}
-use Rattle.model.specs.Edition.{edition1}
+use Rattle.model.specs.Edition.{Edition}
 use Rattle.model.specs.Tree.{Art, extentOf, newKey, join, placeIn, carried}
 use Rattle.model.specs.State.{State, room, putChange}
 use Rattle.model.specs.Item.{Item, body, extent, onSlot, cover, leafy, sum, Same}
 use Rattle.model.specs.Body.{lookKid}
 use Rattle.model.specs.Frame.{Lay, LayKids, slotOf, artKids, itemsAll, pairs, rootItems, NodeOf, View, Heap, freed, Stands}
 use Rattle.model.specs.Frame.Lay.{node}
+use Rattle.model.specs.Mark.{is}
 use Rattle.model.specs.Touch.{Touch, touch, putTouch, holder, size}
-use Rattle.model.specs.Freedom.{is}
-use Rattle.model.proofs.Edition1.{lawful1}
 use Rattle.model.proofs.ItemLaws.{sum-app, sum-cons}
 use Rattle.model.proofs.MarkLaws.{node-marks, is-gone, stay-more}
 use Rattle.inner.specs.Inner.{placeAt, Emptied, Carried, Added}
@@ -45,8 +44,9 @@ use Rattle.between.proofs.LinkLaws.{relinked, link-room}
 use Rattle.between.proofs.LeadLaws.{leads-byte, leads-on, plug-touch, plug-look, join-look, leaf-look, node-grow}
 use Rattle.between.proofs.BookedLaws.{booked-row, booked-as, booked-extend, booked-root, booked-free, booked-count, room-of, room-same}
 use Rattle.between.proofs.SinceLaws.{since-start, since-take, since-leaf, since-write, since-link, since-free, since-count}
-use Rattle.between.proofs.OutsideLaws.{among-here, among-there}
+use Rattle.between.proofs.OutsideLaws.{among-here, among-there, among-not}
 use Rattle.between.proofs.StayLaws.{join-marks, carried-marks, stay-plug}
+use Rattle.keys.proofs.WordLaws.{spells-at}
 use Rattle.descent.specs.declared.spot.Spot.{Spot}
 use Rattle.room.specs.Link.{Relinked}
 use Rattle.leaf_new.specs.Make.{NewLeaf, Makes, Counts, Counted}
@@ -62,13 +62,13 @@ two-row : (h : View) (k : ℕ) → Kind k → length (h .lists) ≡ 8 → Booked
 unfolding takenAll
 two-row h k K e = booked-as (booked-row h (k ∷ Leaf ∷ []) (cons K (cons leaf-kind nil)) e) (Leaf ∷ k ∷ []) [] (tally-turn k Leaf) (λ j. refl)
 
-module _ {f : List ℕ} {st : State} {S : Stands edition1 f st} {k : List ℕ} {xs : List Step} {n o kind : ℕ} {ks : LayKids} {b : ℕ} {r : List ℕ} (P : Lacks S k xs n o kind ks b r) (v : List ℕ)
-    (full : most kind ≤ length (pairs ks)) (fits : room st (putChange edition1 st k v) ≡ true) where
+module _ {E : Edition} {f : List ℕ} {st : State} {S : Stands E f st} {k : List ℕ} {xs : List Step} {n o kind : ℕ} {ks : LayKids} {b : ℕ} {r : List ℕ} (P : Lacks S k xs n o kind ks b r) (v : List ℕ)
+    (full : most kind ≤ length (pairs ks)) (fits : room st (putChange E st k v) ≡ true) where
   old-node : NodeOf f o kind ks
   old-node = open-node (pathOf xs) [] [] n o kind ks (lacks-work P) .1
 
   byte-in : b < 256
-  byte-in = all-byte (pathOf xs) b r (rw (P .leads .word) at (lawful1 .bytes k (P .legal)))
+  byte-in = all-byte (pathOf xs) b r (rw (P .leads .word) at (P .lawful .bytes k (P .legal)))
 
   pub grow-kind : (4 ≤ kind) × (kind ≤ 6)
   grow-kind =
@@ -79,8 +79,8 @@ module _ {f : List ℕ} {st : State} {S : Stands edition1 f st} {k : List ℕ} {
     abbrev newArt : Art
     newArt = artIn xs (Art.node up (join b (placeIn up (carried up (artKids ks))) (Art.leaf k v) (carried up (artKids ks))))
 
-    change-is : putChange edition1 st k v ≡ newKey k v newArt (up ∷ []) (kind ∷ [])
-    change-is = rw eu (lacks-put P v (node-grow edition1 k v (length (pathOf xs)) b kind ks (leads-byte (P .leads)) (lacks-byte P) full))
+    change-is : putChange E st k v ≡ newKey k v newArt (up ∷ []) (kind ∷ [])
+    change-is = rw eu (lacks-put P v (node-grow E k v (length (pathOf xs)) b kind ks (leads-byte (P .leads)) (lacks-byte P) full))
 
     G : Grows kind up
     G = rw eu (grows kind (grow-kind .0) (grow-kind .1))
@@ -113,7 +113,7 @@ module _ {f : List ℕ} {st : State} {S : Stands edition1 f st} {k : List ℕ} {
       abbrev q : ℕ
       q = placeFrom (standsView S) (listOf (standsView S) up)
 
-      W1 : Work edition1 f1 h1 xs n ((pathOf xs, node n o kind ks) ∷ []) (body m up q ∷ [])
+      W1 : Work E f1 h1 xs n ((pathOf xs, node n o kind ks) ∷ []) (body m up q ∷ [])
       W1 = work-take (lacks-work P) T
 
       pub grow-room : RoomFor h1 (Leaf ∷ []) (extentOf k v)
@@ -129,12 +129,12 @@ module _ {f : List ℕ} {st : State} {S : Stands edition1 f st} {k : List ℕ} {
         abbrev h2 : View
         h2 = leafView h1 k v
 
-        M : MadeLeaf edition1 f1 f2 h1 xs n ((pathOf xs, node n o kind ks) ∷ []) (body m up q ∷ []) (pathOf xs ++ b ∷ []) l k v
-        M = make h1 xs n ((pathOf xs, node n o kind ks) ∷ []) (body m up q ∷ []) (pathOf xs ++ b ∷ []) W1 grow-room (P .legal .passes) (leads-on (b ∷ []) r (P .leads))
+        M : MadeLeaf E f1 f2 h1 xs n ((pathOf xs, node n o kind ks) ∷ []) (body m up q ∷ []) (pathOf xs ++ b ∷ []) l k v
+        M = make E h1 xs n ((pathOf xs, node n o kind ks) ∷ []) (body m up q ∷ []) (pathOf xs ++ b ∷ []) W1 grow-room (P .legal .passes) (leads-on (b ∷ []) r (P .leads))
 
         -- the node is opened, in whichever frame the work stands
-        opened : {g : List ℕ} → Work edition1 g h2 xs n ((pathOf xs ++ b ∷ [], t1) ∷ (pathOf xs, node n o kind ks) ∷ []) (body m up q ∷ [])
-            → Work edition1 g h2 xs n (kidTrees (pathOf xs) ks ((pathOf xs ++ b ∷ [], t1) ∷ [])) (body n kind o ∷ body m up q ∷ []) × NodeOf g o kind ks
+        opened : {g : List ℕ} → Work E g h2 xs n ((pathOf xs ++ b ∷ [], t1) ∷ (pathOf xs, node n o kind ks) ∷ []) (body m up q ∷ [])
+            → Work E g h2 xs n (kidTrees (pathOf xs) ks ((pathOf xs ++ b ∷ [], t1) ∷ [])) (body n kind o ∷ body m up q ∷ []) × NodeOf g o kind ks
         opened W = open-node (pathOf xs) ((pathOf xs ++ b ∷ [], t1) ∷ []) (body m up q ∷ []) n o kind ks (work-swap (pathOf xs ++ b ∷ []) t1 (pathOf xs) (node n o kind ks) [] W)
 
         place-is : placeOf f2 m ≡ q
@@ -179,8 +179,8 @@ module _ {f : List ℕ} {st : State} {S : Stands edition1 f st} {k : List ℕ} {
           abbrev T1 : Lay
           T1 = plug xs (node m q up ks1)
 
-          E : Emptied f2 (F .zeroed) q up
-          E = rw place-is at (F .emptied)
+          Y : Emptied f2 (F .zeroed) q up
+          Y = rw place-is at (F .emptied)
 
           C : Carried (F .zeroed) (F .carried) o kind q up
           C = rw place-is at (F .moved)
@@ -188,10 +188,10 @@ module _ {f : List ℕ} {st : State} {S : Stands edition1 f st} {k : List ℕ} {
           A : Added (F .carried) f3 q up b l
           A = rw place-is at (F .added)
 
-          W3 : Work edition1 (F .zeroed) h2 xs n ((pathOf xs ++ b ∷ [], t1) ∷ (pathOf xs, node n o kind ks) ∷ []) (body m up q ∷ [])
-          W3 = work-write (M .work) (K .0) (K .1) (E .only) (omega arith) (omega arith)
+          W3 : Work E (F .zeroed) h2 xs n ((pathOf xs ++ b ∷ [], t1) ∷ (pathOf xs, node n o kind ks) ∷ []) (body m up q ∷ [])
+          W3 = work-write (M .work) (K .0) (K .1) (Y .only) (omega arith) (omega arith)
 
-          W4 : Work edition1 (F .carried) h2 xs n ((pathOf xs ++ b ∷ [], t1) ∷ (pathOf xs, node n o kind ks) ∷ []) (body m up q ∷ [])
+          W4 : Work E (F .carried) h2 xs n ((pathOf xs ++ b ∷ [], t1) ∷ (pathOf xs, node n o kind ks) ∷ []) (body m up q ∷ [])
           W4 = work-write W3 (K .0) (K .1) (C .only) (omega arith) (omega arith)
 
           len-is : length (pairs ks0) ≡ most kind
@@ -201,20 +201,20 @@ module _ {f : List ℕ} {st : State} {S : Stands edition1 f st} {k : List ℕ} {
           node-new : NodeOf (F .carried) q up ks0
           node-new = carried-node ks C (opened W3 .1 .inner) (omega (arith, count-is, G .least)) (omega (arith, count-is, G .more))
 
-          W5 : Work edition1 (F .carried) h2 xs n ((pathOf xs ++ b ∷ [], t1) ∷ (pathOf xs, node m q up ks0) ∷ []) (body n kind o ∷ [])
+          W5 : Work E (F .carried) h2 xs n ((pathOf xs ++ b ∷ [], t1) ∷ (pathOf xs, node m q up ks0) ∷ []) (body n kind o ∷ [])
           W5 =
               let us : List (List ℕ × Lay) = (pathOf xs ++ b ∷ [], t1) ∷ [] in
               let O = work-turn (opened W4 .0) refl in
-              let X = forest-kids edition1 (F .carried) (pathOf xs) ks us (O .trees) in
-              let Y = work-kids (pathOf xs) us (body m up q ∷ body n kind o ∷ []) ks0 O (carried-trees edition1 (F .carried) (pathOf xs) up ks (X .0)) (X .1)
+              let X = forest-kids E (F .carried) (pathOf xs) ks us (O .trees) in
+              let X1 = work-kids (pathOf xs) us (body m up q ∷ body n kind o ∷ []) ks0 O (carried-trees E (F .carried) (pathOf xs) up ks (X .0)) (X .1)
               (λ w. omega (arith, kids-sum w (pathOf xs) ks us, carried-sum w up ks)) in
-              work-swap (pathOf xs) (node m q up ks0) (pathOf xs ++ b ∷ []) t1 [] (make-node (pathOf xs) us (body n kind o ∷ []) m q up ks0 Y node-new)
+              work-swap (pathOf xs) (node m q up ks0) (pathOf xs ++ b ∷ []) t1 [] (make-node (pathOf xs) us (body n kind o ∷ []) m q up ks0 X1 node-new)
 
           absent0 : lookKid b (pairs ks0) ≡ none
           absent0 = rw (carried-pairs up ks) (P .absent)
 
           -- and with the Leaf
-          W6 : Work edition1 f3 h2 xs n ((pathOf xs, node m q up ks1) ∷ []) (body n kind o ∷ [])
+          W6 : Work E f3 h2 xs n ((pathOf xs, node m q up ks1) ∷ []) (body n kind o ∷ [])
           W6 = join-made (pathOf xs) [] m q up b t1 ks0 W5 A absent0 (omega (arith, len-is, G .more))
 
           module _ (at : ℕ) (lk : Link xs at) where
@@ -222,7 +222,7 @@ module _ {f : List ℕ} {st : State} {S : Stands edition1 f st} {k : List ℕ} {
             grow-link =
                 let z = W6 .heap .header .size in
                 let y = W6 .heap .header .limits in
-                (omega arith, link-room edition1 f3 xs at n lk (W6 .around) (omega arith))
+                (omega arith, link-room E f3 xs at n lk (W6 .around) (omega arith))
 
             module _ {f4 : List ℕ} (link : Relinked f3 f4 at m) where
               abbrev h4 : View
@@ -231,7 +231,7 @@ module _ {f : List ℕ} {st : State} {S : Stands edition1 f st} {k : List ℕ} {
               small : m < 65536
               small = let c = M .work .heap .header .slotCap in omega (arith, lies-new .table)
 
-              W7 : Work edition1 f4 h4 [] (slotOf T1) (([], T1) ∷ []) (body n kind o ∷ [])
+              W7 : Work E f4 h4 [] (slotOf T1) (([], T1) ∷ []) (body n kind o ∷ [])
               W7 = work-close xs (node m q up ks1) [] (relinked m (lies-new .low) small at xs lk W6 link) refl (is-node xs m q up ks1)
 
               abbrev rest : List Item
@@ -247,7 +247,7 @@ module _ {f : List ℕ} {st : State} {S : Stands edition1 f st} {k : List ℕ} {
                 abbrev h5 : View
                 h5 = released h4 n kind o rest
 
-                W8 : Work edition1 f5 h5 [] (slotOf T1) (([], T1) ∷ []) []
+                W8 : Work E f5 h5 [] (slotOf T1) (([], T1) ∷ []) []
                 W8 = work-free W7 R
 
                 booked : Booked (standsView S) h5 (Leaf ∷ up ∷ []) (kind ∷ []) (extentOf k v) 0 (S .nums .R)
@@ -261,12 +261,12 @@ module _ {f : List ℕ} {st : State} {S : Stands edition1 f st} {k : List ℕ} {
                   N : Renumbered f5 f6 h5 (recorded h5 (h5 .nums .R + 1))
                   N = count h5 (W8 .heap)
 
-                  node-touch : putTouch edition1 (S .root) k v ≡ touch (holder (holderOf xs)) (n ∷ [])
+                  node-touch : putTouch E (S .root) k v ≡ touch (holder (holderOf xs)) (n ∷ [])
                   node-touch =
-                      ap (λ x. putTouch edition1 x k v) (P .is) ∙ plug-touch (P .leads) v (node n o kind ks)
+                      ap (λ x. putTouch E x k v) (P .is) ∙ plug-touch (P .leads) v (node n o kind ks)
                       ∙ rw (rw (← leads-byte (P .leads)) at (lacks-byte P), le-ltb (size ks) (most kind) (rw (size-is ks) full)) refl
 
-                  pub grow-put : Stepped f k v f6 st S
+                  pub grow-put : Stepped E f k v f6 st S
                   grow-put =
                       let h0 = standsView S in
                       let d = length (pathOf xs) in
@@ -279,7 +279,7 @@ module _ {f : List ℕ} {st : State} {S : Stands edition1 f st} {k : List ℕ} {
                       let U : (a : ℕ) → q ≤ a → a < q + bodySize up → 1 ≤ sum (cover a) (bl ∷ bm ∷ []) + (sum (cover a) [] + sum (cover a) (extent e (extentOf k v) ∷ [])) = λ a x y.
                       omega (arith, sum-cons (cover a) bl (bm ∷ []), sum-cons (cover a) bm [], cover-body a m up q x y) in
                       let Z1 = since-leaf (T .heap) (since-take K (S .heap) (since-start (S .heap)) T) M in
-                      let Z2 = since-write (A .only) U (since-write (C .only) U (since-write (E .only) U Z1)) in
+                      let Z2 = since-write (A .only) U (since-write (C .only) U (since-write (Y .only) U Z1)) in
                       let Z3 = since-link m at xs lk W6 link Z2 in
                       let Z4 = since-free K0 (W7 .heap) (first-owns W7) Z3 R in
                       let old : (w : Item → ℕ) → sum w (rootItems (S .root)) ≡ sum w (stepsItems xs) + (w bn + sum w (itemsAll ks)) = λ w.
@@ -316,16 +316,17 @@ module _ {f : List ℕ} {st : State} {S : Stands edition1 f st} {k : List ℕ} {
                         carried-marks (is x) (pathOf xs) up ks,
                         is-gone x (n ∷ []) n kind (pathOf xs) (pathOf xs) z (among-here n []),
                       ))) (ap (λ (z : Touch). z .goes) node-touch) (P .is))
+                      (among-not Prefix up [] (λ z. omega (arith, G .low)))
                       (omega (arith, two-row h0 up K (S .heap .lists .eight) .B))
-                      (plug-look (P .leads) (node m q up ks1) ∙ join-look edition1 k d b i t1 ks0 (leads-byte (P .leads)) (look-none b ks0 absent0) ∙ leaf-look edition1 l p e k v (d + 1))
+                      (plug-look (P .leads) (node m q up ks1) ∙ join-look E k d b i t1 ks0 (leads-byte (P .leads)) (look-none b ks0 absent0) ∙ leaf-look E l p e k v (d + 1))
 
 -- ---- at a spot
 
-module _ {f k v : List ℕ} {p : Spot} (A : Full f k v p) where
+module _ {E : Edition} {f k w v : List ℕ} {p : Spot} (A : Full E f k w v p) where
   P0 : Lacks (A .put .ready .stands) k (A .put .way .steps) (p .here .slot) (p .here .place) (p .here .kind) (A .missing .kids) (A .missing .byte) (A .missing .after)
   P0 = lacks-of (A .put) (A .missing) (A .put .ready .stands)
 
-  fits0 : room (A .put .ready .st) (putChange edition1 (A .put .ready .st) k v) ≡ true
+  fits0 : room (A .put .ready .st) (putChange E (A .put .ready .st) k v) ≡ true
   fits0 = A .put .ready .room
 
   pub full-kind : p .here .kind < 9
@@ -343,9 +344,9 @@ module _ {f k v : List ℕ} {p : Spot} (A : Full f k v p) where
         pub full-fills : Fills f2 (p .here .place) (p .here .kind) m up l
         full-fills = grow-fills P0 v (A .full) fits0 eu took make
 
-        module _ {f3 : List ℕ} {b : ℕ} (eb : b ≡ getD (edition1 .walked k) (p .depth) 0) (F : Filled f2 f3 (p .here .place) (p .here .kind) m up b l) where
+        module _ {f3 : List ℕ} {b : ℕ} (eb : b ≡ getD w (p .depth) 0) (F : Filled f2 f3 (p .here .place) (p .here .kind) m up b l) where
           filled : Filled f2 f3 (p .here .place) (p .here .kind) m up (A .missing .byte) l
-          filled = rw (eb ∙ byte-is (A .put) (A .missing)) at F
+          filled = rw (eb ∙ spells-at (A .spells) (p .depth) ∙ byte-is (A .put) (A .missing)) at F
 
           pub full-link : (64 ≤ length f3) × (p .here .link + 4 ≤ length f3)
           full-link = grow-link P0 v (A .full) fits0 eu took make filled (p .here .link) (A .put .way .linkIs)
@@ -359,8 +360,8 @@ module _ {f k v : List ℕ} {p : Spot} (A : Full f k v p) where
               pub full-counts : Counts f5
               full-counts = grow-counts P0 v (A .full) fits0 eu took make filled (p .here .link) (A .put .way .linkIs) link free
 
-              pub full-put : {f6 : List ℕ} → Counted f5 f6 → Bytes f6 → PutStep f k v f6
+              pub full-put : {f6 : List ℕ} → Counted f5 f6 → Bytes f6 → PutStep E f k v f6
               full-put count bytes =
                   record {
-                    after = λ s w. grow-put (lacks-of (A .put) (A .missing) w) v (A .full) (same-room (A .put .ready .stands) w k v (A .put .ready .room)) eu took make filled (p .here .link) (A .put .way .linkIs) link free count bytes;
+                    after = λ s S. grow-put (lacks-of (A .put) (A .missing) S) v (A .full) (same-room (A .put .ready .stands) S k v (A .put .ready .room)) eu took make filled (p .here .link) (A .put .way .linkIs) link free count bytes;
                   }

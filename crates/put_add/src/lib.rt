@@ -1,6 +1,5 @@
 // Put of a new key at an inner node without its byte, and in an empty frame: "an inner node without that byte: nothing if not full, else
 // the next kind, and the old body is freed"; "empty frame: EmptyRoot is freed".
-use descent::key;
 use descent::spot::Spot;
 use fields::header::Header;
 use inner::carry;
@@ -9,17 +8,19 @@ use layout::entry::Entry;
 use layout::kind;
 use layout::kind::Kind;
 use room::heap;
+ghost use Rattle.model.specs.Edition.{Edition, SomeEdition};
 ghost use Rattle.leaf_new.specs.Put.{PutStep};
 ghost use Rattle.put_add.specs.Missing.{Open, Full, Vacant};
 ghost use Rattle.put_add.specs.Grown.{Fills, Filled};
 
 // The node is not full: the Leaf is its child.
-pub fn add_child(f: &mut [u8], key: &[u8], value: &[u8], spot: Spot)
-    requires { ⌜ Open (now f) (now key) (now value) spot ⌝ }
-    ensures { λ _. ⌜ PutStep (now (f .entry)) (now (key .entry)) (now (value .entry)) (now (f .exit)) ⌝ }
+pub fn add_child(f: &mut [u8], key: &[u8], word: &[u8], value: &[u8], spot: Spot)
+    requires { ⌜ SomeEdition (λ E. Open E (now f) (now key) (now word) (now value) spot) ⌝ }
+    ensures { λ _. ⌜ ((E : Edition) → Open E (now (f .entry)) (now (key .entry)) (now (word .entry)) (now (value .entry)) spot
+        → PutStep E (now (f .entry)) (now (key .entry)) (now (value .entry)) (now (f .exit))) ⌝ }
 {
     let here = spot.here;
-    let b = key::walked_at(key, spot.depth);
+    let b = keys::at(word, spot.depth);
     let leaf = leaf_new::new_leaf(f, key, value);
     change::add(f, here.place, here.kind, b, leaf);
     leaf_new::count_record(f);
@@ -37,12 +38,13 @@ fn refill(f: &mut [u8], from: usize, kind: usize, n: usize, up: usize, b: u8, le
 }
 
 // The node is full: a body of the next kind takes its place.
-pub fn grow(f: &mut [u8], key: &[u8], value: &[u8], spot: Spot)
-    requires { ⌜ Full (now f) (now key) (now value) spot ⌝ }
-    ensures { λ _. ⌜ PutStep (now (f .entry)) (now (key .entry)) (now (value .entry)) (now (f .exit)) ⌝ }
+pub fn grow(f: &mut [u8], key: &[u8], word: &[u8], value: &[u8], spot: Spot)
+    requires { ⌜ SomeEdition (λ E. Full E (now f) (now key) (now word) (now value) spot) ⌝ }
+    ensures { λ _. ⌜ ((E : Edition) → Full E (now (f .entry)) (now (key .entry)) (now (word .entry)) (now (value .entry)) spot
+        → PutStep E (now (f .entry)) (now (key .entry)) (now (value .entry)) (now (f .exit))) ⌝ }
 {
     let here = spot.here;
-    let b = key::walked_at(key, spot.depth);
+    let b = keys::at(word, spot.depth);
     let up = kind::kind_up(here.kind);
     let n = heap::take(f, up);
     let leaf = leaf_new::new_leaf(f, key, value);
@@ -54,8 +56,9 @@ pub fn grow(f: &mut [u8], key: &[u8], value: &[u8], spot: Spot)
 
 // The frame is empty: the Leaf is the root.
 pub fn first_record(f: &mut [u8], key: &[u8], value: &[u8])
-    requires { ⌜ Vacant (now f) (now key) (now value) ⌝ }
-    ensures { λ _. ⌜ PutStep (now (f .entry)) (now (key .entry)) (now (value .entry)) (now (f .exit)) ⌝ }
+    requires { ⌜ SomeEdition (λ E. Vacant E (now f) (now key) (now value)) ⌝ }
+    ensures { λ _. ⌜ ((E : Edition) → Vacant E (now (f .entry)) (now (key .entry)) (now (value .entry))
+        → PutStep E (now (f .entry)) (now (key .entry)) (now (value .entry)) (now (f .exit))) ⌝ }
 {
     let old = Header::root(f);
     let leaf = leaf_new::new_leaf(f, key, value);

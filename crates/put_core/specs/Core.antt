@@ -5,53 +5,58 @@ use mathlib.Core.List.{List, _++_}
 use mathlib.Core.Bool.{Bool, true, false}
 use lib.ListN.{length}
 use lib.Dec.{ltb}
-use Rattle.model.specs.Edition.{edition1, Legal, LegalValue}
+use Rattle.model.specs.Edition.{Edition, Lawful, Legal, LegalValue}
 use Rattle.model.specs.State.{State, Done, putChange, Write, callWrite}
 use Rattle.model.specs.State as state
 use Rattle.model.specs.Frame.{Stands}
 use Rattle.model.specs.Touch.{Outside, putTouch, findAt, extentAt, dying}
 use Rattle.model.specs.Promise.{changes}
+use Rattle.keys.specs.Word.{Spells}
 use Rattle.descent.specs.declared.spot.Spot.{Spot}
 use Rattle.descent.specs.Spot.{SpotAt}
 use Rattle.leaf_new.specs.Put.{PutReady, PutStep}
 
--- a good frame, and a legal key and value
-pub record Asked (f k v : List ℕ) : Type 0 where
-  pub st : State
-  pub stands : Stands edition1 f st
-  pub legal : Legal edition1 k
-  pub legalValue : LegalValue v
+module _ (E : Edition) where
+  -- a good frame, and a legal key and value
+  pub record Asked (f k v : List ℕ) : Type 0 where
+    pub lawful : Lawful E
+    pub st : State
+    pub stands : Stands E f st
+    pub legal : Legal E k
+    pub legalValue : LegalValue v
 
--- and the descent of the key ended at p
-pub record AtSpot (f k v : List ℕ) (p : Spot) : Type 0 where
-  pub asked : Asked f k v
-  pub spot : (s : State) (w : Stands edition1 f s) → SpotAt k (w .root) p
+  -- and the descent of the key, which reads `word`, ended at p
+  pub record AtSpot (f k word v : List ℕ) (p : Spot) : Type 0 where
+    pub asked : Asked f k v
+    pub spells : Spells E k word
+    pub spot : (s : State) (w : Stands E f s) → SpotAt E k (w .root) p
 
--- there is room for the put, and the descent of the key ended at p
-pub record PutSpot (f k v : List ℕ) (p : Spot) : Type 0 where
-  pub ready : PutReady f k v
-  pub spot : SpotAt k (ready .stands .root) p
+  -- there is room for the put, and the descent of the key ended at p
+  pub record PutSpot (f k word v : List ℕ) (p : Spot) : Type 0 where
+    pub ready : PutReady E f k v
+    pub spells : Spells E k word
+    pub spot : SpotAt E k (ready .stands .root) p
 
--- at an inner node without the byte
-pub record AtNode (f k v : List ℕ) (p : Spot) : Type 0 where
-  pub put : PutSpot f k v p
-  pub ends : p .end ≡ 4
+  -- at an inner node without the byte
+  pub record AtNode (f k word v : List ℕ) (p : Spot) : Type 0 where
+    pub put : PutSpot f k word v p
+    pub ends : p .end ≡ 4
 
--- there was room, and the record is written; or there was none, and nothing has changed
-pub record Written (f k v : List ℕ) (r : Bool) (f' : List ℕ) : Type 0 where
-  pub room : (s : State) → Stands edition1 f s → r ≡ state.room s (putChange edition1 s k v)
-  pub done : r ≡ true → PutStep f k v f'
-  pub kept : r ≡ false → f' ≡ f
+  -- there was room, and the record is written; or there was none, and nothing has changed
+  pub record Written (f k v : List ℕ) (r : Bool) (f' : List ℕ) : Type 0 where
+    pub room : (s : State) → Stands E f s → r ≡ state.room s (putChange E s k v)
+    pub done : r ≡ true → PutStep E f k v f'
+    pub kept : r ≡ false → f' ≡ f
 
--- f' stands for the state of d, and after a number that may change the frame every byte is as before but those that the put touches
-abbrev pub Left : (f k v : List ℕ) (n : ℕ) (f' : List ℕ) (s : State) → Stands edition1 f s → Done → Type 0
-Left f k v n f' s w d =
-    (w' : Stands edition1 f' (d .state)) × (changes n ≡ true → let c = putChange edition1 s k v in
-    Outside f f' (w .root) (w' .root) (w .lists) (w' .lists) (c .takes ++ c .frees) (putTouch edition1 (w .root) k v) (extentAt (length k) (findAt edition1 (w' .root) k)) (dying (c .dead) (extentAt (length k) (findAt edition1 (w .root) k))) (ltb 0 (c .extent)))
+  -- f' stands for the state of d, and after a number that may change the frame every byte is as before but those that the put touches
+  abbrev pub Left : (f k v : List ℕ) (n : ℕ) (f' : List ℕ) (s : State) → Stands E f s → Done → Type 0
+  Left f k v n f' s w d =
+      (w' : Stands E f' (d .state)) × (changes n ≡ true → let c = putChange E s k v in
+      Outside f f' (w .root) (w' .root) (w .lists) (w' .lists) (c .takes ++ c .frees) (putTouch E (w .root) k v) (extentAt (length k) (findAt E (w' .root) k)) (dying (c .dead) (extentAt (length k) (findAt E (w .root) k))) (ltb 0 (c .extent)))
 
--- The clauses of a write's promise for a legal key and value: the number, the state after, what is settled of the bytes, and that nothing
--- changes where the number says so.
-pub record WriteMade (a : Write) (f k v : List ℕ) (n : ℕ) (f' : List ℕ) : Type 0 where
-  pub answer : (s : State) → Stands edition1 f s → n ≡ callWrite edition1 a s k v .answer
-  pub after : (s : State) (w : Stands edition1 f s) → Left f k v n f' s w (callWrite edition1 a s k v)
-  pub kept : changes n ≡ false → f' ≡ f
+  -- The clauses of a write's promise for a legal key and value: the number, the state after, what is settled of the bytes, and that nothing
+  -- changes where the number says so.
+  pub record WriteMade (a : Write) (f k v : List ℕ) (n : ℕ) (f' : List ℕ) : Type 0 where
+    pub answer : (s : State) → Stands E f s → n ≡ callWrite E a s k v .answer
+    pub after : (s : State) (w : Stands E f s) → Left f k v n f' s w (callWrite E a s k v)
+    pub kept : changes n ≡ false → f' ≡ f

@@ -1,7 +1,11 @@
+pub mod RunLists
+pub mod GatherLaws
+pub mod UpLaws
+pub mod DropLaws
+pub mod DownLaws
+pub mod SplitLaws
 pub mod ModelLaws
 pub mod SpotLaws
-pub mod StageLaws
-pub mod NoneLaws
-pub mod BeforeLaws
-pub mod AfterLaws
-pub mod BothLaws
+pub mod CutLaws
+pub mod FirstLaws
+pub mod WithinLaws

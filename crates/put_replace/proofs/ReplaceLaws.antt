@@ -11,17 +11,16 @@ use Rattle.layout.proofs.NumberLaws.{le-lt}
 use Rattle.fields.specs.Body.{putLeafBody}
 use Rattle.layout.specs.Place.{leafExtent, leafKey, leafValue, leafZero}
 use Rattle.layout.specs.Kind.{Leaf}
-use Rattle.model.specs.Edition.{edition1}
+use Rattle.model.specs.Edition.{Edition}
 use Rattle.model.specs.Tree.{Art, Change, up8, extentOf, putTree}
 use Rattle.model.specs.State.{State, room}
 use Rattle.model.specs.Item.{Item, body, extent, cover, sum, Same}
 use Rattle.model.specs.Item as item
 use Rattle.model.specs.Frame.{Lay, slotOf, LeafOf, View, Heap, tree, Stands}
 use Rattle.model.specs.Frame.Lay.{leaf}
+use Rattle.model.specs.Mark.{is}
 use Rattle.model.specs.Touch.{Touch, touch, touchPut, findAt, extentAt}
-use Rattle.model.specs.Freedom.{is}
-use Rattle.model.proofs.StringLaws.{same-refl}
-use Rattle.model.proofs.Edition1.{key-passes}
+use Rattle.model.proofs.StringLaws.{same-refl, clash}
 use Rattle.model.proofs.ItemLaws.{sum-app, sum-cons}
 use Rattle.model.proofs.MarkLaws.{leaf-marks, stay-more}
 use Rattle.moves.specs.Moved.{Keeps}
@@ -53,25 +52,25 @@ use Rattle.put_replace.specs.Put.{Present}
 
 -- ---- what put makes of the Leaf
 
-put-same : (d : ℕ) (k v v' : List ℕ) → length v ≡ length v' → putTree edition1 (Art.leaf k v') d k v ≡ record { now = Art.leaf k v; takes = []; frees = []; extent = 0; dead = 0; fresh = false }
-put-same d k v v' e = rw (same-refl k, eq-eqb (length v) (length v') e) refl
+put-same : (E : Edition) (d : ℕ) (k v v' : List ℕ) → length v ≡ length v' → putTree E (Art.leaf k v') d k v ≡ record { now = Art.leaf k v; takes = []; frees = []; extent = 0; dead = 0; fresh = false }
+put-same E d k v v' e = rw (same-refl k, eq-eqb (length v) (length v') e) refl
 
-pub put-other : (d : ℕ) (k v v' : List ℕ) → (length v ≡ length v' → ⊥) → putTree edition1 (Art.leaf k v') d k v ≡ record { now = Art.leaf k v; takes = []; frees = []; extent = extentOf k v; dead = extentOf k v'; fresh = false }
-put-other d k v v' n = rw (same-refl k, ne-eqb (length v) (length v') n) refl
+pub put-other : (E : Edition) (d : ℕ) (k v v' : List ℕ) → (length v ≡ length v' → ⊥) → putTree E (Art.leaf k v') d k v ≡ record { now = Art.leaf k v; takes = []; frees = []; extent = extentOf k v; dead = extentOf k v'; fresh = false }
+put-other E d k v v' n = rw (same-refl k, ne-eqb (length v) (length v') n) refl
 
-touch-same : (n o e : ℕ) (k v v' : List ℕ) (h d : ℕ) → length v ≡ length v' → touchPut edition1 (leaf n o e k v') h d k v ≡ touch [] []
-touch-same n o e k v v' h d q = rw (same-refl k, eq-eqb (length v) (length v') q) refl
+touch-same : (E : Edition) (n o e : ℕ) (k v v' : List ℕ) (h d : ℕ) → length v ≡ length v' → touchPut E (leaf n o e k v') h d k v ≡ touch [] []
+touch-same E n o e k v v' h d q = rw (same-refl k, eq-eqb (length v) (length v') q) refl
 
-touch-other : (n o e : ℕ) (k v v' : List ℕ) (h d : ℕ) → (length v ≡ length v' → ⊥) → touchPut edition1 (leaf n o e k v') h d k v ≡ touch (n ∷ []) []
-touch-other n o e k v v' h d q = rw (same-refl k, ne-eqb (length v) (length v') q) refl
+touch-other : (E : Edition) (n o e : ℕ) (k v v' : List ℕ) (h d : ℕ) → (length v ≡ length v' → ⊥) → touchPut E (leaf n o e k v') h d k v ≡ touch (n ∷ []) []
+touch-other E n o e k v v' h d q = rw (same-refl k, ne-eqb (length v) (length v') q) refl
 
 -- ---- the hole at the Leaf
 
-module _ {f : List ℕ} {s : State} (w : Stands edition1 f s) (xs : List Step) (n o e : ℕ) (k v' : List ℕ) (er : w .root ≡ tree (plug xs (leaf n o e k v'))) where
-  loose : Work edition1 f (standsView w) xs n [] (body n Leaf o ∷ extent e (extentOf k v') ∷ []) × LeafOf edition1 f (pathOf xs) o e k v'
+module _ {E : Edition} {f : List ℕ} {s : State} (w : Stands E f s) (xs : List Step) (n o e : ℕ) (k v' : List ℕ) (er : w .root ≡ tree (plug xs (leaf n o e k v'))) where
+  loose : Work E f (standsView w) xs n [] (body n Leaf o ∷ extent e (extentOf k v') ∷ []) × LeafOf E f (pathOf xs) o e k v'
   loose = leaf-loose w xs n o e k v' er
 
-  close : {g : List ℕ} {h : View} (e' : ℕ) (v : List ℕ) → Work edition1 g h xs n ((pathOf xs, leaf n o e' k v) ∷ []) [] → Work edition1 g h [] (slotOf (plug xs (leaf n o e' k v))) (([], plug xs (leaf n o e' k v)) ∷ []) []
+  close : {g : List ℕ} {h : View} (e' : ℕ) (v : List ℕ) → Work E g h xs n ((pathOf xs, leaf n o e' k v) ∷ []) [] → Work E g h [] (slotOf (plug xs (leaf n o e' k v))) (([], plug xs (leaf n o e' k v)) ∷ []) []
   close e' v W = work-close xs (leaf n o e' k v) [] W refl (suits-any xs (leaf n o e k v') (leaf n o e' k v) (λ q z. z) (leaf-opened w xs n o e k v' er .1))
 
   -- ---- with the same length
@@ -80,10 +79,10 @@ module _ {f : List ℕ} {s : State} (w : Stands edition1 f s) (xs : List Step) (
     size-is : extentOf k v' ≡ extentOf k v
     size-is = ap (λ i. up8 (length k + i)) (sym len)
 
-    turned : Work edition1 f (standsView w) xs n [] (extent e (extentOf k v') ∷ body n Leaf o ∷ [])
+    turned : Work E f (standsView w) xs n [] (extent e (extentOf k v') ∷ body n Leaf o ∷ [])
     turned = work-turn (loose .0) refl
 
-    pasted : Work edition1 g (standsView w) xs n [] (body n Leaf o ∷ extent e (extentOf k v') ∷ [])
+    pasted : Work E g (standsView w) xs n [] (body n Leaf o ∷ extent e (extentOf k v') ∷ [])
     pasted = let U = up8-is (length k + length v') .0 in work-turn (work-paste turned (G .only) (omega arith) (omega arith)) refl
 
     body-keeps : Keeps f g o (o + 16)
@@ -94,7 +93,7 @@ module _ {f : List ℕ} {s : State} (w : Stands edition1 f s) (xs : List Step) (
         let R = any-write x rest (turned .heap) (first-owns turned) (G .only) (λ a p q. cover-extent a e (extentOf k v') (omega arith) (omega arith)) in
         body-kept n Leaf o (R .kept) (λ a. omega (arith, sum-cons (item.touch a) (body n Leaf o) (stepsItems xs ++ forestItems [])))
 
-    leaf-of : LeafOf edition1 g (pathOf xs) o e k v
+    leaf-of : LeafOf E g (pathOf xs) o e k v
     leaf-of =
         let L = loose .1 in
         let A = L .at in
@@ -124,12 +123,12 @@ module _ {f : List ℕ} {s : State} (w : Stands edition1 f s) (xs : List Step) (
         let U = up8-is (length k + length v) .0 in
         record {
           change = record { now = Art.leaf k v; takes = []; frees = []; extent = 0; dead = 0; fresh = false };
-          puts = put-same d k v v' len;
+          puts = put-same E d k v v' len;
           lay = leaf n o e k v;
           artIs = refl;
           view = standsView w;
           slot = slotOf (plug xs (leaf n o e k v));
-          work = close e v (make-leaf (pathOf xs) [] [] n o e k v (subst (λ m. Work edition1 g (standsView w) xs n [] (body n Leaf o ∷ extent e m ∷ [])) size-is pasted) leaf-of);
+          work = close e v (make-leaf (pathOf xs) [] [] n o e k v (subst (λ m. Work E g (standsView w) xs n [] (body n Leaf o ∷ extent e m ∷ [])) size-is pasted) leaf-of);
           slotIs = refl;
           bytes = by;
           records = w .nums .R;
@@ -145,20 +144,21 @@ module _ {f : List ℕ} {s : State} (w : Stands edition1 f s) (xs : List Step) (
             changed = changed-only (written [] [] [] (x ∷ [])) (G .only) (λ a p q. omega (arith, sum-cons (cover a) x [], cover-extent a e (extentOf k v) (omega arith) (omega arith)));
             stepped = stepped-start (w .heap);
           };
-          accounts = subst (λ (t : Touch). Accounts (w .root) t [] [] [] []) (sym (touch-same n o e k v v' (holderOf xs) d len))
+          accounts = subst (λ (t : Touch). Accounts (w .root) t [] [] [] []) (sym (touch-same E n o e k v v' (holderOf xs) d len))
               (record { takes = tt; frees = λ z. refl; kindsIn = tt; slotsIn = tt; freesIn = λ z. omega (arith, sum-none z); rewritesIn = λ z. omega (arith, sum-none z) });
           stays = stay-more (λ m z. omega (arith, leaf-marks (is m) (pathOf xs) n o e k v', leaf-marks (is m) (pathOf xs) n o e k v));
-          look = leaf-look edition1 n o e k v d;
+          last = λ q. clash (cc);
+          look = leaf-look E n o e k v d;
           fromB = λ q. absurd (let z : _≡_ {A = ℕ} 0 1 = cc in omega arith);
         }
 
   -- ---- with another length: a new extent at e', the Leaf's body written anew, the old extent dead
 
   module _ (f1 f2 v : List ℕ) (e' : ℕ) (diff : length v ≡ length v' → ⊥) (X : Extended f f1 (standsView w) k v e') (Y : LeafWritten f1 f2 o e' (length k) (length v)) where
-    written-work : Work edition1 f2 (extended (standsView w) (extentOf k v)) xs n [] (body n Leaf o ∷ extent e' (extentOf k v) ∷ extent e (extentOf k v') ∷ [])
+    written-work : Work E f2 (extended (standsView w) (extentOf k v)) xs n [] (body n Leaf o ∷ extent e' (extentOf k v) ∷ extent e (extentOf k v') ∷ [])
     written-work = work-write (work-turn (work-extend (loose .0) X) refl) (omega arith) (omega arith) (Y .only) (omega arith) (omega arith)
 
-    new-leaf-of : LeafOf edition1 f2 (pathOf xs) o e' k v
+    new-leaf-of : LeafOf E f2 (pathOf xs) o e' k v
     new-leaf-of =
         let m = extentOf k v in
         let x = extent e' m in
@@ -188,7 +188,7 @@ module _ {f : List ℕ} {s : State} (w : Stands edition1 f s) (xs : List Step) (
           begins = L .begins;
         }
 
-    pub renewed-work : Work edition1 f2 (extended (standsView w) (extentOf k v)) xs n ((pathOf xs, leaf n o e' k v) ∷ []) (extent e (extentOf k v') ∷ [])
+    pub renewed-work : Work E f2 (extended (standsView w) (extentOf k v)) xs n ((pathOf xs, leaf n o e' k v) ∷ []) (extent e (extentOf k v') ∷ [])
     renewed-work = make-leaf (pathOf xs) [] (extent e (extentOf k v') ∷ []) n o e' k v written-work new-leaf-of
 
     abbrev pub others : List Item
@@ -203,7 +203,7 @@ module _ {f : List ℕ} {s : State} (w : Stands edition1 f s) (xs : List Step) (
       book = booked-retire (booked-extend (booked-row (standsView w) [] Kinds.nil (w .heap .lists .eight)) (extentOf k v) (extentOf k v) (omega arith)) (extentOf k v') (extentOf k v') others (omega arith)
 
       -- the extent was the key's
-      pub renewed : extentAt (length k) (findAt edition1 (w .root) k) ≡ extent e (extentOf k v') ∷ [] → 1 ≤ extentOf k v' → Bytes f3 → EditedOver (extent e (extentOf k v') ∷ []) f f3 k v w xs (leaf n o e k v')
+      pub renewed : extentAt (length k) (findAt E (w .root) k) ≡ extent e (extentOf k v') ∷ [] → 1 ≤ extentOf k v' → Bytes f3 → EditedOver (extent e (extentOf k v') ∷ []) f f3 k v w xs (leaf n o e k v')
       renewed was some by =
           let d = length (pathOf xs) in
           let b = body n Leaf o in
@@ -212,7 +212,7 @@ module _ {f : List ℕ} {s : State} (w : Stands edition1 f s) (xs : List Step) (
           let Z2 = since-write (Y .only) (λ a l u. omega (arith, sum-cons (cover a) b [], cover-body a n Leaf o (omega arith) (omega arith))) Z1 in
           record {
             change = record { now = Art.leaf k v; takes = []; frees = []; extent = extentOf k v; dead = extentOf k v'; fresh = false };
-            puts = put-other d k v v' diff;
+            puts = put-other E d k v v' diff;
             lay = leaf n o e' k v;
             artIs = refl;
             view = lastView;
@@ -230,7 +230,7 @@ module _ {f : List ℕ} {s : State} (w : Stands edition1 f s) (xs : List Step) (
             place = e';
             dies = λ a. rw (ne-eqb (extentOf k v') 0 (λ z. omega arith)) (ap (sum (cover a)) (sym was));
             since = since-retire e (extentOf k v') (first-owns renewed-work) Z2 C;
-            accounts = subst (λ (t : Touch). Accounts (w .root) t [] [] (b ∷ []) []) (sym (touch-other n o e k v v' (holderOf xs) d diff))
+            accounts = subst (λ (t : Touch). Accounts (w .root) t [] [] (b ∷ []) []) (sym (touch-other E n o e k v v' (holderOf xs) d diff))
                 (record {
                   takes = tt;
                   frees = λ z. refl;
@@ -240,20 +240,21 @@ module _ {f : List ℕ} {s : State} (w : Stands edition1 f s) (xs : List Step) (
                   rewritesIn = λ z. omega (arith, sum-cons z b [], sum-none z, stands-sum w (plug xs (leaf n o e k v')) er z, plug-sum z xs (leaf n o e k v'), leaf-sum z n o e k v');
                 });
             stays = stay-more (λ m z. omega (arith, leaf-marks (is m) (pathOf xs) n o e k v', leaf-marks (is m) (pathOf xs) n o e' k v));
-            look = leaf-look edition1 n o e' k v d;
+            last = λ q. clash (cc);
+            look = leaf-look E n o e' k v d;
             fromB = λ q. omega (arith, X .place);
           }
 
 -- ---- what the calls ask, and what they leave
 
-module _ {f k v : List ℕ} {p : Spot} (P : Present f k v p) where
-  module _ (s : State) (w : Stands edition1 f s) where
+module _ {E : Edition} {f k v : List ℕ} {p : Spot} (P : Present E f k v p) where
+  module _ (s : State) (w : Stands E f s) where
     root-at : w .root ≡ tree (plug (P .put .way .steps) (leaf (p .here .slot) (p .here .place) (P .found .extent) k (P .found .value)))
     root-at = any-root (P .put) s w ∙ ap (λ (t : Lay). tree (plug (P .put .way .steps) t)) (P .found .is)
 
     -- the hole at the Leaf
-    here : Work edition1 f (standsView w) (P .put .way .steps) (p .here .slot) [] (body (p .here .slot) Leaf (p .here .place) ∷ extent (P .found .extent) (extentOf k (P .found .value)) ∷ [])
-        × LeafOf edition1 f (pathOf (P .put .way .steps)) (p .here .place) (P .found .extent) k (P .found .value)
+    here : Work E f (standsView w) (P .put .way .steps) (p .here .slot) [] (body (p .here .slot) Leaf (p .here .place) ∷ extent (P .found .extent) (extentOf k (P .found .value)) ∷ [])
+        × LeafOf E f (pathOf (P .put .way .steps)) (p .here .place) (P .found .extent) k (P .found .value)
     here = loose w (P .put .way .steps) (p .here .slot) (p .here .place) (P .found .extent) k (P .found .value) root-at
 
   pub body-room : p .here .place + 16 ≤ length f
@@ -282,7 +283,7 @@ module _ {f k v : List ℕ} {p : Spot} (P : Present f k v p) where
       pub paste-ok : e + length k + length v ≤ length f
       paste-ok = let q = old-is in let x = extent-is ee in omega (arith, here (P .put .ready .st) (P .put .ready .stands) .1 .at .room)
 
-      pub ends-same : {g : List ℕ} → Pasted f g (e + length k) (length v) v → Bytes g → PutStep f k v g
+      pub ends-same : {g : List ℕ} → Pasted f g (e + length k) (length v) v → Bytes g → PutStep E f k v g
       ends-same {g} G by =
           let xs = P .put .way .steps in
           let n = p .here .slot in
@@ -300,19 +301,19 @@ module _ {f k v : List ℕ} {p : Spot} (P : Present f k v p) where
       other-length : length v ≡ length (P .found .value) → ⊥
       other-length z = diff (z ∙ sym old-is)
 
-      extend-room : (s : State) (w : Stands edition1 f s) → w .nums .B + extentOf k v ≤ w .nums .F
+      extend-room : (s : State) (w : Stands E f s) → w .nums .B + extentOf k v ≤ w .nums .F
       extend-room s w =
           let xs = P .put .way .steps in
           let c : Change Art = record { now = Art.leaf k v; takes = []; frees = []; extent = extentOf k v; dead = extentOf k (P .found .value); fresh = false } in
           room-last (standsView w) (extentOf k v)
-          (room-is k v w c xs (change-is k v w xs (leaf (p .here .slot) (p .here .place) (P .found .extent) k (P .found .value)) (root-at s w) (P .put .way .leads) (put-other (length (pathOf xs)) k v (P .found .value) other-length))
+          (room-is k v w c xs (change-is k v w xs (leaf (p .here .slot) (p .here .place) (P .found .extent) k (P .found .value)) (root-at s w) (P .put .way .leads) (put-other E (length (pathOf xs)) k v (P .found .value) other-length))
           (any-room (P .put) s w))
 
       pub extend-ok : Extends f (length k + length v)
       extend-ok = record { view = standsView (P .put .ready .stands); heap = P .put .ready .stands .heap; room = extend-room (P .put .ready .st) (P .put .ready .stands) }
 
       module _ {f1 : List ℕ} {e : ℕ} (ext : (h : View) → Heap f h → h .nums .B + up8 (length k + length v) ≤ h .nums .F → Extended f f1 h k v e) where
-        extended-at : (s : State) (w : Stands edition1 f s) → Extended f f1 (standsView w) k v e
+        extended-at : (s : State) (w : Stands E f s) → Extended f f1 (standsView w) k v e
         extended-at s w = ext (standsView w) (w .heap) (extend-room s w)
 
         pub write-ok : p .here .place + 16 ≤ length f1
@@ -326,7 +327,7 @@ module _ {f k v : List ℕ} {p : Spot} (P : Present f k v p) where
               let l = P .put .ready .stands .heap .header .limits in
               leaf-written e (length k) (length v) eg write-ok (omega (arith, X .place)) (lengths .0) (lengths .1)
 
-          work-at : (s : State) (w : Stands edition1 f s) → Work edition1 f2 (extended (standsView w) (extentOf k v)) (P .put .way .steps) (p .here .slot)
+          work-at : (s : State) (w : Stands E f s) → Work E f2 (extended (standsView w) (extentOf k v)) (P .put .way .steps) (p .here .slot)
               ((pathOf (P .put .way .steps), leaf (p .here .slot) (p .here .place) e k v) ∷ []) (extent (P .found .extent) (extentOf k (P .found .value)) ∷ [])
           work-at s w = renewed-work w (P .put .way .steps) (p .here .slot) (p .here .place) (P .found .extent) k (P .found .value) (root-at s w) f1 f2 v e other-length (extended-at s w) leaf-at
 
@@ -335,7 +336,7 @@ module _ {f k v : List ℕ} {p : Spot} (P : Present f k v p) where
             size-old = em ∙ ap (λ i. up8 (length k + i)) old-is
 
             size-some : 1 ≤ extentOf k (P .found .value)
-            size-some = extent-some k (P .found .value) (key-passes k (P .put .ready .legal .passes) .some)
+            size-some = extent-some k (P .found .value) (P .put .ready .some)
 
             module _ {was : ℕ} (ee : was ≡ le 4 f (p .here .place + leafExtent)) where
               pub retire-ok : Retires f2 was m
@@ -343,7 +344,7 @@ module _ {f k v : List ℕ} {p : Spot} (P : Present f k v p) where
                   let W = work-at (P .put .ready .st) (P .put .ready .stands) in
                   rw (size-old, extent-is ee) (record { view = extended (standsView (P .put .ready .stands)) (extentOf k v); heap = W .heap; rest = _; owns = first-owns W; some = size-some })
 
-              pub ends-other : {g : List ℕ} → ((h : View) (rest : List Item) → Heap f2 h → Same (h .owned) (extent was m ∷ rest) → Died f2 g h was m rest) → Bytes g → PutStep f k v g
+              pub ends-other : {g : List ℕ} → ((h : View) (rest : List Item) → Heap f2 h → Same (h .owned) (extent was m ∷ rest) → Died f2 g h was m rest) → Bytes g → PutStep E f k v g
               ends-other {g} C by =
                   let xs = P .put .way .steps in
                   let n = p .here .slot in

@@ -4,13 +4,15 @@ use descent::spot::Spot;
 use fields::body::Leaf;
 use moves::fill;
 use room::heap;
+ghost use Rattle.model.specs.Edition.{Edition, SomeEdition};
 ghost use Rattle.leaf_new.specs.Put.{PutStep};
 ghost use Rattle.put_replace.specs.Put.{Present};
 
 // The Leaf of the key stands at the spot.
 pub fn replace(f: &mut [u8], key: &[u8], value: &[u8], spot: Spot)
-    requires { ⌜ Present (now f) (now key) (now value) spot ⌝ }
-    ensures { λ _. ⌜ PutStep (now (f .entry)) (now (key .entry)) (now (value .entry)) (now (f .exit)) ⌝ }
+    requires { ⌜ SomeEdition (λ E. Present E (now f) (now key) (now value) spot) ⌝ }
+    ensures { λ _. ⌜ ((E : Edition) → Present E (now (f .entry)) (now (key .entry)) (now (value .entry)) spot
+        → PutStep E (now (f .entry)) (now (key .entry)) (now (value .entry)) (now (f .exit))) ⌝ }
 {
     let here = spot.here;
     let place = here.place;

@@ -7,7 +7,7 @@ use native.Mathlib.Omega.{arith}
 use lib.Dec.{eqb}
 use Rattle.layout.specs.Kind.{Leaf, Node4, Kind}
 use Rattle.model.specs.Strings.{pick}
-use Rattle.model.specs.Edition.{edition1}
+use Rattle.model.specs.Edition.{Edition}
 use Rattle.model.specs.State.{State, tally}
 use Rattle.model.specs.Item.{Item, sum}
 use Rattle.model.specs.Frame.{Lay, slotOf, View, tree, rootItems, Stands}
@@ -69,15 +69,15 @@ took-slot T K =
 
 -- ---- the link and the count
 
-module _ {f f' g : List ℕ} {h : View} {xs : List Step} {s at m : ℕ} (lay : Lay) (W : Work edition1 f h xs s ((pathOf xs, lay) ∷ []) []) (link : Link xs at) (fits : (1 ≤ m) × (m < 65536)) (em : m ≡ slotOf lay)
+module _ {E : Edition} {f f' g : List ℕ} {h : View} {xs : List Step} {s at m : ℕ} (lay : Lay) (W : Work E f h xs s ((pathOf xs, lay) ∷ []) []) (link : Link xs at) (fits : (1 ≤ m) × (m < 65536)) (em : m ≡ slotOf lay)
     (suits : Suits xs lay) (R : Relinked f f' at m) (C : Counted f' g) where
   abbrev pub endView : View
   endView = recorded (rooted h (rootOf xs m)) (h .nums .R + 1)
 
-  linked : Work edition1 f' (rooted h (rootOf xs m)) xs m ((pathOf xs, lay) ∷ []) []
+  linked : Work E f' (rooted h (rootOf xs m)) xs m ((pathOf xs, lay) ∷ []) []
   linked = relinked m (fits .0) (fits .1) at xs link W R
 
-  pub end-work : Work edition1 g endView [] (slotOf (plug xs lay)) (([], plug xs lay) ∷ []) []
+  pub end-work : Work E g endView [] (slotOf (plug xs lay)) (([], plug xs lay) ∷ []) []
   end-work = work-close xs lay [] (work-count linked (h .nums .R + 1) (C (rooted h (rootOf xs m)) (linked .heap))) em suits
 
   pub end-since : {f0 : List ℕ} {h0 : View} {ts rs gs ys : List Item} → Since f0 h0 f h ts rs gs ys → Since f0 h0 g endView ts (holderItems xs ++ rs) gs ys
@@ -88,8 +88,8 @@ module _ {f f' g : List ℕ} {h : View} {xs : List Step} {s at m : ℕ} (lay : L
 
 -- ---- the body that names the hole
 
-module _ {f : List ℕ} {st : State} (w : Stands edition1 f st) (xs : List Step) (t : Lay) (er : w .root ≡ tree (plug xs t)) where
-  pub holders-in : {s : ℕ} {us : List (List ℕ × Lay)} {loose : List Item} → Work edition1 f (standsView w) xs s us loose → SlotsIn (holder (holderOf xs)) (holderItems xs ++ [])
+module _ {E : Edition} {f : List ℕ} {st : State} (w : Stands E f st) (xs : List Step) (t : Lay) (er : w .root ≡ tree (plug xs t)) where
+  pub holders-in : {s : ℕ} {us : List (List ℕ × Lay)} {loose : List Item} → Work E f (standsView w) xs s us loose → SlotsIn (holder (holderOf xs)) (holderItems xs ++ [])
   holders-in W = rw (append-nil (holderItems xs)) (holder-slots W)
 
   pub holders-some : (z : Item → ℕ) → sum z (holderItems xs ++ []) ≤ sum z (rootItems (w .root))

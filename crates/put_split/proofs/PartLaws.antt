@@ -4,16 +4,15 @@ use mathlib.Core.Path.{_≡_, refl, sym, ap, _∙_}
 use mathlib.Core.List.{List, [], _∷_}
 use mathlib.Core.Option.{none}
 use native.Mathlib.Omega.{arith}
-use lib.ListN.{length, getD, length-append, List·getD-append}
+use lib.ListN.{length, getD, take, drop}
 use borrow.Author.Tests.{ne-eqb}
-use Rattle.layout.specs.Number.{byteAt, le}
+use Rattle.layout.specs.Number.{le}
 use Rattle.layout.specs.Place.{entryAt, leafExtent, leafKey}
 use Rattle.layout.specs.Kind.{Leaf, Node4}
 use Rattle.layout.specs.Entry.{placeOf}
-use Rattle.model.specs.Edition.{edition1}
+use Rattle.model.specs.Edition.{editionOf}
 use Rattle.model.specs.Item.{body}
 use Rattle.model.specs.Body.{InnerAt, LeafAt, lookKid}
-use Rattle.model.proofs.Edition1.{key-passes}
 use Rattle.model.proofs.UniqueLaws.{look-nil}
 use Rattle.node.specs.Kids.{insertKid}
 use Rattle.node.proofs.KidsLaws.{look-insert}
@@ -21,7 +20,8 @@ use Rattle.inner.specs.Inner.{NodeOpen, Emptied, Added}
 use Rattle.room.specs.View.{listOf, placeFrom, taken}
 use Rattle.moves.proofs.MoveLaws.{only-then}
 use Rattle.room.proofs.HeapLaws.{lies, Lies}
-use Rattle.descent.proofs.KeyLaws.{walked-in, walked-out}
+use Rattle.keys.proofs.KeyLaws.{text-part}
+use Rattle.descent.proofs.SeatLaws.{text-left}
 use Rattle.between.specs.Edit.{leafView, MadeLeaf}
 use Rattle.between.proofs.WorkLaws.{entries-first, first-owns, open-leaf}
 use Rattle.leaf_new.specs.Make.{Makes, NewLeaf}
@@ -56,24 +56,26 @@ open-none E = record { kids = []; node = E .inner; few = omega arith }
 
 -- ---- a byte of the old key
 
-pub byte-in : {f : List ℕ} {o d n e : ℕ} → n ≡ le 2 f (o + leafKey) → e ≡ le 4 f (o + leafExtent) → d < n → (e' : ℕ) (k v : List ℕ) → LeafAt f o e' k v → byteAt f (e + d) ≡ getD (edition1 .walked k) d 0
-byte-in {f} {o} {d} {n} {e} en ee l e' k v L =
-    let q : e ≡ e' = ee ∙ L .extent in
-    let m : d < length k = omega (arith, L .keyLength) in
-    ap (λ x. byteAt f (x + d)) q ∙ L .text d (omega (arith, length-append k v)) ∙ List·getD-append k v 0 d m ∙ walked-in k d m
+module _ {f : List ℕ} {o from m : ℕ} (ee : from ≡ le 4 f (o + leafExtent)) (en : m ≡ le 2 f (o + leafKey)) where
+  -- its bytes in the frame
+  pub key-part : (e : ℕ) (k v : List ℕ) → LeafAt f o e k v → take m (drop from f) ≡ k
+  key-part e k v L =
+      let q : from ≡ e = ee ∙ L .extent in
+      let l : m ≡ length k = en ∙ L .keyLength in
+      rw (q, l) (text-part f e k (omega (arith, L .room)) (text-left f e k v (L .text)))
 
-pub byte-out : {f : List ℕ} {o d n : ℕ} → n ≡ le 2 f (o + leafKey) → n ≤ d → (e' : ℕ) (k v : List ℕ) → LeafAt f o e' k v → 0 ≡ getD (edition1 .walked k) d 0
-byte-out {d = d} en l e' k v L = walked-out k d (omega (arith, L .keyLength))
+  pub byte-of : (n d : ℕ) {r : ℕ} → r ≡ getD (editionOf n .walked (take m (drop from f))) d 0 → (e : ℕ) (k v : List ℕ) → LeafAt f o e k v → r ≡ getD (editionOf n .walked k) d 0
+  byte-of n d er e k v L = er ∙ ap (λ y. getD (editionOf n .walked y) d 0) (key-part e k v L)
 
 -- ---- the Node4 with a new Leaf
 
 module _ {f k v : List ℕ} {n : ℕ} (P : Forks f k v n) where
   pub fork-makes : Makes f k v
-  fork-makes = record { view = P .view; heap = P .work .heap; room = P .room; keyFits = omega (arith, key-passes k (P .legal) .short); valueFits = omega (arith, P .short) }
+  fork-makes = record { view = P .view; heap = P .work .heap; room = P .room; keyFits = omega (arith, P .lawful .fields .keys k (P .legal)); valueFits = omega (arith, P .short) }
 
   module _ {mid : List ℕ} {leaf : ℕ} (M : NewLeaf f mid k v leaf) where
-    made : MadeLeaf edition1 f mid (P .view) (P .steps) (P .top) (P .trees) (body n Node4 (P .place) ∷ P .loose) [] leaf k v
-    made = M (P .view) (P .steps) (P .top) (P .trees) (body n Node4 (P .place) ∷ P .loose) [] (P .work) (P .room) (P .legal) refl
+    made : MadeLeaf (P .edition) f mid (P .view) (P .steps) (P .top) (P .trees) (body n Node4 (P .place) ∷ P .loose) [] leaf k v
+    made = M (P .edition) (P .view) (P .steps) (P .top) (P .trees) (body n Node4 (P .place) ∷ P .loose) [] (P .work) (P .room) (P .legal .passes) refl
 
     fork-lies : Lies (leafView (P .view) k v) n Node4 (P .place)
     fork-lies = lies n Node4 (P .place) _ (made .work .heap) (first-owns (made .work)) (omega arith) (omega arith)
@@ -96,5 +98,5 @@ module _ {f k v : List ℕ} {n : ℕ} (P : Forks f k v n) where
         let c = H .slotCap in
         (L .low, omega (arith, L .table))
 
-    pub forked : {g : List ℕ} {o b b' c y : ℕ} → o ≡ placeOf mid n → b ≡ b' → ForkWritten mid g o b leaf c y → Forked f g k v n b' c y
-    forked eo eb W = record { mid = mid; leaf = leaf; made = M; written = rw (← eo, ← eb) W }
+    pub forked : {g : List ℕ} {o b c y : ℕ} → o ≡ placeOf mid n → ForkWritten mid g o b leaf c y → Forked f g k v n b c y
+    forked eo W = record { mid = mid; leaf = leaf; made = M; written = rw (← eo) W }

@@ -9,14 +9,14 @@ use lib.ListN.{length, drop}
 use lib.Seq.{drop-append-seam}
 use Rattle.layout.specs.Number.{Bytes}
 use Rattle.layout.specs.Kind.{Leaf, Prefix, Node4}
-use Rattle.model.specs.Edition.{edition1}
+use Rattle.model.specs.Edition.{Edition}
 use Rattle.model.specs.Tree.{Art, extentOf, Change, asPrefix, fork, newKey, chain, prefixes, putTree}
 use Rattle.model.specs.State.{State, tally}
 use Rattle.model.specs.Item.{Item, body, cover, leafy, sum}
 use Rattle.model.specs.Frame.{Lay, slotOf, View, Stands}
 use Rattle.model.specs.Frame.Lay.{leaf, node}
+use Rattle.model.specs.Mark.{is, marks}
 use Rattle.model.specs.Touch.{Touch, touch, holder, touchPut}
-use Rattle.model.specs.Freedom.{is}
 use Rattle.model.proofs.ItemLaws.{sum-cons}
 use Rattle.model.proofs.MarkLaws.{leaf-marks, stay-more}
 use Rattle.room.specs.View.{listOf, placeFrom, taken, Roomy}
@@ -33,6 +33,7 @@ use Rattle.between.proofs.LeadLaws.{leaf-look}
 use Rattle.between.proofs.WorkLaws.{standsView, work-take, leafy-leaf}
 use Rattle.between.proofs.SinceLaws.{since-start, since-take}
 use Rattle.between.proofs.BookedLaws.{booked-row, booked-as, booked-extend}
+use Rattle.between.proofs.StayLaws.{last-leaf}
 use Rattle.room.specs.Link.{Relinked}
 use Rattle.leaf_new.specs.Make.{Counted}
 use Rattle.leaf_new.proofs.OpenLaws.{leaf-opened}
@@ -104,24 +105,24 @@ module _ (h : View) (n : ℕ) (k v : List ℕ) (e8 : length (h .lists) ≡ 8) wh
 
 -- ---- at a Leaf of another key
 
-module _ {f : List ℕ} {st : State} {w : Stands edition1 f st} {k : List ℕ} {xs : List Step} {n o e : ℕ} {k' v' : List ℕ} {at : ℕ} (P : Beside w k xs n o e k' v' at) (v : List ℕ) where
+module _ {E : Edition} {f : List ℕ} {st : State} {w : Stands E f st} {k : List ℕ} {xs : List Step} {n o e : ℕ} {k' v' : List ℕ} {at : ℕ} (P : Beside w k xs n o e k' v' at) (v : List ℕ) where
   abbrev many : ℕ
   many = chain (length (P .parted .w))
 
   abbrev old : Lay
   old = leaf n o e k' v'
 
-  pub opened : Work edition1 f (standsView w) xs n ((pathOf xs, old) ∷ []) []
+  pub opened : Work E f (standsView w) xs n ((pathOf xs, old) ∷ []) []
   opened = leaf-opened w xs n o e k' v' (P .is) .0
 
-  accounts : (kinds : List ℕ) (bs : List Item) → Accounts (w .root) (touch (holder (holderOf xs)) []) kinds bs (holderItems xs ++ []) [] → Accounts (w .root) (touchPut edition1 old (holderOf xs) (length (pathOf xs)) k v) kinds bs (holderItems xs ++ []) []
-  accounts kinds bs A = subst (λ (t : Touch). Accounts (w .root) t kinds bs (holderItems xs ++ []) []) (sym (touch-leaf k k' (pathOf xs) (P .word) (P .word') (P .parted) v v' (P .differs) n o e (holderOf xs))) A
+  accounts : (kinds : List ℕ) (bs : List Item) → Accounts (w .root) (touch (holder (holderOf xs)) []) kinds bs (holderItems xs ++ []) [] → Accounts (w .root) (touchPut E old (holderOf xs) (length (pathOf xs)) k v) kinds bs (holderItems xs ++ []) []
+  accounts kinds bs A = subst (λ (t : Touch). Accounts (w .root) t kinds bs (holderItems xs ++ []) []) (sym (touch-leaf E k k' (pathOf xs) (P .word) (P .word') (P .parted) v v' (P .differs) n o e (holderOf xs))) A
 
   abbrev pub made : Change Art
   made = newKey k v (asPrefix (P .parted .w) (fork (P .parted .b) (Art.leaf k v) (P .parted .c) (Art.leaf k' v'))) (Node4 ∷ prefixes many) []
 
-  pub put-made : putTree edition1 (Art.leaf k' v') (length (pathOf xs)) k v ≡ made
-  put-made = put-leaf k k' (pathOf xs) (P .word) (P .word') (P .parted) v v' (P .differs)
+  pub put-made : putTree E (Art.leaf k' v') (length (pathOf xs)) k v ≡ made
+  put-made = put-leaf E k k' (pathOf xs) (P .word) (P .word') (P .parted) v v' (P .differs)
 
   abbrev place4 : ℕ
   place4 = placeFrom (standsView w) (listOf (standsView w) Node4)
@@ -134,17 +135,17 @@ module _ {f : List ℕ} {st : State} {w : Stands edition1 f st} {k : List ℕ} {
       room-row : RoomFor (nodeView (standsView w)) (prefixes many ++ Leaf ∷ []) (extentOf k v)
       room-row = room-next (standsView w) Node4 (prefixes many ++ Leaf ∷ []) (extentOf k v) node4-kind (w .heap .lists .eight) room
 
-      pub grows : (row : List ℕ) → Grows edition1 f1 (nodeView (standsView w)) xs n ((pathOf xs, old) ∷ []) [] (body m Node4 place4 ∷ []) row 0 many (Leaf ∷ []) (extentOf k v)
+      pub grows : (row : List ℕ) → Grows E f1 (nodeView (standsView w)) xs n ((pathOf xs, old) ∷ []) [] (body m Node4 place4 ∷ []) row 0 many (Leaf ∷ []) (extentOf k v)
       grows row = record { work = work-take opened T; named = tt; many = refl; room = room-row }
 
-      module _ {f2 row : List ℕ} (Z : Grown edition1 f1 f2 (nodeView (standsView w)) xs n ((pathOf xs, old) ∷ []) [] (body m Node4 place4 ∷ []) row many) where
+      module _ {f2 row : List ℕ} (Z : Grown E f1 f2 (nodeView (standsView w)) xs n ((pathOf xs, old) ∷ []) [] (body m Node4 place4 ∷ []) row many) where
         abbrev view2 : View
         view2 = rowView (standsView w) many
 
-        pub taken-row : Work edition1 f2 view2 xs n (((pathOf xs ++ P .parted .w) ++ P .parted .c ∷ [], old) ∷ []) (body m Node4 place4 ∷ rowItems (Z .new) [])
+        pub taken-row : Work E f2 view2 xs n (((pathOf xs ++ P .parted .w) ++ P .parted .c ∷ [], old) ∷ []) (body m Node4 place4 ∷ rowItems (Z .new) [])
         taken-row =
             work-under (pathOf xs) ((pathOf xs ++ P .parted .w) ++ P .parted .c ∷ []) n o e k' v' (work-behind (body m Node4 place4) [] (Z .new) (Z .work))
-            (begins-there k k' (pathOf xs) (P .word) (P .word') (P .parted))
+            (begins-there E k k' (pathOf xs) (P .word) (P .word') (P .parted))
 
         pub room-leaf : RoomFor view2 (Leaf ∷ []) (extentOf k v)
         room-leaf = room-past many 0 many (nodeView (standsView w)) (Leaf ∷ []) (extentOf k v) (T .heap .lists .eight) (omega arith) room-row
@@ -156,14 +157,14 @@ module _ {f : List ℕ} {st : State} {w : Stands edition1 f st} {k : List ℕ} {
           abbrev pub knot : Lay
           knot = node m place4 Node4 (forkKids (P .parted .b) new (P .parted .c) old)
 
-          forked-node : Work edition1 f3 (leafView view2 k v) xs n ((pathOf xs ++ P .parted .w, knot) ∷ []) (rowItems (Z .new) [])
-          forked-node = fork-work (pathOf xs ++ P .parted .w) [] place4 old taken-row G refl room-leaf (P .legal) (begins-here k (pathOf xs) (P .word) (P .parted))
+          forked-node : Work E f3 (leafView view2 k v) xs n ((pathOf xs ++ P .parted .w, knot) ∷ []) (rowItems (Z .new) [])
+          forked-node = fork-work (pathOf xs ++ P .parted .w) [] place4 old taken-row G refl room-leaf (P .legal) (begins-here E k (pathOf xs) (P .word) (P .parted))
 
-          pub ready : Ready edition1 f3 (leafView view2 k v) xs n (pathOf xs) (P .parted .w) knot [] (Z .new) [] row m
+          pub ready : Ready E f3 (leafView view2 k v) xs n (pathOf xs) (P .parted .w) knot [] (Z .new) [] row m
           ready = record { work = forked-node; named = subst (Named row) (append-nil (Z .new)) (Z .named); many = Z .many; slot = refl; node = λ q. tt }
 
-          module _ {f4 : List ℕ} {top : ℕ} (Y : Raised edition1 f3 f4 (leafView view2 k v) xs n (pathOf xs) (P .parted .w) knot [] (Z .new) [] row 0 0 top) where
-            pub raised : Work edition1 f4 (leafView view2 k v) xs n ((pathOf xs, Y .lay) ∷ []) []
+          module _ {f4 : List ℕ} {top : ℕ} (Y : Raised E f3 f4 (leafView view2 k v) xs n (pathOf xs) (P .parted .w) knot [] (Z .new) [] row 0 0 top) where
+            pub raised : Work E f4 (leafView view2 k v) xs n ((pathOf xs, Y .lay) ∷ []) []
             raised = raised-work Y
 
             pub top-fits : (1 ≤ top) × (top < 65536)
@@ -180,10 +181,10 @@ module _ {f : List ℕ} {st : State} {w : Stands edition1 f st} {k : List ℕ} {
                 let e8 = w .heap .lists .eight in
                 let et : top ≡ slotOf (Y .lay) = sym (Y .slot) in
                 let suits = suits-any xs old (Y .lay) (λ q z. absurd z) (leaf-opened w xs n o e k' v' (P .is) .1) in
-                let deep : drop d (edition1 .walked k) ≡ P .parted .w ++ (P .parted .b ∷ P .parted .s) = ap (drop d) (P .word) ∙ drop-append-seam (pathOf xs) (P .rest) ∙ P .parted .left in
+                let deep : drop d (E .walked k) ≡ P .parted .w ++ (P .parted .b ∷ P .parted .s) = ap (drop d) (P .word) ∙ drop-append-seam (pathOf xs) (P .rest) ∙ P .parted .left in
                 let split-sum : (z : Item → ℕ) → sum z row-bs ≡ z b4 + sum z (rowItems (Z .new) []) = λ z. omega (arith, row-behind z b4 [] (Z .new), sum-cons z b4 (rowItems (Z .new) [])) in
                 let Z2 = Z .since f h0 (b4 ∷ []) [] [] (since-take node4-kind (w .heap) (since-start (w .heap)) T) in
-                let Z3 = fork-since (pathOf xs ++ P .parted .w) [] place4 old taken-row G refl room-leaf (P .legal) (begins-here k (pathOf xs) (P .word) (P .parted)) Z2
+                let Z3 = fork-since (pathOf xs ++ P .parted .w) [] place4 old taken-row G refl room-leaf (P .legal) (begins-here E k (pathOf xs) (P .word) (P .parted)) Z2
                 (λ a. omega (arith, split-sum (cover a))) in
                 let Z4 = raised-since Y Z3 (λ a. omega (arith, sum-cons (cover a) b1 row-bs, split-sum (cover a))) in
                 record {
@@ -222,8 +223,9 @@ module _ {f : List ℕ} {st : State} {w : Stands edition1 f st} {k : List ℕ} {
                     raised-marks Y (is x),
                     fork-marks (is x) (pathOf xs ++ P .parted .w) m place4 (P .parted .b) new (P .parted .c) old,
                   ));
+                  last = λ q. last-leaf (pathOf xs) n o e k' v' (marks (pathOf xs) (Y .lay));
                   look = Y .look k d (P .parted .b ∷ P .parted .s) deep
-                      ∙ fork-look k (d + length (P .parted .w)) m place4 (P .parted .b) new (P .parted .c) old (byte-here k (pathOf xs) (P .word) (P .parted)) (P .parted .apart)
-                      ∙ leaf-look edition1 (G .leaf) (placeFrom view2 (listOf view2 Leaf)) (taken view2 Leaf .nums .B) k v (d + length (P .parted .w) + 1);
+                      ∙ fork-look E k (d + length (P .parted .w)) m place4 (P .parted .b) new (P .parted .c) old (byte-here E k (pathOf xs) (P .word) (P .parted)) (P .parted .apart)
+                      ∙ leaf-look E (G .leaf) (placeFrom view2 (listOf view2 Leaf)) (taken view2 Leaf .nums .B) k v (d + length (P .parted .w) + 1);
                   fromB = λ z. from-all h0 many k v e8;
                 }

@@ -1,12 +1,12 @@
 -- One law for each way that the seek goes in a frame. Assumes nothing.
-use Prim.Native.Nat.{ℕ, suc, _+_, _≤_}
+use Prim.Native.Nat.{ℕ, suc, _+_, _<_, _≤_}
 use native.Mathlib.Omega.{arith}
 use mathlib.Core.Path.{_≡_, refl, sym, ap, _∙_}
 use mathlib.Core.List.{List, [], _∷_, _++_, append-assoc}
 use mathlib.Core.Option.{none}
 use lib.ListN.{length, length-append, drop, take-append-drop}
 use Rattle.layout.specs.Number.{Bytes}
-use Rattle.model.specs.Edition.{edition1}
+use Rattle.model.specs.Edition.{Edition, Lawful}
 use Rattle.model.specs.Body.{Asc, lookKid}
 use Rattle.model.specs.Frame.{Lay, LayKids, slotOf, pairs, Tree, Trees}
 use Rattle.model.specs.Frame.Lay.{leaf, prefix, node}
@@ -22,43 +22,43 @@ use Rattle.seek.proofs.DownLaws.{tree-full, first-append}
 
 -- ---- keys go on from the path that leads to their Leaf
 
-shorter : (path p k : List ℕ) → From edition1 (path ++ p) k → From edition1 path k
-shorter path p k h = (p ++ h .0, h .1 ∙ append-assoc path p (h .0))
+shorter : (E : Edition) (path p k : List ℕ) → From E (path ++ p) k → From E path k
+shorter E path p k h = (p ++ h .0, h .1 ∙ append-assoc path p (h .0), h .2)
 
 mutual
   unfolding Tree Trees
 
-  pub tree-under : (f path : List ℕ) (l : Lay) → Tree edition1 f path l → Under edition1 path l
-  tree-under f path (leaf s o e k v) T =
-      let w = edition1 .walked k in
-      ((drop (length path) w, sym (take-append-drop (length path) w) ∙ ap (λ (x : List ℕ). x ++ drop (length path) w) (T .1 .begins)), tt)
-  tree-under f path (prefix s o p l) T = all-map (From edition1 (path ++ p)) (From edition1 path) (λ k h. shorter path p k h) (leaves l) (tree-under f (path ++ p) l (T .3))
-  tree-under f path (node s o kind ks) T = trees-under f path ks (T .2)
+  pub tree-under : (E : Edition) (f path : List ℕ) (l : Lay) → Tree E f path l → Under E path l
+  tree-under E f path (leaf s o e k v) T =
+      let w = E .walked k in
+      ((drop (length path) w, sym (take-append-drop (length path) w) ∙ ap (λ (x : List ℕ). x ++ drop (length path) w) (T .1 .begins), T .1 .legal), tt)
+  tree-under E f path (prefix s o p l) T = all-map (From E (path ++ p)) (From E path) (λ k h. shorter E path p k h) (leaves l) (tree-under E f (path ++ p) l (T .3))
+  tree-under E f path (node s o kind ks) T = trees-under E f path ks (T .2)
 
-  pub trees-under : (f path : List ℕ) (ks : LayKids) → Trees edition1 f path ks → AllL (From edition1 path) (leavesAll ks)
-  trees-under f path nil T = tt
-  trees-under f path (kid b j l ks) T =
-      all-append (From edition1 path) (leaves l) (leavesAll ks)
-      (all-map (From edition1 (path ++ b ∷ [])) (From edition1 path) (λ k h. shorter path (b ∷ []) k h) (leaves l) (tree-under f (path ++ b ∷ []) l (T .0)))
-      (trees-under f path ks (T .1))
+  pub trees-under : (E : Edition) (f path : List ℕ) (ks : LayKids) → Trees E f path ks → AllL (From E path) (leavesAll ks)
+  trees-under E f path nil T = tt
+  trees-under E f path (kid b j l ks) T =
+      all-append (From E path) (leaves l) (leavesAll ks)
+      (all-map (From E (path ++ b ∷ [])) (From E path) (λ k h. shorter E path (b ∷ []) k h) (leaves l) (tree-under E f (path ++ b ∷ []) l (T .0)))
+      (trees-under E f path ks (T .1))
 
 -- the children of a node, bytes ascending
-pub trees-kept : (f path : List ℕ) (lo : ℕ) (ks : LayKids) → Asc lo (pairs ks) → Trees edition1 f path ks → Kept edition1 path lo ks
+pub trees-kept : (E : Edition) (f path : List ℕ) (lo : ℕ) (ks : LayKids) → Asc lo (pairs ks) → Trees E f path ks → Kept E path lo ks
 unfolding Trees pairs Asc
-trees-kept f path lo nil A T = tt
-trees-kept f path lo (kid b j l ks) A T = (A .0, tree-under f (path ++ b ∷ []) l (T .0), trees-kept f path (suc b) ks (A .3) (T .1))
+trees-kept E f path lo nil A T = tt
+trees-kept E f path lo (kid b j l ks) A T = (A .0, tree-under E f (path ++ b ∷ []) l (T .0), trees-kept E f path (suc b) ks (A .3) (T .1))
 
 -- ---- a node's children: the first from a byte on, and the one of a byte
 
-pub record KidAt (f path : List ℕ) (c d : ℕ) (xs : List Leafy) : Type 0 where
+pub record KidAt (E : Edition) (f path : List ℕ) (c d : ℕ) (xs : List Leafy) : Type 0 where
   pub byte : ℕ
-  pub sub : Sub f c (d + 1)
+  pub sub : Sub E f c (d + 1)
   pub pathIs : sub .path ≡ path ++ byte ∷ []
   pub leavesAre : xs ≡ leaves (sub .lay)
 
-module _ (f path : List ℕ) (d : ℕ) (B : Bytes f) (D : length path ≡ d) where
-  abbrev sub-of : (b : ℕ) (l : Lay) → Tree edition1 f (path ++ b ∷ []) l → Inside f l → Sub f (slotOf l) (d + 1)
-  sub-of b l T I = record { lay = l; path = path ++ b ∷ []; tree = T; slotIs = refl; inside = I; bytes = B; deep = omega (arith, length-append path (b ∷ [])) }
+module _ (E : Edition) (L : Lawful E) (f path : List ℕ) (d : ℕ) (B : Bytes f) (D : length path ≡ d) (deep : d < E .longest) where
+  abbrev sub-of : (b : ℕ) (l : Lay) → Tree E f (path ++ b ∷ []) l → Inside f l → Sub E f (slotOf l) (d + 1)
+  sub-of b l T I = record { lawful = L; lay = l; path = path ++ b ∷ []; tree = T; slotIs = refl; inside = I; bytes = B; deep = omega (arith, length-append path (b ∷ [])); short = omega arith }
 
   pub kids-none : (lo x : ℕ) (ks : LayKids) → Asc lo (pairs ks) → nextKid x (pairs ks) .0 ≡ 256 → firstOf (leavesAll (kidsFrom x ks)) ≡ none
   unfolding pairs Asc nextKid
@@ -67,22 +67,22 @@ module _ (f path : List ℕ) (d : ℕ) (B : Bytes f) (D : length path ≡ d) whe
       (λ t o. rw t (kids-none (suc b) x ks (A .3) (rw t at e)))
       (λ t o. let z : b ≡ 256 = rw t at e in let y = A .1 in absurd (omega arith))
 
-  pub kids-some : (lo x : ℕ) (ks : LayKids) → Asc lo (pairs ks) → Trees edition1 f path ks → InsideAll f ks → (nextKid x (pairs ks) .0 ≡ 256 → ⊥)
-      → (S : Sub f (nextKid x (pairs ks) .1) (d + 1)) × (firstOf (leavesAll (kidsFrom x ks)) ≡ firstOf (leaves (S .lay)))
+  pub kids-some : (lo x : ℕ) (ks : LayKids) → Asc lo (pairs ks) → Trees E f path ks → InsideAll f ks → (nextKid x (pairs ks) .0 ≡ 256 → ⊥)
+      → (S : Sub E f (nextKid x (pairs ks) .1) (d + 1)) × (firstOf (leavesAll (kidsFrom x ks)) ≡ firstOf (leaves (S .lay)))
   unfolding pairs Asc nextKid Trees InsideAll
   kids-some lo x nil A T I e = absurd (e refl)
   kids-some lo x (kid b j l ks) A T I e = ltb-cases b x
       (λ t o. rw t (kids-some (suc b) x ks (A .3) (T .1) (I .1) (rw t at e)))
-      (λ t o. rw t (sub-of b l (T .0) (I .0), first-append (leaves l) (leavesAll ks) (tree-full f (path ++ b ∷ []) l (T .0))))
+      (λ t o. rw t (sub-of b l (T .0) (I .0), first-append (leaves l) (leavesAll ks) (tree-full E f (path ++ b ∷ []) l (T .0))))
 
-  pub kid-gone : (x : ℕ) (ks : LayKids) → Trees edition1 f path ks → InsideAll f ks → orZero (lookKid x (pairs ks)) ≡ 0 → leavesAt x ks ≡ []
+  pub kid-gone : (x : ℕ) (ks : LayKids) → Trees E f path ks → InsideAll f ks → orZero (lookKid x (pairs ks)) ≡ 0 → leavesAt x ks ≡ []
   unfolding pairs lookKid Trees InsideAll
   kid-gone x nil T I e = refl
   kid-gone x (kid b j l ks) T I e = eqb-cases b x
       (λ t q. let z : slotOf l ≡ 0 = rw t at e in let y = slot-in f (slotOf l) l (I .0) refl .first in absurd (omega arith))
       (λ t n. rw t (kid-gone x ks (T .1) (I .1) (rw t at e)))
 
-  pub kid-there : (x : ℕ) (ks : LayKids) → Trees edition1 f path ks → InsideAll f ks → 1 ≤ orZero (lookKid x (pairs ks)) → (S : Sub f (orZero (lookKid x (pairs ks))) (d + 1)) × (S .path ≡ path ++ x ∷ []) × (leavesAt x ks ≡ leaves (S .lay))
+  pub kid-there : (x : ℕ) (ks : LayKids) → Trees E f path ks → InsideAll f ks → 1 ≤ orZero (lookKid x (pairs ks)) → (S : Sub E f (orZero (lookKid x (pairs ks))) (d + 1)) × (S .path ≡ path ++ x ∷ []) × (leavesAt x ks ≡ leaves (S .lay))
   unfolding pairs lookKid Trees InsideAll
   kid-there x nil T I e = absurd (omega arith)
   kid-there x (kid b j l ks) T I e = eqb-cases b x

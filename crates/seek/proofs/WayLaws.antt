@@ -14,25 +14,26 @@ use Rattle.layout.specs.Number.{le}
 use Rattle.layout.specs.Place.{prefixChild, prefixLength, prefixBytes}
 use Rattle.layout.specs.Kind.{Leaf, Prefix}
 use Rattle.layout.specs.Entry.{highOf, placeOf}
-use Rattle.model.specs.Edition.{edition1}
+use Rattle.model.specs.Edition.{Edition}
 use Rattle.model.specs.Body.{InnerAt, Asc, lookKid, LeafAt, PrefixAt}
 use Rattle.model.specs.Frame.{Lay, LayKids, slotOf, pairs, Tree, Trees}
 use Rattle.model.specs.Frame.Lay.{leaf, prefix, node}
 use Rattle.model.proofs.StringLaws.{bool-cases, clash}
-use Rattle.model.proofs.OneBody.{below-short}
+use Rattle.model.proofs.StandsGood.{bytes-text}
 use Rattle.model.proofs.UniqueLaws.{tree-unique}
 use Rattle.node.specs.Kids.{nextKid, orZero}
+use Rattle.keys.proofs.KeyLaws.{text-part}
 use Rattle.listing.specs.Seek.{Leafy, leaves, leavesAll, weigh, reach, firstFrom, firstOf, orElse, kidsFrom, leavesAt, Kept}
 use Rattle.listing.proofs.SeekLaws.{weigh-append, weigh-byte, seek-above, seek-below, node-tail, node-byte}
 use Rattle.seek.specs.declared.Spare.{Spare}
 use Rattle.seek.specs.declared.Sought.{Sought}
 use Rattle.inside.specs.Inside.{Inside, InsideAll}
 use Rattle.inside.proofs.InsideLaws.{entry-at}
-use Rattle.audit.proofs.TreeLaws.{node-short}
+use Rattle.audit.proofs.TreeLaws.{below-short, node-short}
 use Rattle.seek.specs.Sub.{Sub}
-use Rattle.seek.specs.Seek.{Fallback, Falls, Is, SoughtAt, Seeking, Nearer, LeafSome}
+use Rattle.seek.specs.Seek.{Fallback, Falls, Is, SoughtAt, Guided, Seeking, Nearer, LeafSome}
 use Rattle.seek.proofs.DownLaws.{Full, tree-full, sub-slot}
-use Rattle.seek.proofs.LeafLaws.{text-part, weigh-most}
+use Rattle.seek.proofs.LeafLaws.{key-there, weigh-most}
 use Rattle.seek.proofs.SeekLaws.{tree-under, trees-kept, kids-none, kids-some, kid-gone, kid-there}
 
 -- ---- choices
@@ -56,68 +57,69 @@ open-short (b ∷ g) t (x ∷ p) e = bool-cases (ltb b x)
     (λ u. let z : _≡_ {A = ℕ} 2 1 = rw u at e in absurd (omega arith))
     (λ u. bool-cases (eqb b x) (λ v. let n = open-short g t p (rw (u, v) at e) in omega arith) (λ v. let z : _≡_ {A = ℕ} 0 1 = rw (u, v) at e in absurd (omega arith)))
 
-pub start : {f : List ℕ} (g : List ℕ) (t : ℕ) {s : ℕ} → Sub f s 0 → Seeking f g t s s 0 (record { slot = 0; depth = 0 })
-start {f} g t {s} S =
+pub start : {E : Edition} {f : List ℕ} (g w : List ℕ) (t : ℕ) {s : ℕ} → Guided E f g w t s → Seeking E f g w t s s 0 (record { slot = 0; depth = 0 })
+start {E} {f} g w t {s} P =
+    let S = P .sub in
     let e : S .path ≡ [] = empty (S .path) (S .deep) in
     record {
       sub = S;
-      short = omega arith;
+      guides = P .guides;
       undecided = rw e;
       spare = none;
-      falls = record { without = λ h. refl; sub = λ h. absurd (omega arith); short = omega arith; first = λ h. absurd (omega arith) };
-      whole = λ path l T q. ap (λ (x : Lay). firstFrom edition1 g t (leaves x)) (tree-unique edition1 f path (S .path) l (S .lay) T (S .tree) (q ∙ sym (S .slotIs))) ∙ sym (or-none (firstFrom edition1 g t (leaves (S .lay))));
+      falls = record { without = λ h. refl; sub = λ h. absurd (omega arith); first = λ h. absurd (omega arith) };
+      whole = λ path l T q. ap (λ (x : Lay). firstFrom g t (leaves x)) (tree-unique E f path (S .path) l (S .lay) T (S .tree) (q ∙ sym (S .slotIs))) ∙ sym (or-none (firstFrom g t (leaves (S .lay))));
     }
   where
     empty : (p : List ℕ) → length p ≡ 0 → p ≡ []
     empty [] h = refl
     empty (x ∷ p) h = absurd (omega arith)
 
-module _ {f g : List ℕ} {t s s' d : ℕ} {p : Spare} (K : Seeking f g t s s' d p) where
-  pub spare-falls : Falls f p
+module _ {E : Edition} {f g w : List ℕ} {t s s' d : ℕ} {p : Spare} (K : Seeking E f g w t s s' d p) where
+  pub spare-falls : Falls E f p
   spare-falls = record { leafy = K .spare; fallback = K .falls }
 
   as-is : (x y : Option Leafy) {r : Sought} → x ≡ y → Is y r → Is x r
   as-is x y e h = rw e h
 
   -- nothing in this tree
-  pub fell : {r : Sought} → firstFrom edition1 g t (leaves (K .sub .lay)) ≡ none → Is (K .spare) r → SoughtAt f g t s r
-  fell e h path l T q = as-is (firstFrom edition1 g t (leaves l)) (K .spare) (K .whole path l T q ∙ rw e) h
+  pub fell : {r : Sought} → firstFrom g t (leaves (K .sub .lay)) ≡ none → Is (K .spare) r → SoughtAt E f g t s r
+  fell e h path l T q = as-is (firstFrom g t (leaves l)) (K .spare) (K .whole path l T q ∙ rw e) h
 
   -- all of this tree
-  pub this-falls : Fallback f (record { slot = s'; depth = d }) (firstOf (leaves (K .sub .lay)))
+  pub this-falls : Fallback E f (record { slot = s'; depth = d }) (firstOf (leaves (K .sub .lay)))
   this-falls =
       let n = sub-slot (K .sub) .0 in
-      record { without = λ h. absurd (omega arith); sub = λ h. K .sub; short = K .short; first = λ h. refl }
+      record { without = λ h. absurd (omega arith); sub = λ h. K .sub; first = λ h. refl }
 
-  pub stood : {r : Sought} → firstFrom edition1 g t (leaves (K .sub .lay)) ≡ firstOf (leaves (K .sub .lay)) → Is (firstOf (leaves (K .sub .lay))) r → SoughtAt f g t s r
+  pub stood : {r : Sought} → firstFrom g t (leaves (K .sub .lay)) ≡ firstOf (leaves (K .sub .lay)) → Is (firstOf (leaves (K .sub .lay))) r → SoughtAt E f g t s r
   stood e h path l T q =
-      as-is (firstFrom edition1 g t (leaves l)) (firstOf (leaves (K .sub .lay)))
-      (K .whole path l T q ∙ rw e (or-full (leaves (K .sub .lay)) (K .spare) (tree-full f (K .sub .path) (K .sub .lay) (K .sub .tree)))) h
+      as-is (firstFrom g t (leaves l)) (firstOf (leaves (K .sub .lay)))
+      (K .whole path l T q ∙ rw e (or-full (leaves (K .sub .lay)) (K .spare) (tree-full E f (K .sub .path) (K .sub .lay) (K .sub .tree)))) h
 
   -- ---- a Leaf
 
   module _ {o : ℕ} (h : highOf f s' ≡ Leaf) (q : placeOf f s' ≡ o) where
-    leaf-case : (path : List ℕ) (l : Lay) → Inside f l → Tree edition1 f path l → slotOf l ≡ s' → (L : LeafSome f o) × (leaves l ≡ record { place = o; key = L .key } ∷ [])
+    leaf-case : (path : List ℕ) (l : Lay) → Inside f l → Tree E f path l → slotOf l ≡ s' → (L : LeafSome E f o) × (leaves l ≡ record { place = o; key = L .key } ∷ [])
     unfolding Tree Inside
     leaf-case path (leaf s1 o' e k v) I T i =
         let z = entry-at f s1 s' Leaf Leaf o' o i h q (T .0) .1 in
-        (record { extent = e; key = k; value = v; at = rw z at (T .1 .at); room = rw z at (I .1) }, ap (λ (y : ℕ). record { place = y; key = k } ∷ []) z)
+        (record { extent = e; key = k; value = v; at = rw z at (T .1 .at); room = rw z at (I .1); legal = record { passes = T .1 .legal; bytes = bytes-text f e k (K .sub .bytes) (key-there (T .1 .at)) } }, ap (λ (y : ℕ). record { place = y; key = k } ∷ []) z)
     leaf-case path (prefix s1 o' b l) I T i = absurd (omega (arith, entry-at f s1 s' Prefix Leaf o' o i h q (T .0) .0))
     leaf-case path (node s1 o' kind ks) I T i = absurd (omega (arith, entry-at f s1 s' kind Leaf o' o i h q (T .0) .0, T .1 .inner .range))
 
-    leaf-is : (L : LeafSome f o) × (leaves (K .sub .lay) ≡ record { place = o; key = L .key } ∷ [])
+    leaf-is : (L : LeafSome E f o) × (leaves (K .sub .lay) ≡ record { place = o; key = L .key } ∷ [])
     leaf-is = leaf-case (K .sub .path) (K .sub .lay) (K .sub .inside) (K .sub .tree) (K .sub .slotIs)
 
-    pub leaf-some : LeafSome f o
+    pub leaf-some : LeafSome E f o
     leaf-some = leaf-is .0
 
-    pub leaf-hit : ((e : ℕ) (k v : List ℕ) → LeafAt f o e k v → true ≡ reach edition1 g t k) → SoughtAt f g t s (record { found = true; place = o })
+    pub leaf-hit : ((e : ℕ) (k v : List ℕ) → LeafAt f o e k v → true ≡ reach g t k) → SoughtAt E f g t s (record { found = true; place = o })
     leaf-hit H =
         let L = leaf-is .0 in
         let r = H (L .extent) (L .key) (L .value) (L .at) in
         stood (rw (leaf-is .1, ← r)) (record { there = λ _. record { leaf = record { place = o; key = L .key }; is = rw (leaf-is .1); place = refl }; gone = λ z. clash (cc) })
 
-    pub leaf-miss : {r : Sought} → ((e : ℕ) (k v : List ℕ) → LeafAt f o e k v → false ≡ reach edition1 g t k) → Is (K .spare) r → SoughtAt f g t s r
+    pub leaf-miss : {r : Sought} → ((e : ℕ) (k v : List ℕ) → LeafAt f o e k v → false ≡ reach g t k) → Is (K .spare) r → SoughtAt E f g t s r
     leaf-miss H i =
         let L = leaf-is .0 in
         let r = H (L .extent) (L .key) (L .value) (L .at) in
@@ -129,13 +131,13 @@ module _ {f g : List ℕ} {t s s' d : ℕ} {p : Spare} (K : Seeking f g t s s' d
     pub bytes : List ℕ
     pub below : Lay
     pub at : PrefixAt f o bytes (slotOf below)
-    pub tree : Tree edition1 f (K .sub .path ++ bytes) below
+    pub tree : Tree E f (K .sub .path ++ bytes) below
     pub inside : Inside f below
     pub leavesAre : leaves (K .sub .lay) ≡ leaves below
-    pub short : length (K .sub .path ++ bytes) ≤ 112
+    pub short : length (K .sub .path ++ bytes) < E .longest
 
   module _ {o : ℕ} (h : highOf f s' ≡ Prefix) (q : placeOf f s' ≡ o) where
-    prefix-case : (l : Lay) → l ≡ K .sub .lay → Inside f l → Tree edition1 f (K .sub .path) l → slotOf l ≡ s' → AtPrefix o
+    prefix-case : (l : Lay) → l ≡ K .sub .lay → Inside f l → Tree E f (K .sub .path) l → slotOf l ≡ s' → AtPrefix o
     unfolding Tree Inside
     prefix-case (leaf s1 o' e k v) u I T i = absurd (omega (arith, entry-at f s1 s' Leaf Prefix o' o i h q (T .0) .0))
     prefix-case (prefix s1 o' b l) u I T i =
@@ -147,7 +149,7 @@ module _ {f g : List ℕ} {t s s' d : ℕ} {p : Spare} (K : Seeking f g t s s' d
           tree = T .3;
           inside = I .1;
           leavesAre = sym (ap leaves u);
-          short = below-short f (K .sub .path ++ b) b l (K .sub .bytes) (T .2) (T .3);
+          short = below-short (K .sub .lawful) f (K .sub .path ++ b) b l (K .sub .bytes) (T .2) (T .3);
         }
     prefix-case (node s1 o' kind ks) u I T i = absurd (omega (arith, entry-at f s1 s' kind Prefix o' o i h q (T .0) .0, T .1 .inner .range))
 
@@ -161,39 +163,41 @@ module _ {f g : List ℕ} {t s s' d : ℕ} {p : Spare} (K : Seeking f g t s s' d
       long : n ≡ length (at-prefix .bytes)
       long = en ∙ at-prefix .at .long
 
-      pub prefix-fits : (n ≤ 112) × (d ≤ 112) × (d + n ≤ 112) × (d ≤ length g)
+      pub prefix-fits : (n ≤ 112) × (d ≤ 512) × (d + n ≤ 512) × (d ≤ length w)
       prefix-fits =
           let m = at-prefix .at .most in let a = at-prefix .short in let e = K .sub .deep in let l = long in
-          let w = open-short g t (K .sub .path) (K .undecided) in
+          let u = open-short w t (K .sub .path) (K .undecided) in
+          let f = K .sub .lawful .fields .words in
           (omega arith, omega (arith, length-append (K .sub .path) (at-prefix .bytes)), omega (arith, length-append (K .sub .path) (at-prefix .bytes)), omega arith)
 
       pub prefix-some : 1 ≤ n
       prefix-some = let m = at-prefix .at .some in let l = long in omega arith
 
-      module _ {w : ℕ} (ew : w ≡ weigh (drop d g) t (take n (drop (o + prefixBytes) f))) where
+      module _ {v : ℕ} (ev : v ≡ weigh (drop d w) t (take n (drop (o + prefixBytes) f))) where
         text-is : take n (drop (o + prefixBytes) f) ≡ at-prefix .bytes
         text-is =
             let r = at-prefix .at .room in let m = at-prefix .at .most in
             rw long (text-part f (o + prefixBytes) (at-prefix .bytes) (omega arith) (at-prefix .at .text))
 
-        weighs : weigh g t (K .sub .path ++ at-prefix .bytes) ≡ w
-        weighs = weigh-append g t (K .sub .path) (at-prefix .bytes) ∙ rw (K .undecided, K .sub .deep, ← text-is, ← ew)
+        weighs : weigh w t (K .sub .path ++ at-prefix .bytes) ≡ v
+        weighs = weigh-append w t (K .sub .path) (at-prefix .bytes) ∙ rw (K .undecided, K .sub .deep, ← text-is, ← ev)
 
-        pub prefix-above : {r : Sought} → w ≡ 2 → Is (firstOf (leaves (K .sub .lay))) r → SoughtAt f g t s r
+        pub prefix-above : {r : Sought} → v ≡ 2 → Is (firstOf (leaves (K .sub .lay))) r → SoughtAt E f g t s r
         prefix-above e i =
-            stood (rw (at-prefix .leavesAre) (seek-above edition1 g t (K .sub .path ++ at-prefix .bytes) (at-prefix .below) (weighs ∙ e) (tree-under f (K .sub .path ++ at-prefix .bytes) (at-prefix .below) (at-prefix .tree)))) i
+            stood (rw (at-prefix .leavesAre) (seek-above (K .guides) (K .sub .path ++ at-prefix .bytes) (at-prefix .below) (weighs ∙ e) (tree-under E f (K .sub .path ++ at-prefix .bytes) (at-prefix .below) (at-prefix .tree)))) i
 
-        pub prefix-below : {r : Sought} → w ≡ 0 → Is (K .spare) r → SoughtAt f g t s r
+        pub prefix-below : {r : Sought} → v ≡ 0 → Is (K .spare) r → SoughtAt E f g t s r
         prefix-below e i =
-            fell (rw (at-prefix .leavesAre) (seek-below edition1 g t (K .sub .path ++ at-prefix .bytes) (at-prefix .below) (weighs ∙ e) (tree-under f (K .sub .path ++ at-prefix .bytes) (at-prefix .below) (at-prefix .tree)))) i
+            fell (rw (at-prefix .leavesAre) (seek-below (K .guides) (K .sub .path ++ at-prefix .bytes) (at-prefix .below) (weighs ∙ e) (tree-under E f (K .sub .path ++ at-prefix .bytes) (at-prefix .below) (at-prefix .tree)))) i
 
-        pub prefix-on : {c : ℕ} → c ≡ le 4 f (o + prefixChild) → (w ≡ 2 → ⊥) → (w ≡ 0 → ⊥) → Seeking f g t s c (d + n) p
+        pub prefix-on : {c : ℕ} → c ≡ le 4 f (o + prefixChild) → (v ≡ 2 → ⊥) → (v ≡ 0 → ⊥) → Seeking E f g w t s c (d + n) p
         prefix-on {c} ec no2 no0 =
-            let most : w ≤ 2 = rw (← ew) at (weigh-most (drop d g) t (take n (drop (o + prefixBytes) f))) in
-            let e : w ≡ 1 = omega arith in
+            let most : v ≤ 2 = rw (← ev) at (weigh-most (drop d w) t (take n (drop (o + prefixBytes) f))) in
+            let e : v ≡ 1 = omega arith in
             let a = at-prefix .short in let l = long in let z = K .sub .deep in
             record {
               sub = record {
+                lawful = K .sub .lawful;
                 lay = at-prefix .below;
                 path = K .sub .path ++ at-prefix .bytes;
                 tree = at-prefix .tree;
@@ -201,8 +205,9 @@ module _ {f g : List ℕ} {t s s' d : ℕ} {p : Spare} (K : Seeking f g t s s' d
                 inside = at-prefix .inside;
                 bytes = K .sub .bytes;
                 deep = omega (arith, length-append (K .sub .path) (at-prefix .bytes));
+                short = omega (arith, length-append (K .sub .path) (at-prefix .bytes));
               };
-              short = omega (arith, length-append (K .sub .path) (at-prefix .bytes));
+              guides = K .guides;
               undecided = weighs ∙ e;
               spare = K .spare;
               falls = K .falls;
@@ -215,20 +220,20 @@ module _ {f g : List ℕ} {t s s' d : ℕ} {p : Spare} (K : Seeking f g t s s' d
     pub kids : LayKids
     pub inner : InnerAt f o kind (pairs kids)
     pub asc : Asc 0 (pairs kids)
-    pub trees : Trees edition1 f (K .sub .path) kids
+    pub trees : Trees E f (K .sub .path) kids
     pub inside : InsideAll f kids
     pub leavesAre : leaves (K .sub .lay) ≡ leavesAll kids
-    pub short : d ≤ 112
+    pub short : d < E .longest
 
   module _ {o kind : ℕ} (ek : kind ≡ highOf f s') (x : kind ≡ Leaf → ⊥) (y : kind ≡ Prefix → ⊥) (q : placeOf f s' ≡ o) where
-    node-case : (l : Lay) → l ≡ K .sub .lay → Inside f l → Tree edition1 f (K .sub .path) l → slotOf l ≡ s' → AtNode o kind
+    node-case : (l : Lay) → l ≡ K .sub .lay → Inside f l → Tree E f (K .sub .path) l → slotOf l ≡ s' → AtNode o kind
     unfolding Tree Inside
     node-case (leaf s1 o' e k v) u I T i = absurd (x (ek ∙ rw i at (T .0 .kindIs)))
     node-case (prefix s1 o' b l) u I T i = absurd (y (ek ∙ rw i at (T .0 .kindIs)))
     node-case (node s1 o' kind' ks) u I T i =
         let z = entry-at f s1 s' kind' kind o' o i (sym ek) q (T .0) in
         let A : InnerAt f o kind (pairs ks) = rw (z .0, z .1) at (T .1 .inner) in
-        let m = node-short f (K .sub .path) (node s1 o' kind' ks) (K .sub .bytes) tt T in
+        let m = node-short (K .sub .lawful) f (K .sub .path) (node s1 o' kind' ks) (K .sub .bytes) tt T in
         let e = K .sub .deep in
         record { kids = ks; inner = A; asc = rising A; trees = T .2; inside = I .1; leavesAre = sym (ap leaves u); short = omega arith }
       where
@@ -247,67 +252,65 @@ module _ {f g : List ℕ} {t s s' d : ℕ} {p : Spare} (K : Seeking f g t s s' d
     pub at-node : AtNode o kind
     at-node = node-case (K .sub .lay) refl (K .sub .inside) (K .sub .tree) (K .sub .slotIs)
 
-    abbrev kept : Kept edition1 (K .sub .path) 0 (at-node .kids)
-    kept = trees-kept f (K .sub .path) 0 (at-node .kids) (at-node .asc) (at-node .trees)
+    abbrev kept : Kept E (K .sub .path) 0 (at-node .kids)
+    kept = trees-kept E f (K .sub .path) 0 (at-node .kids) (at-node .asc) (at-node .trees)
 
     -- the first child from a byte on, or what there was
-    pub nearer-falls : {r : Spare} (lo : ℕ) → Nearer f o kind lo d p r → Fallback f r (orElse (firstOf (leavesAll (kidsFrom lo (at-node .kids)))) (K .spare))
+    pub nearer-falls : {r : Spare} (lo : ℕ) → Nearer f o kind lo d p r → Fallback E f r (orElse (firstOf (leavesAll (kidsFrom lo (at-node .kids)))) (K .spare))
     nearer-falls {r} lo N = elim (ℕ-discrete (nextKid lo (pairs (at-node .kids)) .0) 256) [
       | yes e ↦
           let z = N .lacking (pairs (at-node .kids)) (at-node .inner) e in
-          rw (kids-none f (K .sub .path) d (K .sub .bytes) (K .sub .deep) 0 lo (at-node .kids) (at-node .asc) e, z) (K .falls)
+          rw (kids-none E (K .sub .lawful) f (K .sub .path) d (K .sub .bytes) (K .sub .deep) (at-node .short) 0 lo (at-node .kids) (at-node .asc) e, z) (K .falls)
       | no e ↦
           let z = N .having (pairs (at-node .kids)) (at-node .inner) e in
-          let S = kids-some f (K .sub .path) d (K .sub .bytes) (K .sub .deep) 0 lo (at-node .kids) (at-node .asc) (at-node .trees) (at-node .inside) e in
+          let S = kids-some E (K .sub .lawful) f (K .sub .path) d (K .sub .bytes) (K .sub .deep) (at-node .short) 0 lo (at-node .kids) (at-node .asc) (at-node .trees) (at-node .inside) e in
           let n = sub-slot (S .0) .0 in
           let m = at-node .short in
           let a = z .0 in let b = z .1 in
-          let S' : Sub f (r .slot) (r .depth) = rw (a, b) (S .0) in
-          let F : firstOf (leaves (S .0 .lay)) ≡ firstOf (leaves (S' .lay)) = ap (λ (y : Lay). firstOf (leaves y)) (tree-unique edition1 f (S .0 .path) (S' .path) (S .0 .lay) (S' .lay) (S .0 .tree) (S' .tree) (S .0 .slotIs ∙ sym a ∙ sym (S' .slotIs))) in
+          let S' : Sub E f (r .slot) (r .depth) = rw (a, b) (S .0) in
+          let F : firstOf (leaves (S .0 .lay)) ≡ firstOf (leaves (S' .lay)) = ap (λ (y : Lay). firstOf (leaves y)) (tree-unique E f (S .0 .path) (S' .path) (S .0 .lay) (S' .lay) (S .0 .tree) (S' .tree) (S .0 .slotIs ∙ sym a ∙ sym (S' .slotIs))) in
           record {
             without = λ h. absurd (omega arith);
             sub = λ h. S';
-            short = omega arith;
-            first = λ h. rw (S .1) (or-full (leaves (S .0 .lay)) (K .spare) (tree-full f (S .0 .path) (S .0 .lay) (S .0 .tree)) ∙ F);
+            first = λ h. rw (S .1) (or-full (leaves (S .0 .lay)) (K .spare) (tree-full E f (S .0 .path) (S .0 .lay) (S .0 .tree)) ∙ F);
           }
     ]
 
     -- the bound ends here
-    pub node-end : {r : Sought} → length g ≤ d → Is (orElse (firstOf (leavesAll (kidsFrom t (at-node .kids)))) (K .spare)) r → SoughtAt f g t s r
+    pub node-end : {r : Sought} → length w ≤ d → Is (orElse (firstOf (leavesAll (kidsFrom t (at-node .kids)))) (K .spare)) r → SoughtAt E f g t s r
     node-end {r} e i path l T j =
-        let w = drop-of-length-le g {i = length (K .sub .path)} (let z = K .sub .deep in omega arith) in
-        as-is (firstFrom edition1 g t (leaves l)) (orElse (firstOf (leavesAll (kidsFrom t (at-node .kids)))) (K .spare))
-        (K .whole path l T j ∙ rw (at-node .leavesAre, node-tail edition1 g t (K .sub .path) (K .undecided) 0 (at-node .kids) kept w)) i
+        let z = drop-of-length-le w {i = length (K .sub .path)} (let y = K .sub .deep in omega arith) in
+        as-is (firstFrom g t (leaves l)) (orElse (firstOf (leavesAll (kidsFrom t (at-node .kids)))) (K .spare))
+        (K .whole path l T j ∙ rw (at-node .leavesAre, node-tail (K .guides) (K .sub .path) (K .undecided) 0 (at-node .kids) kept z)) i
 
-    module _ (e : d < length g) where
-      next-byte : drop (length (K .sub .path)) g ≡ getD g d 0 ∷ drop (suc d) g
-      next-byte = rw (K .sub .deep) (drop-cons g d 0 e)
+    module _ (e : d < length w) where
+      next-byte : drop (length (K .sub .path)) w ≡ getD w d 0 ∷ drop (suc d) w
+      next-byte = rw (K .sub .deep) (drop-cons w d 0 e)
 
-      split : (path : List ℕ) (l : Lay) → Tree edition1 f path l → slotOf l ≡ s → firstFrom edition1 g t (leaves l)
-          ≡ orElse (firstFrom edition1 g t (leavesAt (getD g d 0) (at-node .kids))) (orElse (firstOf (leavesAll (kidsFrom (suc (getD g d 0)) (at-node .kids)))) (K .spare))
+      split : (path : List ℕ) (l : Lay) → Tree E f path l → slotOf l ≡ s → firstFrom g t (leaves l)
+          ≡ orElse (firstFrom g t (leavesAt (getD w d 0) (at-node .kids))) (orElse (firstOf (leavesAll (kidsFrom (suc (getD w d 0)) (at-node .kids)))) (K .spare))
       split path l T j =
           K .whole path l T j
-          ∙ rw (at-node .leavesAre, node-byte edition1 g t (K .sub .path) (K .undecided) 0 (at-node .kids) (getD g d 0) (drop (suc d) g) kept next-byte) (or-assoc (firstFrom edition1 g t (leavesAt (getD g d 0) (at-node .kids))) (firstOf (leavesAll (kidsFrom (suc (getD g d 0)) (at-node .kids)))) (K .spare))
+          ∙ rw (at-node .leavesAre, node-byte (K .guides) (K .sub .path) (K .undecided) 0 (at-node .kids) (getD w d 0) (drop (suc d) w) kept next-byte) (or-assoc (firstFrom g t (leavesAt (getD w d 0) (at-node .kids))) (firstOf (leavesAll (kidsFrom (suc (getD w d 0)) (at-node .kids)))) (K .spare))
 
       -- no child has the byte
-      pub node-miss : {r : Sought} {c : ℕ} → ((ks : List (ℕ × ℕ)) → InnerAt f o kind ks → c ≡ orZero (lookKid (getD g d 0) ks)) → c ≡ 0
-          → Is (orElse (firstOf (leavesAll (kidsFrom (suc (getD g d 0)) (at-node .kids)))) (K .spare)) r → SoughtAt f g t s r
+      pub node-miss : {r : Sought} {c : ℕ} → ((ks : List (ℕ × ℕ)) → InnerAt f o kind ks → c ≡ orZero (lookKid (getD w d 0) ks)) → c ≡ 0
+          → Is (orElse (firstOf (leavesAll (kidsFrom (suc (getD w d 0)) (at-node .kids)))) (K .spare)) r → SoughtAt E f g t s r
       node-miss {r} {c} C z i path l T j =
-          as-is (firstFrom edition1 g t (leaves l)) (orElse (firstOf (leavesAll (kidsFrom (suc (getD g d 0)) (at-node .kids)))) (K .spare))
-          (split path l T j ∙ rw (kid-gone f (K .sub .path) d (K .sub .bytes) (K .sub .deep) (getD g d 0) (at-node .kids) (at-node .trees) (at-node .inside) (sym (C (pairs (at-node .kids)) (at-node .inner)) ∙ z))) i
+          as-is (firstFrom g t (leaves l)) (orElse (firstOf (leavesAll (kidsFrom (suc (getD w d 0)) (at-node .kids)))) (K .spare))
+          (split path l T j ∙ rw (kid-gone E (K .sub .lawful) f (K .sub .path) d (K .sub .bytes) (K .sub .deep) (at-node .short) (getD w d 0) (at-node .kids) (at-node .trees) (at-node .inside) (sym (C (pairs (at-node .kids)) (at-node .inner)) ∙ z))) i
 
       -- one has
-      pub node-on : {p' : Spare} {c : ℕ} → Nearer f o kind (suc (getD g d 0)) d p p' → ((ks : List (ℕ × ℕ)) → InnerAt f o kind ks → c ≡ orZero (lookKid (getD g d 0) ks)) → (c ≡ 0 → ⊥) → Seeking f g t s c (d + 1) p'
+      pub node-on : {p' : Spare} {c : ℕ} → Nearer f o kind (suc (getD w d 0)) d p p' → ((ks : List (ℕ × ℕ)) → InnerAt f o kind ks → c ≡ orZero (lookKid (getD w d 0) ks)) → (c ≡ 0 → ⊥) → Seeking E f g w t s c (d + 1) p'
       node-on {p'} {c} N C n =
           let u = C (pairs (at-node .kids)) (at-node .inner) in
-          let S = kid-there f (K .sub .path) d (K .sub .bytes) (K .sub .deep) (getD g d 0) (at-node .kids) (at-node .trees) (at-node .inside) (omega arith) in
-          let S' : Sub f c (d + 1) = record { lay = S .0 .lay; path = S .0 .path; tree = S .0 .tree; slotIs = S .0 .slotIs ∙ sym u; inside = S .0 .inside; bytes = S .0 .bytes; deep = S .0 .deep } in
-          let m = at-node .short in
+          let S = kid-there E (K .sub .lawful) f (K .sub .path) d (K .sub .bytes) (K .sub .deep) (at-node .short) (getD w d 0) (at-node .kids) (at-node .trees) (at-node .inside) (omega arith) in
+          let S' : Sub E f c (d + 1) = record { lawful = K .sub .lawful; lay = S .0 .lay; path = S .0 .path; tree = S .0 .tree; slotIs = S .0 .slotIs ∙ sym u; inside = S .0 .inside; bytes = S .0 .bytes; deep = S .0 .deep; short = S .0 .short } in
           record {
             sub = S';
-            short = omega arith;
-            undecided = ap (λ (w : List ℕ). weigh g t w) (S .1) ∙ weigh-byte g t (K .sub .path) (getD g d 0) (drop (suc d) g) (getD g d 0) (K .undecided) next-byte ∙ rw (le-ltb (getD g d 0) (getD g d 0) (omega arith), eq-eqb (getD g d 0) (getD g d 0) refl);
-            spare = orElse (firstOf (leavesAll (kidsFrom (suc (getD g d 0)) (at-node .kids)))) (K .spare);
-            falls = nearer-falls (suc (getD g d 0)) N;
+            guides = K .guides;
+            undecided = ap (λ (x : List ℕ). weigh w t x) (S .1) ∙ weigh-byte w t (K .sub .path) (getD w d 0) (drop (suc d) w) (getD w d 0) (K .undecided) next-byte ∙ rw (le-ltb (getD w d 0) (getD w d 0) (omega arith), eq-eqb (getD w d 0) (getD w d 0) refl);
+            spare = orElse (firstOf (leavesAll (kidsFrom (suc (getD w d 0)) (at-node .kids)))) (K .spare);
+            falls = nearer-falls (suc (getD w d 0)) N;
             whole = λ path l T j. split path l T j ∙ rw (S .2);
           }

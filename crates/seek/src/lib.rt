@@ -13,10 +13,10 @@ ghost use Rattle.inner.specs.Inner.{NodeSome};
 ghost use Rattle.seek.specs.Sub.{Sub, FirstAt};
 ghost use mathlib.Core.List.{List};
 ghost use mathlib.Core.Option.{Option};
-ghost use Rattle.model.specs.Edition.{edition1};
+ghost use Rattle.model.specs.Edition.{Edition, SomeEdition};
 ghost use Rattle.model.specs.Body.{LeafAt};
 ghost use Rattle.listing.specs.Seek.{Leafy, weigh, reach};
-ghost use Rattle.seek.specs.Seek.{SoughtAt, Nearer, Fallback, Falls, LeafSome, Is};
+ghost use Rattle.seek.specs.Seek.{SoughtAt, Guided, Nearer, Fallback, Falls, LeafSome, Is, Tail, behindText};
 
 // A tree that lies above the bound, and how many bytes lead to it; slot 0 where there is none.
 pub struct Spare {
@@ -37,13 +37,16 @@ const OPEN: usize = 1;
 
 pub const ABOVE: usize = 2;
 
+// the tail of a bound past all keys that begin with its text
+const PAST_ALL: usize = 256;
+
 // what `next_child` gives for a byte where there is no child
 const NO_BYTE: usize = 256;
 
 // The first Leaf, in byte order, of the tree at a slot to which `depth` bytes lead: down the lowest children. The place of its body.
 pub fn first(f: &[u8], slot: usize, depth: usize) -> usize
-    requires { ⌜ Sub (now f) slot depth × (depth ≤ edition1 .longest) ⌝ }
-    ensures { λ r. ⌜ FirstAt (now (f .entry)) slot r ⌝ }
+    requires { ⌜ SomeEdition (λ E. Sub E (now f) slot depth) ⌝ }
+    ensures { λ r. ⌜ ((E : Edition) → Sub E (now (f .entry)) slot depth → FirstAt E (now (f .entry)) slot r) ⌝ }
 {
     let mut s = slot;
     let mut d = depth;
@@ -104,7 +107,7 @@ pub fn weigh_bytes(f: &[u8], at: usize, n: usize, text: &[u8], d: usize, tail: u
 
 // The first child of a node from byte b on, as what a seek falls back on.
 fn nearer(f: &[u8], o: usize, kind: usize, b: usize, d: usize, old: Spare) -> Spare
-    requires { ⌜ NodeSome (now f) o kind × (b ≤ 256) × (d ≤ edition1 .longest) ⌝ }
+    requires { ⌜ NodeSome (now f) o kind × (b ≤ 256) × (d ≤ 512) ⌝ }
     ensures { λ r. ⌜ Nearer (now (f .entry)) o kind b d old r ⌝ }
 {
     let k = visit::next_child(f, o, kind, b);
@@ -119,8 +122,8 @@ fn nearer(f: &[u8], o: usize, kind: usize, b: usize, d: usize, old: Spare) -> Sp
 
 // The first Leaf of what the seek falls back on.
 fn fall_back(f: &[u8], spare: Spare) -> Sought
-    requires { ⌜ Falls (now f) spare ⌝ }
-    ensures { λ r. ⌜ ((o : Option Leafy) → Fallback (now (f .entry)) spare o → Is o r) ⌝ }
+    requires { ⌜ SomeEdition (λ E. Falls E (now f) spare) ⌝ }
+    ensures { λ r. ⌜ ((E : Edition) (o : Option Leafy) → Fallback E (now (f .entry)) spare o → Is o r) ⌝ }
 {
     if spare.slot == 0 {
         return Sought {
@@ -132,27 +135,36 @@ fn fall_back(f: &[u8], spare: Spare) -> Sought
     Sought { found: true, place }
 }
 
+// What stands behind the text for the byte that a longer key has there: past the key that is the text every byte reaches.
+fn behind(tail: usize) -> usize
+    requires { ⌜ Tail tail ⌝ }
+    ensures { λ r. ⌜ r ≡ behindText tail ⌝ }
+{
+    tail / PAST_ALL * PAST_ALL
+}
+
 // The key of the Leaf at a place is at or above the bound.
 fn leaf_reaches(f: &[u8], place: usize, text: &[u8], tail: usize) -> bool
-    requires { ⌜ LeafSome (now f) place ⌝ }
-    ensures { λ r. ⌜ ((e : ℕ) (k v : List ℕ) → LeafAt (now (f .entry)) place e k v → r ≡ reach edition1 (now (text .entry)) tail k) ⌝ }
+    requires { ⌜ SomeEdition (λ E. LeafSome E (now f) place) × Tail tail ⌝ }
+    ensures { λ r. ⌜ ((e : ℕ) (k v : List ℕ) → LeafAt (now (f .entry)) place e k v → r ≡ reach (now (text .entry)) tail k) ⌝ }
 {
     let from = Leaf::extent(f, place);
     let n = Leaf::key_length(f, place);
-    let w = weigh_bytes(f, from, n, text, 0, tail);
+    let w = weigh_bytes(f, from, n, text, 0, behind(tail));
     if w != OPEN {
         return w == ABOVE;
     }
     if n < text.len() {
-        return text[n] == 0;
+        return false;
     }
     tail == 0
 }
 
-// The first Leaf, in byte order, whose walked string is at or above the bound `text` and then `tail`, of the tree at slot `root`.
-pub fn seek(f: &[u8], root: usize, text: &[u8], tail: usize) -> Sought
-    requires { ⌜ Sub (now f) root 0 × (tail ≤ 256) ⌝ }
-    ensures { λ r. ⌜ SoughtAt (now (f .entry)) (now (text .entry)) tail root r ⌝ }
+// The first Leaf, in byte order, whose key is at or above the bound of `text` and `tail`, of the tree at slot `root`. The way down is weighed against
+// `word`, which guides to that bound in the bytes of walked strings.
+pub fn seek(f: &[u8], root: usize, text: &[u8], word: &[u8], tail: usize) -> Sought
+    requires { ⌜ SomeEdition (λ E. Guided E (now f) (now text) (now word) tail root) × Tail tail ⌝ }
+    ensures { λ r. ⌜ ((E : Edition) → Guided E (now (f .entry)) (now (text .entry)) (now (word .entry)) tail root → SoughtAt E (now (f .entry)) (now (text .entry)) tail root r) ⌝ }
 {
     let mut s = root;
     let mut d = 0;
@@ -170,7 +182,7 @@ pub fn seek(f: &[u8], root: usize, text: &[u8], tail: usize) -> Sought
         }
         if e.high == Kind::PREFIX {
             let n = Prefix::length(f, e.place);
-            let w = weigh_bytes(f, e.place + Prefix::BYTES, n, text, d, tail);
+            let w = weigh_bytes(f, e.place + Prefix::BYTES, n, word, d, tail);
             if w == ABOVE {
                 return fall_back(f, Spare { slot: s, depth: d });
             }
@@ -181,10 +193,10 @@ pub fn seek(f: &[u8], root: usize, text: &[u8], tail: usize) -> Sought
             d += n;
             continue;
         }
-        if text.len() <= d {
+        if word.len() <= d {
             return fall_back(f, nearer(f, e.place, e.high, tail, d, spare));
         }
-        let b = text[d];
+        let b = word[d];
         spare = nearer(f, e.place, e.high, (b as usize) + 1, d, spare);
         let k = look::seat(f, e.place, e.high, b);
         if k.slot == 0 {

@@ -1,40 +1,124 @@
 -- The test of a Leaf against its path, exit by exit. Assumes nothing.
 use Prim.Native.Nat.{ℕ, _+_, _-_, _<_, _≤_}
-use mathlib.Core.Path.{_≡_, refl, sym, _∙_}
+use mathlib.Core.Path.{_≡_, refl, sym, ap, _∙_}
 use mathlib.Core.List.{List, [], _∷_}
-use mathlib.Core.Bool.{true, false}
+use mathlib.Core.Bool.{Bool, true, false}
 use mathlib.Core.Logic.{⊎-elim}
 use native.Mathlib.Omega.{arith}
-use lib.ListN.{length, getD, take, length-append, List·getD-eq-default}
-use lib.Seq.{getD-take, length-take-le}
+use lib.ListN.{length, getD, take, drop, length-append, length-take, length-drop, List·getD-eq-default}
+use lib.Seq.{getD-take, getD-drop, length-take-le}
 use Rattle.layout.specs.Number.{byteAt, le}
 use Rattle.layout.specs.Place.{leafExtent, leafKey, leafValue, leafZero}
 use Rattle.layout.proofs.NumberLaws.{lt-or-le}
-use Rattle.model.specs.Edition.{edition1}
+use Rattle.model.specs.Edition.{Edition, edition1, edition2, editionOf}
 use Rattle.model.specs.Tree.{up8}
 use Rattle.model.specs.Body.{LeafAt}
+use Rattle.model.specs.Frame.{Begins}
 use Rattle.model.proofs.Edition1.{positive-at, at-positive, Key1, key-passes, key-taken, walked-at}
+use Rattle.model.proofs.Edition2.{edition-two}
+use Rattle.pieces.specs.Decides.{Decides}
 use Rattle.pieces.specs.Range.{Blank, Clean, Alike}
-use Rattle.shape.specs.Shape.{ExtentFits, Ends, KeyHere, LeafHere, LeafTold}
-use Rattle.pieces.proofs.DecideLaws.{clash}
+use Rattle.keys.proofs.KeyLaws.{text-part, of-two, of-other}
+use Rattle.shape.specs.Shape.{ExtentFits, Ends, Under, LeafHere, LeafTold}
+use Rattle.pieces.proofs.DecideLaws.{clash, handed}
 use Rattle.shape.proofs.ZeroLaws.{blank-zero, zero-blank}
 use Rattle.shape.proofs.BytesLaws.{bytesFrom, bytes-long, bytes-text, bytes-append, text-left, BeginsAt, begins-at, at-begins}
 
 -- ---- the key
 
-module _ (f : List ℕ) (e k : ℕ) (path : List ℕ) (depth : ℕ) where
-  pub key-end : KeyHere f e k path depth → Ends path k depth
-  key-end K = record { short = K .short; end = K .end }
-
-  pub key-follows : (n : ℕ) → n ≤ depth → n ≤ k → KeyHere f e k path depth → Alike f e path 0 n
-  key-follows n x y K i l = let z : 0 + i ≡ i = omega arith in rw z (K .same i (omega arith) (omega arith))
-
-  pub key-here : (n : ℕ) → ((i : ℕ) → i < depth → i < k → i < n) → Ends path k depth → Alike f e path 0 n → Clean f e (e + k) → KeyHere f e k path depth
-  key-here n h E F C = record { short = E .short; clean = C; same = λ i x y. let z : 0 + i ≡ i = omega arith in rw z at (F i (h i x y)); end = E .end }
-
 -- no path at all
-pub key-lone : (f : List ℕ) (e k : ℕ) → Clean f e (e + k) → KeyHere f e k [] 0
-key-lone f e k C = record { short = omega arith; clean = C; same = λ i x y. absurd (omega arith); end = λ x. absurd (omega arith) }
+pub under-lone : {E : Edition} {key : List ℕ} → E .keyFault key ≡ 0 → Under E [] key
+under-lone e = record { legal = e; begins = refl }
+
+-- the k bytes from e are a legal key of edition 1, and its walked string begins with the first depth bytes of a path: by their places
+pub record PlainHere (f : List ℕ) (e k : ℕ) (path : List ℕ) (depth : ℕ) : Type 0 where
+  pub some : 1 ≤ k
+  pub most : k ≤ 112
+  pub short : depth ≤ k + 1
+  pub clean : Clean f e (e + k)
+  pub same : (i : ℕ) → i < depth → i < k → byteAt f (e + i) ≡ getD path i 0
+  pub end : k < depth → getD path k 0 ≡ 0
+
+module _ (f : List ℕ) (e k : ℕ) (path : List ℕ) (depth : ℕ) where
+  pub plain-end : PlainHere f e k path depth → Ends path k depth
+  plain-end K = record { short = K .short; end = K .end }
+
+  pub plain-follows : (n : ℕ) → n ≤ depth → n ≤ k → PlainHere f e k path depth → Alike f e path 0 n
+  plain-follows n x y K i l = let z : 0 + i ≡ i = omega arith in rw z (K .same i (omega arith) (omega arith))
+
+  pub plain-here : (n : ℕ) → 1 ≤ k → k ≤ 112 → ((i : ℕ) → i < depth → i < k → i < n) → Ends path k depth → Alike f e path 0 n → Clean f e (e + k) → PlainHere f e k path depth
+  plain-here n a z h E F C =
+      record { some = a; most = z; short = E .short; clean = C; same = λ i x y. let z : 0 + i ≡ i = omega arith in rw z at (F i (h i x y)); end = E .end }
+
+  module _ (room : e + k ≤ length f) (deep : depth ≤ length path) where
+    key-long : length (take k (drop e f)) ≡ k
+    key-long = simp (length-take, length-drop) (omega arith)
+
+    key-byte : (i : ℕ) → i < k → byteAt f (e + i) ≡ getD (take k (drop e f)) i 0
+    key-byte i l = rw (getD-take k (drop e f) i 0 l, getD-drop)
+
+    pub plain-of : Under edition1 (take depth path) (take k (drop e f)) → PlainHere f e k path depth
+    plain-of U =
+        let key = take k (drop e f) in
+        let m = key-long in
+        let legal = key-passes key (U .legal) in
+        let long = length-take-le depth path deep in
+        let B = begins-at (edition1 .walked key) (take depth path) (U .begins) in
+        let W : (i : ℕ) → i < depth → getD key i 0 ≡ getD path i 0
+        = λ i l. sym (walked-at key i) ∙ B .same i (omega arith) ∙ getD-take depth path i 0 l in
+        record {
+          some = omega (arith, legal .some);
+          most = omega (arith, legal .short);
+          short = omega (arith, B .short, length-append key (0 ∷ []));
+          clean = λ a x y z.
+              let i : e + (a - e) ≡ a = omega arith in
+              positive-at key (legal .chars) (a - e) (omega arith) (sym (key-byte (a - e) (omega arith)) ∙ rw i z);
+          same = λ i l h. key-byte i h ∙ W i l;
+          end = λ l. sym (W k l) ∙ List·getD-eq-default key 0 (omega arith);
+        }
+
+    pub plain-is : PlainHere f e k path depth → Under edition1 (take depth path) (take k (drop e f))
+    plain-is K =
+        let key = take k (drop e f) in
+        let m = key-long in
+        let some = K .some in
+        let most = K .most in
+        let long = length-take-le depth path deep in
+        let K' : Key1 key
+        = record { some = omega arith; short = omega arith; chars = at-positive key (λ i l z. K .clean (e + i) (omega arith) (omega arith) (key-byte i (omega arith) ∙ z)) } in
+        let W : (i : ℕ) → i < depth → getD key i 0 ≡ getD path i 0
+        = λ i l. ⊎-elim (λ h. sym (key-byte i h) ∙ K .same i l h)
+        (λ h. List·getD-eq-default key 0 (omega arith) ∙ (let short = K .short in let j : i ≡ k = omega arith in rw j (sym (K .end (omega arith))))) (lt-or-le i k) in
+        let B : BeginsAt (edition1 .walked key) (take depth path)
+        = record {
+          short = omega (arith, K .short, length-append key (0 ∷ []));
+          same = λ i l. walked-at key i ∙ W i (omega arith) ∙ sym (getD-take depth path i 0 (omega arith));
+        } in
+        record { legal = key-taken key K'; begins = at-begins (edition1 .walked key) (take depth path) B }
+
+-- ---- a legal key of edition 2
+
+-- the number that it is tested with
+pub fault-two : (key : List ℕ) {r : ℕ} → r ≡ editionOf 2 .keyFault key → r ≡ edition2 .keyFault key
+fault-two key e = rw edition-two at e
+
+-- its walked string, tested against the path as it is lent
+pub under-legal : {E : Edition} {key : List ℕ} (path : List ℕ) (depth : ℕ) {r : Bool} → E .keyFault key ≡ 0 → Decides (Begins (E .walked key) (take (depth - 0) path)) r → Decides (Under E (take depth path) key) r
+under-legal path depth e D = let z : depth - 0 ≡ depth = omega arith in handed (rw z at D) (λ B. record { legal = e; begins = B }) (λ U. U .begins)
+
+-- a part of a slice is lent from its start on, as many bytes as there are to its end
+pub part-is : (E : Edition) (f : List ℕ) (e k : ℕ) → E .keyFault (take (e + k - e) (drop e f)) ≡ E .keyFault (take k (drop e f))
+part-is E f e k = let z : e + k - e ≡ k = omega arith in rw z
+
+-- by the edition
+pub under-part : {E : Edition} (f : List ℕ) {path : List ℕ} (e k : ℕ) {r : Bool} → Decides (Under E path (take (e + k - e) (drop e f))) r → Decides (Under E path (take k (drop e f))) r
+under-part f e k D = let z : e + k - e ≡ k = omega arith in rw z at D
+
+pub under-two : (n : ℕ) {path key : List ℕ} {r : Bool} → n ≡ 2 → Decides (Under edition2 path key) r → Decides (Under (editionOf n) path key) r
+under-two n h D = rw (of-two n h) D
+
+pub under-other : (n : ℕ) {path key : List ℕ} {r : Bool} → (n ≡ 2 → ⊥) → Decides (Under edition1 path key) r → Decides (Under (editionOf n) path key) r
+under-other n h D = rw (of-other n h) D
 
 -- ---- the Leaf
 
@@ -45,83 +129,58 @@ pub record LeafRead (f : List ℕ) (o e k v size : ℕ) : Type 0 where
   pub valueLength : v ≡ le 2 f (o + leafValue)
   pub rounded : size ≡ up8 (k + v)
 
-pub leaf-denied : {f path : List ℕ} {o d b extent size : ℕ} → ((e n : ℕ) → LeafHere f path o d b e n → ⊥) → LeafTold f path o d b false extent size
+pub leaf-denied : {E : Edition} {f path : List ℕ} {o d b extent size : ℕ} → ((e n : ℕ) → LeafHere E f path o d b e n → ⊥) → LeafTold E f path o d b false extent size
 leaf-denied n = record { holds = λ e. clash (cc); fails = λ e. n }
 
-pub leaf-granted : {f path : List ℕ} {o d b extent size : ℕ} → LeafHere f path o d b extent size → LeafTold f path o d b true extent size
-leaf-granted l = record { holds = λ e. l; fails = λ e. clash e }
+-- the key lies within the extent
+pub leaf-room : {f : List ℕ} {o d b e k v size : ℕ} → LeafRead f o e k v size → b ≤ length f → ExtentFits e size d b → e + k ≤ length f
+leaf-room R room X = let r = R .rounded in let h = X .high in omega arith
 
-module _ (f whole : List ℕ) (o d b depth e k v size : ℕ) (deep : depth ≤ length whole) (R : LeafRead f o e k v size) where
-  pub leaf-extent : (x n : ℕ) → LeafHere f (take depth whole) o d b x n → ExtentFits e k size d b
+module _ {E : Edition} (f path : List ℕ) (o d b e k v size : ℕ) (R : LeafRead f o e k v size) where
+  pub leaf-extent : (x n : ℕ) → LeafHere E f path o d b x n → ExtentFits e size d b
   leaf-extent x n L =
       let at = L .is .at in
-      let legal = key-passes (L .key) (L .is .legal) in
       let z : k + v ≡ length (L .key) + length (L .value) = omega arith in
       let s : size ≡ n = R .rounded ∙ rw z (sym (L .long)) in
-      record { eights = omega (arith, L .is .eights); low = omega arith; high = omega arith; some = omega arith; most = omega arith }
+      record { eights = omega (arith, L .is .eights); low = omega arith; high = omega arith }
 
-  pub leaf-blank : (x n : ℕ) → LeafHere f (take depth whole) o d b x n → Blank f (o + leafZero) (o + leafZero + 8)
+  pub leaf-blank : (x n : ℕ) → LeafHere E f path o d b x n → Blank f (o + leafZero) (o + leafZero + 8)
   leaf-blank x n L = zero-blank f (o + leafZero) 8 (L .is .at .zeros)
 
-  pub leaf-key : (x n : ℕ) → LeafHere f (take depth whole) o d b x n → KeyHere f e k whole depth
+  pub leaf-key : (x n : ℕ) → LeafHere E f path o d b x n → Under E path (take k (drop e f))
   leaf-key x n L =
       let at = L .is .at in
       let key = L .key in
       let q : x ≡ e = cc in
       let m : length key ≡ k = cc in
-      let long = length-take-le depth whole deep in
-      let B = begins-at (edition1 .walked key) (take depth whole) (L .is .begins) in
-      let T : (i : ℕ) → i < k → byteAt f (e + i) ≡ getD key i 0
-      = λ i l. rw q at (text-left f x key (L .value) (at .text) i (omega arith)) in
-      let W : (i : ℕ) → i < depth → getD key i 0 ≡ getD whole i 0
-      = λ i l. sym (walked-at key i) ∙ B .same i (omega arith) ∙ getD-take depth whole i 0 l in
-      record {
-        short = omega (arith, B .short, length-append key (0 ∷ []));
-        clean = λ a x y z.
-            let i : e + (a - e) ≡ a = omega arith in
-            positive-at key (key-passes key (L .is .legal) .chars) (a - e) (omega arith) (sym (T (a - e) (omega arith)) ∙ rw i z);
-        same = λ i l h. T i h ∙ W i l;
-        end = λ l. sym (W k l) ∙ List·getD-eq-default key 0 (omega arith);
-      }
+      let t : take (length key) (drop x f) ≡ key = text-part f x key (omega (arith, at .room)) (text-left f x key (L .value) (at .text)) in
+      let is : take k (drop e f) ≡ key = rw (m, q) at t in
+      record { legal = rw is (L .is .legal); begins = rw is (L .is .begins) }
 
-  pub leaf-end : b ≤ length f → ExtentFits e k size d b → Blank f (o + leafZero) (o + leafZero + 8) → KeyHere f e k whole depth
-      → LeafTold f (take depth whole) o d b true e size
-  leaf-end room X Z K =
+  pub leaf-end : b ≤ length f → ExtentFits e size d b → Blank f (o + leafZero) (o + leafZero + 8) → Under E path (take k (drop e f)) → LeafTold E f path o d b true e size
+  leaf-end room X Z U =
       let key = bytesFrom f e k in
       let value = bytesFrom f (e + k) v in
       let m = bytes-long f e k in
       let w = bytes-long f (e + k) v in
-      let long = length-take-le depth whole deep in
-      let K' : Key1 key
-      = record { some = omega arith; short = omega arith; chars = at-positive key (λ i l z. K .clean (e + i) (omega arith) (omega arith) (bytes-text f e k i l ∙ z)) } in
+      let is : take k (drop e f) ≡ key
+      = ap (λ (x : ℕ). take x (drop e f)) (sym m) ∙ text-part f e key (omega (arith, leaf-room R room X)) (bytes-text f e k) in
       let at : LeafAt f o e key value
       = record {
-        room = omega arith;
+        room = let r = R .rounded in let h = X .high in omega arith;
         extent = cc;
         keyLength = cc;
         valueLength = cc;
         zeros = blank-zero f (o + leafZero) 8 Z;
         text = rw (← bytes-append f e k v) (bytes-text f e (k + v));
       } in
-      let W : (i : ℕ) → i < depth → getD key i 0 ≡ getD whole i 0
-      = λ i l. ⊎-elim (λ h. sym (bytes-text f e k i (omega arith)) ∙ K .same i l h)
-      (λ h. List·getD-eq-default key 0 (omega arith) ∙ (let j : i ≡ k = omega arith in rw j (sym (K .end (omega arith))))) (lt-or-le i k) in
-      let B : BeginsAt (edition1 .walked key) (take depth whole)
+      let l : LeafHere E f path o d b e size
       = record {
-        short = omega (arith, K .short, length-append key (0 ∷ []));
-        same = λ i l. walked-at key i ∙ W i (omega arith) ∙ sym (getD-take depth whole i 0 (omega arith));
-      } in
-      leaf-granted
-      (record {
         key = key;
         value = value;
-        is = record {
-          at = at;
-          eights = X .eights;
-          legal = key-taken key K';
-          begins = at-begins (edition1 .walked key) (take depth whole) B;
-        };
+        is = record { at = at; eights = X .eights; legal = rw is at (U .legal); begins = rw is at (U .begins) };
         long = R .rounded ∙ rw (m, w) refl;
         low = X .low;
         high = X .high;
-      })
+      } in
+      record { holds = λ e. l; fails = λ e. clash e }

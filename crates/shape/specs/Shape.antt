@@ -4,13 +4,12 @@ use mathlib.Core.Path.{_≡_}
 use mathlib.Core.List.{List}
 use mathlib.Core.Bool.{Bool, true, false}
 use lib.ListN.{length, getD}
-use Rattle.layout.specs.Number.{le, byteAt}
+use Rattle.layout.specs.Number.{le}
 use Rattle.layout.specs.Place.{atF, atN, atB, atU, atR, atX, atRoot, dataStart}
-use Rattle.pieces.specs.Range.{Clean}
-use Rattle.model.specs.Edition.{Edition, edition1}
+use Rattle.model.specs.Edition.{Edition}
 use Rattle.model.specs.Tree.{extentOf}
 use Rattle.model.specs.Body.{PrefixAt}
-use Rattle.model.specs.Frame.{Numbers, FrameLength, SlotCapacity, Header, LeafOf}
+use Rattle.model.specs.Frame.{Numbers, FrameLength, SlotCapacity, Header, Begins, LeafOf}
 
 -- ---- the header
 
@@ -40,10 +39,10 @@ numbersOf E f =
       root = le 2 f atRoot;
     }
 
--- the header is a good one of edition 1, and its numbers are what its fields hold; or it is none, whatever the numbers
-pub record HeaderTold (f : List ℕ) (r : Bool) : Type 0 where
-  pub holds : r ≡ true → (E : Edition) → E .number ≡ 1 → Header f (numbersOf E f)
-  pub fails : r ≡ false → (h : Numbers) → Header f h → h .edition .number ≡ 1 → ⊥
+-- the header is a good one of every edition with the number of E, and its numbers are what its fields hold; or it is none, whatever the numbers
+pub record HeaderTold (E : Edition) (f : List ℕ) (r : Bool) : Type 0 where
+  pub holds : r ≡ true → (G : Edition) → G .number ≡ E .number → Header f (numbersOf G f)
+  pub fails : r ≡ false → (h : Numbers) → Header f h → h .edition .number ≡ E .number → ⊥
 
 -- ---- a Prefix
 
@@ -54,36 +53,32 @@ pub record PrefixHere (f : List ℕ) (o : ℕ) : Type 0 where
 
 -- ---- a Leaf
 
--- an extent of a number of bytes at e, with a key of k, lies between d and b
-pub record ExtentFits (e k size d b : ℕ) : Type 0 where
+-- an extent of a number of bytes at e lies between d and b
+pub record ExtentFits (e size d b : ℕ) : Type 0 where
   pub eights : e % 8 ≡ 0
   pub low : d ≤ e
   pub high : e + size ≤ b
-  pub some : 1 ≤ k
-  pub most : k ≤ 112
 
 -- the first depth bytes of a path are no more than k, or k and then a byte 0
 pub record Ends (path : List ℕ) (k depth : ℕ) : Type 0 where
   pub short : depth ≤ k + 1
   pub end : k < depth → getD path k 0 ≡ 0
 
--- the walked string of the k bytes from e begins with the first depth bytes of a path
-pub record KeyHere (f : List ℕ) (e k : ℕ) (path : List ℕ) (depth : ℕ) : Type 0 where
-  pub short : depth ≤ k + 1
-  pub clean : Clean f e (e + k)
-  pub same : (i : ℕ) → i < depth → i < k → byteAt f (e + i) ≡ getD path i 0
-  pub end : k < depth → getD path k 0 ≡ 0
+-- a legal key whose walked string begins with the path
+pub record Under (E : Edition) (path key : List ℕ) : Type 0 where
+  pub legal : E .keyFault key ≡ 0
+  pub begins : Begins (E .walked key) path
 
 -- a Leaf to which the path leads, with an extent of the size at e, between d and b
-pub record LeafHere (f path : List ℕ) (o d b e size : ℕ) : Type 0 where
+pub record LeafHere (E : Edition) (f path : List ℕ) (o d b e size : ℕ) : Type 0 where
   pub key : List ℕ
   pub value : List ℕ
-  pub is : LeafOf edition1 f path o e key value
+  pub is : LeafOf E f path o e key value
   pub long : size ≡ extentOf key value
   pub low : d ≤ e
   pub high : e + size ≤ b
 
 -- such a Leaf stands at o, with the extent told; or none does, whatever the extent
-pub record LeafTold (f path : List ℕ) (o d b : ℕ) (good : Bool) (extent size : ℕ) : Type 0 where
-  pub holds : good ≡ true → LeafHere f path o d b extent size
-  pub fails : good ≡ false → (e n : ℕ) → LeafHere f path o d b e n → ⊥
+pub record LeafTold (E : Edition) (f path : List ℕ) (o d b : ℕ) (good : Bool) (extent size : ℕ) : Type 0 where
+  pub holds : good ≡ true → LeafHere E f path o d b extent size
+  pub fails : good ≡ false → (e n : ℕ) → LeafHere E f path o d b e n → ⊥

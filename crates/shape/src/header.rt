@@ -2,7 +2,9 @@
 use fields::body::EmptyRoot;
 use fields::header::Header;
 use layout::entry::Entry;
+ghost use mathlib.Core.Path.{_≡_};
 ghost use Rattle.pieces.specs.Decides.{Decides};
+ghost use Rattle.model.specs.Edition.{editionOf};
 ghost use Rattle.shape.specs.Shape.{LengthFits, NumbersFit, HeaderTold};
 
 // The slice's length keeps the limits and is the stored F; if not, refusal 1. A short slice is not read.
@@ -53,12 +55,22 @@ fn numbers_fit(length: usize, n: usize, d: usize, b: usize, u: usize) -> bool
     u <= n
 }
 
-// The header is a good one of edition 1, and the entries above U are zero. The slice's length has been passed.
-pub fn header_good(f: &[u8]) -> bool
-    requires { ⌜ LengthFits (now f) ⌝ }
-    ensures { λ r. ⌜ HeaderTold (now (f .entry)) r ⌝ }
+// The number that the first field of an edition's frames holds.
+pub fn number_of(edition: usize) -> usize
+    ensures { λ r. ⌜ r ≡ editionOf edition .number ⌝ }
 {
-    if Header::edition(f) != Header::EDITION {
+    if edition == Header::SECOND_EDITION {
+        return Header::SECOND_EDITION;
+    }
+    Header::FIRST_EDITION
+}
+
+// The header is a good one of the edition, and the entries above U are zero. The slice's length has been passed.
+pub fn header_good(f: &[u8], edition: usize) -> bool
+    requires { ⌜ LengthFits (now f) ⌝ }
+    ensures { λ r. ⌜ HeaderTold (editionOf edition) (now (f .entry)) r ⌝ }
+{
+    if Header::edition(f) != number_of(edition) {
         return false;
     }
     let n = Header::slot_capacity(f);

@@ -2,11 +2,12 @@
 use fields::body::Leaf;
 ghost use Prim.Native.Nat.{ℕ, _+_, _≤_, _<_};
 ghost use mathlib.Core.List.{[]};
-ghost use lib.ListN.{length, take};
+ghost use lib.ListN.{length, take, drop};
 ghost use Rattle.pieces.specs.Decides.{Decides};
-ghost use Rattle.shape.specs.Shape.{ExtentFits, Ends, KeyHere, LeafTold};
+ghost use Rattle.model.specs.Edition.{edition1, edition2, editionOf};
+ghost use Rattle.shape.specs.Shape.{ExtentFits, Ends, Under, LeafTold};
 
-// the most bytes that a key has
+// the most bytes that a key of edition 1 has
 const KEY_MOST: usize = 112;
 
 // The answer, and of a good Leaf where its extent lies and how many bytes it has, rounded up.
@@ -16,17 +17,11 @@ pub struct LeafFound {
     pub size: usize,
 }
 
-// The extent lies between d and b at a multiple of 8, and the key has 1 to 112 bytes.
-fn extent_fits(e: usize, k: usize, size: usize, d: usize, b: usize) -> bool
+// The extent lies between d and b at a multiple of 8.
+fn extent_fits(e: usize, size: usize, d: usize, b: usize) -> bool
     requires { ⌜ (e < 4294967296) × (size < 4294967296) ⌝ }
-    ensures { λ r. ⌜ Decides (ExtentFits e k size d b) r ⌝ }
+    ensures { λ r. ⌜ Decides (ExtentFits e size d b) r ⌝ }
 {
-    if k < 1 {
-        return false;
-    }
-    if k > KEY_MOST {
-        return false;
-    }
     if e % 8 != 0 {
         return false;
     }
@@ -56,11 +51,17 @@ fn lesser(a: usize, b: usize) -> usize
     if a < b { a } else { b }
 }
 
-// The k bytes at e are a legal key of that length, and its walked string, a byte 0 at its end, begins with the path.
-fn key_good(f: &[u8], e: usize, k: usize, path: &[u8], depth: usize) -> bool
+// The k bytes at e are a legal key of edition 1, and its walked string, a byte 0 at its end, begins with the path.
+fn plain_good(f: &[u8], e: usize, k: usize, path: &[u8], depth: usize) -> bool
     requires { ⌜ (e + k ≤ length (now f)) × (depth ≤ length (now path)) ⌝ }
-    ensures { λ r. ⌜ Decides (KeyHere (now (f .entry)) e k (now (path .entry)) depth) r ⌝ }
+    ensures { λ r. ⌜ Decides (Under edition1 (take depth (now (path .entry))) (take k (drop e (now (f .entry))))) r ⌝ }
 {
+    if k < 1 {
+        return false;
+    }
+    if k > KEY_MOST {
+        return false;
+    }
     if !ends(path, k, depth) {
         return false;
     }
@@ -70,10 +71,40 @@ fn key_good(f: &[u8], e: usize, k: usize, path: &[u8], depth: usize) -> bool
     pieces::no_zero(f, e, e + k)
 }
 
+// The key is a legal one of edition 2, and its walked string begins with the path.
+fn escaped_good(key: &[u8], path: &[u8], depth: usize) -> bool
+    requires { ⌜ depth ≤ length (now path) ⌝ }
+    ensures { λ r. ⌜ Decides (Under edition2 (take depth (now (path .entry))) (now (key .entry))) r ⌝ }
+{
+    if keys::fault(key, keys::SECOND) != 0 {
+        return false;
+    }
+    keys::escaped_begins(key, &path[0..depth])
+}
+
+// The k bytes at e are a legal key, and its walked string begins with the path.
+fn key_good(f: &[u8], e: usize, k: usize, path: &[u8], depth: usize, edition: usize) -> bool
+    requires { ⌜ (e + k ≤ length (now f)) × (depth ≤ length (now path)) ⌝ }
+    ensures { λ r. ⌜ Decides (Under (editionOf edition) (take depth (now (path .entry))) (take k (drop e (now (f .entry))))) r ⌝ }
+{
+    if edition == keys::SECOND {
+        return escaped_good(&f[e..e + k], path, depth);
+    }
+    plain_good(f, e, k, path, depth)
+}
+
 // The body at o is a Leaf's whose extent lies between d and b, and the path leads to it.
-pub fn leaf_good(f: &[u8], o: usize, path: &[u8], depth: usize, d: usize, b: usize) -> LeafFound
+pub fn leaf_good(
+    f: &[u8],
+    o: usize,
+    path: &[u8],
+    depth: usize,
+    d: usize,
+    b: usize,
+    edition: usize,
+) -> LeafFound
     requires { ⌜ (o + 16 ≤ length (now f)) × (depth ≤ length (now path)) × (b ≤ length (now f)) ⌝ }
-    ensures { λ r. ⌜ LeafTold (now (f .entry)) (take depth (now (path .entry))) o d b (r .good) (r .extent) (r .size) ⌝ }
+    ensures { λ r. ⌜ LeafTold (editionOf edition) (now (f .entry)) (take depth (now (path .entry))) o d b (r .good) (r .extent) (r .size) ⌝ }
 {
     let none = LeafFound {
         good: false,
@@ -83,13 +114,13 @@ pub fn leaf_good(f: &[u8], o: usize, path: &[u8], depth: usize, d: usize, b: usi
     let e = Leaf::extent(f, o);
     let k = Leaf::key_length(f, o);
     let size = Leaf::rounded(k + Leaf::value_length(f, o));
-    if !extent_fits(e, k, size, d, b) {
+    if !extent_fits(e, size, d, b) {
         return none;
     }
     if !Leaf::zeros_good(f, o) {
         return none;
     }
-    if !key_good(f, e, k, path, depth) {
+    if !key_good(f, e, k, path, depth, edition) {
         return none;
     }
     LeafFound {
@@ -100,9 +131,9 @@ pub fn leaf_good(f: &[u8], o: usize, path: &[u8], depth: usize, d: usize, b: usi
 }
 
 // The body at o is a Leaf's whose extent lies between d and b; no path leads to it, so that its key is only to be a legal one.
-pub fn lone_good(f: &[u8], o: usize, d: usize, b: usize) -> LeafFound
+pub fn lone_good(f: &[u8], o: usize, d: usize, b: usize, edition: usize) -> LeafFound
     requires { ⌜ (o + 16 ≤ length (now f)) × (b ≤ length (now f)) ⌝ }
-    ensures { λ r. ⌜ LeafTold (now (f .entry)) [] o d b (r .good) (r .extent) (r .size) ⌝ }
+    ensures { λ r. ⌜ LeafTold (editionOf edition) (now (f .entry)) [] o d b (r .good) (r .extent) (r .size) ⌝ }
 {
     let none = LeafFound {
         good: false,
@@ -112,13 +143,13 @@ pub fn lone_good(f: &[u8], o: usize, d: usize, b: usize) -> LeafFound
     let e = Leaf::extent(f, o);
     let k = Leaf::key_length(f, o);
     let size = Leaf::rounded(k + Leaf::value_length(f, o));
-    if !extent_fits(e, k, size, d, b) {
+    if !extent_fits(e, size, d, b) {
         return none;
     }
     if !Leaf::zeros_good(f, o) {
         return none;
     }
-    if !pieces::no_zero(f, e, e + k) {
+    if keys::fault(&f[e..e + k], edition) != 0 {
         return none;
     }
     LeafFound {

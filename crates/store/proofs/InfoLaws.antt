@@ -6,7 +6,7 @@ use native.Mathlib.Omega.{arith}
 use lib.ListN.{length, getD}
 use Rattle.layout.specs.Number.{le}
 use Rattle.layout.specs.Place.{atN, atB, atU, atR, atX}
-use Rattle.model.specs.Edition.{edition1}
+use Rattle.model.specs.Edition.{Edition}
 use Rattle.model.specs.State.{State, kinds}
 use Rattle.model.specs.Frame.{Stands}
 use Rattle.model.specs.Promise.{CheckPromise}
@@ -38,12 +38,12 @@ equal : {a b c d e f g h i j k l m n a' b' c' d' e' f' g' h' i' j' k' l' m' n' :
     → _≡_ {A = List ℕ} (a ∷ b ∷ c ∷ d ∷ e ∷ f ∷ g ∷ h ∷ i ∷ j ∷ k ∷ l ∷ m ∷ n ∷ []) (a' ∷ b' ∷ c' ∷ d' ∷ e' ∷ f' ∷ g' ∷ h' ∷ i' ∷ j' ∷ k' ∷ l' ∷ m' ∷ n' ∷ [])
 equal p1 p2 p3 p4 p5 p6 p7 p8 p9 p10 p11 p12 p13 p14 = rw (p1, p2, p3, p4, p5, p6, p7, p8, p9, p10, p11, p12, p13, p14) refl
 
-pub counts-are : {f : List ℕ} {n u b y x : ℕ} {r : Room} {s : State} → Stands edition1 f s → n ≡ le 4 f atN → u ≡ le 4 f atU → b ≡ le 4 f atB → y ≡ le 4 f atR → x ≡ le 4 f atX → RoomOf r s (every u)
+pub counts-are : (E : Edition) {f : List ℕ} {n u b y x : ℕ} {r : Room} {s : State} → Stands E f s → n ≡ le 4 f atN → u ≡ le 4 f atU → b ≡ le 4 f atB → y ≡ le 4 f atR → x ≡ le 4 f atX → RoomOf r s (every u)
     → length f ∷ n ∷ u ∷ b ∷ y ∷ x ∷ lists (r .free) ≡ fullness s
-counts-are {f} {n} {u} {b} {y} {x} {r} {s} W en eu eb ey ex L =
-    let H = stands-heads edition1 f s W in
+counts-are E {f} {n} {u} {b} {y} {x} {r} {s} W en eu eb ey ex L =
+    let H = stands-heads E f s W in
     let used : u ≡ s .U = omega (arith, H .givenAt) in
-    let G = stands-good edition1 f s W in
+    let G = stands-good E f s W in
     let fewer = few (s .U) _ (freeOf (s .free)) (G .used) in
     let list : (k : ℕ) → k < 9 → getD (every u .bodies) k 0 ≡ u + 1 → getD (s .free) k 0 ≤ s .U → getD (r .free) k 0 ≡ getD (s .free) k 0
     = λ k l e h. exact u _ _ (rw e at (L .free k l)) (omega arith) in
@@ -53,15 +53,15 @@ counts-are {f} {n} {u} {b} {y} {x} {r} {s} W en eu eb ey ex L =
 
 -- ---- the ends, by the tests that led there: n is the check's number
 
-module _ (f : List ℕ) {n : ℕ} (checked : CheckPromise edition1 f n) where
-  refused : {m : ℕ} → n ≡ m → (m ≡ 0 → ⊥) → InfoPromise f m []
+module _ (E : Edition) (f : List ℕ) {n : ℕ} (checked : CheckPromise E f n) where
+  refused : {m : ℕ} → n ≡ m → (m ≡ 0 → ⊥) → InfoPromise E f m []
   refused e z = let p = rw e at checked in record { check = p; full = λ s W. absurd (z (p .good0 (s, W))); nothing = λ q. refl }
 
-  pub info-one : n ≡ 1 → InfoPromise f 1 []
+  pub info-one : n ≡ 1 → InfoPromise E f 1 []
   info-one e = refused e (λ z. omega arith)
 
-  pub info-two : (n ≡ 0 → ⊥) → (n ≡ 1 → ⊥) → InfoPromise f 2 []
-  info-two x y = refused (check-two f n checked x y) (λ z. omega arith)
+  pub info-two : (n ≡ 0 → ⊥) → (n ≡ 1 → ⊥) → InfoPromise E f 2 []
+  info-two x y = refused (check-two E f n checked x y) (λ z. omega arith)
 
-  pub info-told : {told : List ℕ} → n ≡ 0 → ((s : State) → Stands edition1 f s → told ≡ fullness s) → InfoPromise f 0 told
+  pub info-told : {told : List ℕ} → n ≡ 0 → ((s : State) → Stands E f s → told ≡ fullness s) → InfoPromise E f 0 told
   info-told e h = record { check = rw e at checked; full = h; nothing = λ z. absurd (z refl) }

@@ -9,8 +9,9 @@ use native.Mathlib.Omega.{arith}
 use lib.ListN.{length, take, drop}
 use lib.Dec.{eqb, ltb}
 use borrow.Author.Tests.{eq-eqb, ne-eqb}
+use Rattle.layout.specs.Number.{Bytes}
 use Rattle.model.specs.Strings.{pick, hasZero}
-use Rattle.model.specs.Edition.{edition1}
+use Rattle.model.specs.Edition.{Edition, edition1, edition2, editionOf, Legal}
 use Rattle.model.specs.State.{State, findIn}
 use Rattle.model.specs.Visits.{visitsIn}
 use Rattle.model.specs.Frame.{Root, rootArt, Stands, Good}
@@ -19,13 +20,15 @@ use Rattle.model.specs.Promise.{Told, CheckPromise, LookUpPromise, notFound, fo
 use Rattle.descent.specs.declared.lookup.Held.{Held}
 use Rattle.descent.specs.Lookup.{partOf, valueIn, Looked, shifted, Handed}
 use Rattle.descent.proofs.LookLaws.{value-stands}
+use Rattle.model.proofs.Edition2.{lawfulOf}
+use Rattle.model.proofs.TextLaws.{bytes-all}
 use Rattle.model.proofs.UniqueLaws.{root-unique, stands-unique}
 use Rattle.store.specs.Found.{ValueAt}
 use Rattle.descent.specs.Spot.{Standing}
 
 -- what any number says of a good frame
-pub told-good : (f : List ℕ) (n : ℕ) → Good edition1 f → Told edition1 f n
-told-good f n g =
+pub told-good : (E : Edition) (f : List ℕ) (n : ℕ) → Good E f → Told E f n
+told-good E f n g =
     let h = g .1 .heap .header in
     record {
       length1 = λ z. absurd (z (rw (h .size) (h .limits), h .stored ∙ sym (h .size)));
@@ -33,9 +36,9 @@ told-good f n g =
       good = λ a b. g;
     }
 
-module _ (f k : List ℕ) where
+module _ (E : Edition) (f k : List ℕ) where
   -- the check refuses
-  pub refused-frame : (n : ℕ) → CheckPromise edition1 f n → (n ≡ 0 → ⊥) → LookUpPromise edition1 f k (notFound n 0)
+  pub refused-frame : (n : ℕ) → CheckPromise E f n → (n ≡ 0 → ⊥) → LookUpPromise E f k (notFound n 0)
   refused-frame n p ne =
       record {
         told = p .told;
@@ -46,13 +49,13 @@ module _ (f k : List ℕ) where
       }
 
   -- the key is refused
-  pub refused-key : Good edition1 f → (edition1 .keyFault k ≡ 0 → ⊥) → LookUpPromise edition1 f k (notFound (edition1 .keyFault k) 0)
+  pub refused-key : Good E f → (E .keyFault k ≡ 0 → ⊥) → LookUpPromise E f k (notFound (E .keyFault k) 0)
   refused-key g ne =
       record {
-        told = told-good f (edition1 .keyFault k) g;
+        told = told-good E f (E .keyFault k) g;
         zeros = λ z. (refl, refl);
         unvisited = λ z y. refl;
-        found = λ s w. key-found (edition1 .keyFault k) (findAt edition1 (w .root) k) (visitsIn edition1 (rootArt (w .root)) k) ne;
+        found = λ s w. key-found (E .keyFault k) (findAt E (w .root) k) (visitsIn E (rootArt (w .root)) k) ne;
         value = λ s w e. absurd (ne e);
       }
     where
@@ -60,15 +63,15 @@ module _ (f k : List ℕ) where
       key-found n p v z = rw (ne-eqb n 0 z)
 
   -- the key's part is p, and v slots are on its path
-  pub found-part : (p : Option Part) (v : ℕ) → Good edition1 f → edition1 .keyFault k ≡ 0
-      → ((s : State) (w : Stands edition1 f s) → (p ≡ findAt edition1 (w .root) k) × (v ≡ visitsIn edition1 (rootArt (w .root)) k))
-      → ((s : State) → Stands edition1 f s → findIn edition1 (s .tree) k ≡ valueIn f p) → LookUpPromise edition1 f k (foundOf p v)
+  pub found-part : (p : Option Part) (v : ℕ) → Good E f → E .keyFault k ≡ 0
+      → ((s : State) (w : Stands E f s) → (p ≡ findAt E (w .root) k) × (v ≡ visitsIn E (rootArt (w .root)) k))
+      → ((s : State) → Stands E f s → findIn E (s .tree) k ≡ valueIn f p) → LookUpPromise E f k (foundOf p v)
   found-part p v g e at h =
       record {
-        told = told-good f (foundOf p v .number) g;
+        told = told-good E f (foundOf p v .number) g;
         zeros = λ z. both-zero p z;
         unvisited = λ z y. answered p z y;
-        found = λ s w. legal-found (edition1 .keyFault k) p (findAt edition1 (w .root) k) (visitsIn edition1 (rootArt (w .root)) k) e (at s w .0) (at s w .1);
+        found = λ s w. legal-found (E .keyFault k) p (findAt E (w .root) k) (visitsIn E (rootArt (w .root)) k) e (at s w .0) (at s w .1);
         value = λ s w q. h s w ∙ in-part p;
       }
     where
@@ -88,13 +91,13 @@ module _ (f k : List ℕ) where
       in-part (some p) = refl
 
   -- looked up
-  pub looked-up : (v : Held) → Good edition1 f → edition1 .keyFault k ≡ 0 → ((s : State) (w : Stands edition1 f s) → Looked f k s (w .root) v)
-      → LookUpPromise edition1 f k (foundOf (partOf v) (v .slots))
+  pub looked-up : (v : Held) → Good E f → E .keyFault k ≡ 0 → ((s : State) (w : Stands E f s) → Looked E f k s (w .root) v)
+      → LookUpPromise E f k (foundOf (partOf v) (v .slots))
   looked-up v g e h = found-part (partOf v) (v .slots) g e (λ s w. (h s w .at, h s w .visited)) (λ s w. h s w .value)
 
 -- the numbers that the check and a key can give besides 0
-pub check-two : (f : List ℕ) (n : ℕ) → CheckPromise edition1 f n → (n ≡ 0 → ⊥) → (n ≡ 1 → ⊥) → n ≡ 2
-check-two f n p a b = elim (ℕ-discrete n 2) [ yes e ↦ e | no e ↦ absurd (a (p .good0 (p .told .good b e))) ]
+pub check-two : (E : Edition) (f : List ℕ) (n : ℕ) → CheckPromise E f n → (n ≡ 0 → ⊥) → (n ≡ 1 → ⊥) → n ≡ 2
+check-two E f n p a b = elim (ℕ-discrete n 2) [ yes e ↦ e | no e ↦ absurd (a (p .good0 (p .told .good b e))) ]
 
 abbrev fault : Bool → Bool → Bool → ℕ
 fault x y z = pick x 3 (pick y 3 (pick z 4 0))
@@ -105,39 +108,50 @@ four false true z a b = absurd (b refl)
 four false false true a b = refl
 four false false false a b = absurd (a refl)
 
-pub key-four : (k : List ℕ) → (edition1 .keyFault k ≡ 0 → ⊥) → (edition1 .keyFault k ≡ 3 → ⊥) → edition1 .keyFault k ≡ 4
-key-four k a b = four (eqb (length k) 0) (ltb 112 (length k)) (hasZero k) a b
+four-of : (second : Bool) (k : List ℕ) → let x = pick second edition2 edition1 .keyFault k in (x ≡ 0 → ⊥) → (x ≡ 3 → ⊥) → x ≡ 4
+four-of true k a b = four (eqb (length k) 0) (ltb 255 (length k)) false a b
+four-of false k a b = four (eqb (length k) 0) (ltb 112 (length k)) (hasZero k) a b
+
+pub key-four : (ed : ℕ) (k : List ℕ) → (editionOf ed .keyFault k ≡ 0 → ⊥) → (editionOf ed .keyFault k ≡ 3 → ⊥) → editionOf ed .keyFault k ≡ 4
+unfolding editionOf
+key-four ed k = four-of (eqb ed 2) k
 
 -- ---- the ends, by the tests that led there: n is the check's number, e the key's fault
 
-module _ (f k : List ℕ) (n : ℕ) (given : CheckPromise edition1 f n) where
-  pub end-one : n ≡ 1 → LookUpPromise edition1 f k (notFound 1 0)
-  end-one e = refused-frame f k 1 (rw e at given) (λ z. omega arith)
+module _ (ed : ℕ) (f k : List ℕ) (n : ℕ) (given : CheckPromise (editionOf ed) f n) where
+  abbrev E : Edition
+  E = editionOf ed
 
-  pub end-two : (n ≡ 0 → ⊥) → (n ≡ 1 → ⊥) → LookUpPromise edition1 f k (notFound 2 0)
-  end-two a b = let e = check-two f n given a b in refused-frame f k 2 (rw e at given) (λ z. omega arith)
+  pub end-one : n ≡ 1 → LookUpPromise E f k (notFound 1 0)
+  end-one e = refused-frame E f k 1 (rw e at given) (λ z. omega arith)
 
-  good : n ≡ 0 → Good edition1 f
+  pub end-two : (n ≡ 0 → ⊥) → (n ≡ 1 → ⊥) → LookUpPromise E f k (notFound 2 0)
+  end-two a b = let e = check-two E f n given a b in refused-frame E f k 2 (rw e at given) (λ z. omega arith)
+
+  good : n ≡ 0 → Good E f
   good e = given .told .good (λ z. omega arith) (λ z. omega arith)
 
-  pub standing : n ≡ 0 → Standing f
-  standing e = let g = good e in record { st = g .0; stands = g .1 }
+  pub standing : n ≡ 0 → Standing E f
+  standing e = let g = good e in record { lawful = lawfulOf ed; st = g .0; stands = g .1 }
 
-  pub end-three : n ≡ 0 → (e : ℕ) → e ≡ edition1 .keyFault k → e ≡ 3 → LookUpPromise edition1 f k (notFound 3 0)
-  end-three z e q h = let x : edition1 .keyFault k ≡ 3 = sym q ∙ h in rw x at (refused-key f k (good z) (λ y. omega (arith, x, y)))
+  pub legal-key : {e : ℕ} → e ≡ E .keyFault k → e ≡ 0 → Bytes k → Legal E k
+  legal-key q h B = record { passes = sym q ∙ h; bytes = bytes-all k B }
 
-  pub end-four : n ≡ 0 → (e : ℕ) → e ≡ edition1 .keyFault k → (e ≡ 3 → ⊥) → (e ≡ 0 → ⊥) → LookUpPromise edition1 f k (notFound 4 0)
+  pub end-three : n ≡ 0 → (e : ℕ) → e ≡ E .keyFault k → e ≡ 3 → LookUpPromise E f k (notFound 3 0)
+  end-three z e q h = let x : E .keyFault k ≡ 3 = sym q ∙ h in rw x at (refused-key E f k (good z) (λ y. omega (arith, x, y)))
+
+  pub end-four : n ≡ 0 → (e : ℕ) → e ≡ E .keyFault k → (e ≡ 3 → ⊥) → (e ≡ 0 → ⊥) → LookUpPromise E f k (notFound 4 0)
   end-four z e q a b =
-      let b' : edition1 .keyFault k ≡ 0 → ⊥ = λ y. b (q ∙ y) in
-      let x = key-four k b' (λ y. a (q ∙ y)) in rw x at (refused-key f k (good z) b')
+      let b' : E .keyFault k ≡ 0 → ⊥ = λ y. b (q ∙ y) in
+      let x = key-four ed k b' (λ y. a (q ∙ y)) in rw x at (refused-key E f k (good z) b')
 
-  pub end-found : n ≡ 0 → (e : ℕ) → e ≡ edition1 .keyFault k → e ≡ 0 → (v : Held) → ((s : State) (w : Stands edition1 f s) → Looked f k s (w .root) v) → v .found ≡ true
-      → LookUpPromise edition1 f k (record { number = 0; place = v .place; long = v .length; slots = v .slots })
-  end-found z e q h v L t = rw t at (looked-up f k v (good z) (sym q ∙ h) L)
+  pub end-found : n ≡ 0 → (e : ℕ) → e ≡ E .keyFault k → e ≡ 0 → (v : Held) → ((s : State) (w : Stands E f s) → Looked E f k s (w .root) v) → v .found ≡ true
+      → LookUpPromise E f k (record { number = 0; place = v .place; long = v .length; slots = v .slots })
+  end-found z e q h v L t = rw t at (looked-up E f k v (good z) (sym q ∙ h) L)
 
-  pub end-absent : n ≡ 0 → (e : ℕ) → e ≡ edition1 .keyFault k → e ≡ 0 → (v : Held) → ((s : State) (w : Stands edition1 f s) → Looked f k s (w .root) v) → v .found ≡ false
-      → LookUpPromise edition1 f k (notFound 8 (v .slots))
-  end-absent z e q h v L t = rw t at (looked-up f k v (good z) (sym q ∙ h) L)
+  pub end-absent : n ≡ 0 → (e : ℕ) → e ≡ E .keyFault k → e ≡ 0 → (v : Held) → ((s : State) (w : Stands E f s) → Looked E f k s (w .root) v) → v .found ≡ false
+      → LookUpPromise E f k (notFound 8 (v .slots))
+  end-absent z e q h v L t = rw t at (looked-up E f k v (good z) (sym q ∙ h) L)
 
   -- ---- the value as a part
 
@@ -145,25 +159,25 @@ module _ (f k : List ℕ) (n : ℕ) (given : CheckPromise edition1 f n) where
     from-start : start ≡ shifted start 0
     from-start = ap (λ (n : ℕ). (start .0, n)) (omega arith)
 
-    pub value-refused : (n ≡ 0 → ⊥) → ValueAt f k start start []
-    value-refused ne = record { at = 0; stands = from-start; promise = record { look = notFound n 0; looked = refused-frame f k n given ne; starts = refl; holds = refl } }
+    pub value-refused : (n ≡ 0 → ⊥) → ValueAt E f k start start []
+    value-refused ne = record { at = 0; stands = from-start; promise = record { look = notFound n 0; looked = refused-frame E f k n given ne; starts = refl; holds = refl } }
 
-    pub value-illegal : n ≡ 0 → (e : ℕ) → e ≡ edition1 .keyFault k → (e ≡ 0 → ⊥) → ValueAt f k start start []
+    pub value-illegal : n ≡ 0 → (e : ℕ) → e ≡ E .keyFault k → (e ≡ 0 → ⊥) → ValueAt E f k start start []
     value-illegal z e q ne =
-        record { at = 0; stands = from-start; promise = record { look = notFound (edition1 .keyFault k) 0; looked = refused-key f k (good z) (λ y. ne (q ∙ y)); starts = refl; holds = refl } }
+        record { at = 0; stands = from-start; promise = record { look = notFound (E .keyFault k) 0; looked = refused-key E f k (good z) (λ y. ne (q ∙ y)); starts = refl; holds = refl } }
 
-    pub value-told : {part : List ℕ} {here : ℕ × ℕ} → n ≡ 0 → (e : ℕ) → e ≡ edition1 .keyFault k → e ≡ 0
-        → ((s : State) (w : Stands edition1 f s) → Handed f start (foundOf (findAt edition1 (w .root) k) (visitsIn edition1 (rootArt (w .root)) k)) here part) → ValueAt f k start here part
+    pub value-told : {part : List ℕ} {here : ℕ × ℕ} → n ≡ 0 → (e : ℕ) → e ≡ E .keyFault k → e ≡ 0
+        → ((s : State) (w : Stands E f s) → Handed f start (foundOf (findAt E (w .root) k) (visitsIn E (rootArt (w .root)) k)) here part) → ValueAt E f k start here part
     value-told z e q h v =
-        let g = good z in let p = findAt edition1 (g .1 .root) k in let u = visitsIn edition1 (rootArt (g .1 .root)) k in let H = v (g .0) (g .1) in
+        let g = good z in let p = findAt E (g .1 .root) k in let u = visitsIn E (rootArt (g .1 .root)) k in let H = v (g .0) (g .1) in
         record {
           at = foundOf p u .place;
           stands = H .stands;
           promise = record {
             look = foundOf p u;
-            looked = found-part f k p u g (sym q ∙ h)
-                (λ s w. let r = root-unique edition1 f (g .0) s (g .1) w in (ap (λ (x : Root). findAt edition1 x k) r, ap (λ (x : Root). visitsIn edition1 (rootArt x) k) r))
-                (λ s w. ap (λ (x : State). findIn edition1 (x .tree) k) (stands-unique edition1 f s (g .0) w (g .1)) ∙ value-stands k (g .1));
+            looked = found-part E f k p u g (sym q ∙ h)
+                (λ s w. let r = root-unique E f (g .0) s (g .1) w in (ap (λ (x : Root). findAt E x k) r, ap (λ (x : Root). visitsIn E (rootArt x) k) r))
+                (λ s w. ap (λ (x : State). findIn E (x .tree) k) (stands-unique E f s (g .0) w (g .1)) ∙ value-stands E k (g .1));
             starts = refl;
             holds = H .bytes;
           };

@@ -8,10 +8,11 @@ use lib.ListN.{length}
 use borrow.Author.Tests.{lt-ltb, le-ltb}
 use Rattle.layout.specs.Number.{Bytes}
 use Rattle.model.specs.Strings.{pick}
-use Rattle.model.specs.Edition.{edition1, valueFault}
+use Rattle.model.specs.Edition.{Edition, editionOf, valueFault}
 use Rattle.model.specs.State.{State, Done, done, unless, Write, callWrite, onWrite}
 use Rattle.model.specs.Frame.{Good}
 use Rattle.model.specs.Promise.{changes, CheckPromise, WritePromise}
+use Rattle.model.proofs.Edition2.{lawfulOf}
 use Rattle.model.proofs.TextLaws.{bytes-all}
 use Rattle.put_core.specs.Core.{Left, Asked, WriteMade}
 use Rattle.put_core.proofs.CoreLaws.{left-same}
@@ -22,59 +23,63 @@ use Rattle.store.specs.declared.put.Bar.the-variants.{Nothing, Refused}
 use Rattle.store.specs.Write.{Barred}
 use Rattle.store.proofs.LookLaws.{told-good, check-two, key-four, standing}
 
-module _ (f k v : List ℕ) (a : Write) where
+module _ (E : Edition) (f k v : List ℕ) (a : Write) where
   -- the check refuses
-  refused-frame : (n : ℕ) → CheckPromise edition1 f n → (n ≡ 0 → ⊥) → WritePromise edition1 a f k v n f
+  refused-frame : (n : ℕ) → CheckPromise E f n → (n ≡ 0 → ⊥) → WritePromise E a f k v n f
   refused-frame n p ne = record { told = p .told; answer = λ s w. absurd (ne (p .good0 (s, w))); after = λ s w. absurd (ne (p .good0 (s, w))); kept = λ z. refl }
 
   -- the key or the value is refused
-  refused : Good edition1 f → (n : ℕ) → changes n ≡ false → ((s : State) → onWrite edition1 a s k v ≡ done n s) → WritePromise edition1 a f k v n f
-  refused g n z is = record { told = told-good f n g; answer = λ s w. sym (ap (λ (d : Done). d .answer) (is s)); after = λ s w. left-same k v n w z (is s); kept = λ q. refl }
+  refused : Good E f → (n : ℕ) → changes n ≡ false → ((s : State) → onWrite E a s k v ≡ done n s) → WritePromise E a f k v n f
+  refused g n z is = record { told = told-good E f n g; answer = λ s w. sym (ap (λ (d : Done). d .answer) (is s)); after = λ s w. left-same E k v n w z (is s); kept = λ q. refl }
 
-  key-is : (x : ℕ) → edition1 .keyFault k ≡ x → (s : State) → onWrite edition1 a s k v ≡ unless x s (unless (valueFault v) s (callWrite edition1 a s k v))
-  key-is x e s = ap (λ i. unless i s (unless (valueFault v) s (callWrite edition1 a s k v))) e
+  key-is : (x : ℕ) → E .keyFault k ≡ x → (s : State) → onWrite E a s k v ≡ unless x s (unless (valueFault v) s (callWrite E a s k v))
+  key-is x e s = ap (λ i. unless i s (unless (valueFault v) s (callWrite E a s k v))) e
 
-  value-is : (x : ℕ) → edition1 .keyFault k ≡ 0 → valueFault v ≡ x → (s : State) → onWrite edition1 a s k v ≡ unless x s (callWrite edition1 a s k v)
-  value-is x e q s = key-is 0 e s ∙ ap (λ i. unless i s (callWrite edition1 a s k v)) q
+  value-is : (x : ℕ) → E .keyFault k ≡ 0 → valueFault v ≡ x → (s : State) → onWrite E a s k v ≡ unless x s (callWrite E a s k v)
+  value-is x e q s = key-is 0 e s ∙ ap (λ i. unless i s (callWrite E a s k v)) q
 
 -- neither is: the frame is good, and key and value legal
-pub made : (f k v : List ℕ) (a : Write) {n : ℕ} {f' : List ℕ} → Asked f k v → WriteMade a f k v n f' → WritePromise edition1 a f k v n f'
-made f k v a {n} {f'} A M =
-    let is = value-is f k v a 0 (A .legal .passes) (ap (λ b. pick b 5 0) (le-ltb 65535 (length v) (A .legalValue .passes))) in
+pub made : (E : Edition) (f k v : List ℕ) (a : Write) {n : ℕ} {f' : List ℕ} → Asked E f k v → WriteMade E a f k v n f' → WritePromise E a f k v n f'
+made E f k v a {n} {f'} A M =
+    let is = value-is E f k v a 0 (A .legal .passes) (ap (λ b. pick b 5 0) (le-ltb 65535 (length v) (A .legalValue .passes))) in
     record {
-      told = told-good f n (A .st, A .stands);
+      told = told-good E f n (A .st, A .stands);
       answer = λ s w. M .answer s w ∙ sym (ap (λ (d : Done). d .answer) (is s));
-      after = λ s w. subst (Left f k v n f' s w) (sym (is s)) (M .after s w);
+      after = λ s w. subst (Left E f k v n f' s w) (sym (is s)) (M .after s w);
       kept = M .kept;
     }
 
 -- ---- the ends of the tests, by those that led there: n is the check's number, e the key's fault
 
-module _ (f k v : List ℕ) {n : ℕ} (checked : CheckPromise edition1 f n) where
-  pub bar-one : n ≡ 1 → (a : Write) → WritePromise edition1 a f k v 1 f
-  bar-one e a = refused-frame f k v a 1 (rw e at checked) (λ z. omega arith)
+module _ (ed : ℕ) (f k v : List ℕ) {n : ℕ} (checked : CheckPromise (editionOf ed) f n) where
+  abbrev E : Edition
+  E = editionOf ed
 
-  pub bar-two : (n ≡ 0 → ⊥) → (n ≡ 1 → ⊥) → (a : Write) → WritePromise edition1 a f k v 2 f
-  bar-two x y a = let e = check-two f n checked x y in refused-frame f k v a 2 (rw e at checked) (λ z. omega arith)
+  pub bar-one : n ≡ 1 → (a : Write) → WritePromise E a f k v 1 f
+  bar-one e a = refused-frame E f k v a 1 (rw e at checked) (λ z. omega arith)
+
+  pub bar-two : (n ≡ 0 → ⊥) → (n ≡ 1 → ⊥) → (a : Write) → WritePromise E a f k v 2 f
+  bar-two x y a = let e = check-two E f n checked x y in refused-frame E f k v a 2 (rw e at checked) (λ z. omega arith)
 
   module _ (good : n ≡ 0) where
-    stands : Good edition1 f
-    stands = let S = standing f k n checked good in (S .st, S .stands)
+    stands : Good E f
+    stands = let S = standing ed f k n checked good in (S .st, S .stands)
 
-    module _ {e : ℕ} (fault : e ≡ edition1 .keyFault k) where
-      pub bar-three : e ≡ 3 → (a : Write) → WritePromise edition1 a f k v 3 f
-      bar-three h a = refused f k v a stands 3 refl (key-is f k v a 3 (sym fault ∙ h))
+    module _ {e : ℕ} (fault : e ≡ E .keyFault k) where
+      pub bar-three : e ≡ 3 → (a : Write) → WritePromise E a f k v 3 f
+      bar-three h a = refused E f k v a stands 3 refl (key-is E f k v a 3 (sym fault ∙ h))
 
-      pub bar-four : (e ≡ 3 → ⊥) → (e ≡ 0 → ⊥) → (a : Write) → WritePromise edition1 a f k v 4 f
-      bar-four x y a = refused f k v a stands 4 refl (key-is f k v a 4 (key-four k (λ z. y (fault ∙ z)) (λ z. x (fault ∙ z))))
+      pub bar-four : (e ≡ 3 → ⊥) → (e ≡ 0 → ⊥) → (a : Write) → WritePromise E a f k v 4 f
+      bar-four x y a = refused E f k v a stands 4 refl (key-is E f k v a 4 (key-four ed k (λ z. y (fault ∙ z)) (λ z. x (fault ∙ z))))
 
       module _ (legal : e ≡ 0) where
-        pub bar-five : 65535 < length v → (a : Write) → WritePromise edition1 a f k v 5 f
-        bar-five l a = refused f k v a stands 5 refl (value-is f k v a 5 (sym fault ∙ legal) (ap (λ b. pick b 5 0) (lt-ltb 65535 (length v) l)))
+        pub bar-five : 65535 < length v → (a : Write) → WritePromise E a f k v 5 f
+        bar-five l a = refused E f k v a stands 5 refl (value-is E f k v a 5 (sym fault ∙ legal) (ap (λ b. pick b 5 0) (lt-ltb 65535 (length v) l)))
 
-        pub bar-none : length v ≤ 65535 → Bytes k → Bytes v → Asked f k v
+        pub bar-none : length v ≤ 65535 → Bytes k → Bytes v → Asked E f k v
         bar-none short bk bv =
             record {
+              lawful = lawfulOf ed;
               st = stands .0;
               stands = stands .1;
               legal = record { passes = sym fault ∙ legal; bytes = bytes-all k bk };
@@ -83,8 +88,8 @@ module _ (f k v : List ℕ) {n : ℕ} (checked : CheckPromise edition1 f n) wher
 
 -- ---- by what `against` has told
 
-pub nothing-barred : (f k v : List ℕ) (r : Bar) → Barred f k v r → r ≡ Nothing → Asked f k v
-nothing-barred f k v r B e = rw e at B
+pub nothing-barred : (E : Edition) (f k v : List ℕ) (r : Bar) → Barred E f k v r → r ≡ Nothing → Asked E f k v
+nothing-barred E f k v r B e = rw e at B
 
-pub barred-by : (f k v : List ℕ) (r : Bar) {x : Refusal} → Barred f k v r → r ≡ Refused x → (a : Write) → WritePromise edition1 a f k v (refusalNumber x) f
-barred-by f k v r B e = rw e at B
+pub barred-by : (E : Edition) (f k v : List ℕ) (r : Bar) {x : Refusal} → Barred E f k v r → r ≡ Refused x → (a : Write) → WritePromise E a f k v (refusalNumber x) f
+barred-by E f k v r B e = rw e at B

@@ -3,7 +3,7 @@ use Prim.Native.Nat.{ℕ}
 use mathlib.Core.Path.{_≡_}
 use mathlib.Core.List.{List, [], _∷_}
 use lib.ListN.{getD}
-use Rattle.model.specs.Edition.{edition1}
+use Rattle.model.specs.Edition.{Edition}
 use Rattle.model.specs.State.{State}
 use Rattle.model.specs.Frame.{Stands}
 use Rattle.model.specs.Promise.{CheckPromise}
@@ -20,7 +20,7 @@ abbrev pub fullness : State → List ℕ
 fullness s = s .F ∷ s .N ∷ s .U ∷ s .B ∷ s .R ∷ s .X ∷ lists (s .free)
 
 -- n is the check's number; a good frame's numbers are told, and of any other bytes nothing
-pub record InfoPromise (f : List ℕ) (n : ℕ) (told : List ℕ) : Type 0 where
-  pub check : CheckPromise edition1 f n
-  pub full : (s : State) → Stands edition1 f s → told ≡ fullness s
+pub record InfoPromise (E : Edition) (f : List ℕ) (n : ℕ) (told : List ℕ) : Type 0 where
+  pub check : CheckPromise E f n
+  pub full : (s : State) → Stands E f s → told ≡ fullness s
   pub nothing : (n ≡ 0 → ⊥) → told ≡ []

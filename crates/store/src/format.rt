@@ -3,8 +3,9 @@ use answers::Format;
 use answers::Refusal;
 use fields::body::EmptyRoot;
 use fields::header::Header;
+use shape::header::number_of;
 ghost use Rattle.answers.specs.Number.{formatNumber};
-ghost use Rattle.model.specs.Edition.{edition1};
+ghost use Rattle.model.specs.Edition.{editionOf};
 ghost use Rattle.model.specs.Promise.{FormatPromise};
 ghost use Rattle.pieces.specs.Decides.{Decides};
 ghost use Rattle.blank.specs.Limits.{Limits};
@@ -37,8 +38,8 @@ fn limits_hold(length: usize, capacity: usize) -> bool
     true
 }
 
-pub fn format(frame: &mut [u8], length: usize, capacity: usize) -> Format
-    ensures { λ r. ⌜ FormatPromise edition1 (now (frame .entry)) length capacity (formatNumber r) (now (frame .exit)) ⌝ }
+pub fn format(frame: &mut [u8], length: usize, capacity: usize, edition: usize) -> Format
+    ensures { λ r. ⌜ FormatPromise (editionOf edition) (now (frame .entry)) length capacity (formatNumber r) (now (frame .exit)) ⌝ }
 {
     if frame.len() != length {
         return Format::Refused(Refusal::Length);
@@ -46,6 +47,6 @@ pub fn format(frame: &mut [u8], length: usize, capacity: usize) -> Format
     if !limits_hold(length, capacity) {
         return Format::Refused(Refusal::Length);
     }
-    blank::lay_out(frame, capacity);
+    blank::lay_out(frame, capacity, number_of(edition));
     Format::Done
 }

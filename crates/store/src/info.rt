@@ -8,7 +8,7 @@ use room::fit::Needs;
 use room::left;
 ghost use mathlib.Core.Path.{_≡_};
 ghost use Rattle.answers.specs.Number.{infoNumber, infoTold, counted};
-ghost use Rattle.model.specs.Edition.{edition1};
+ghost use Rattle.model.specs.Edition.{Edition, SomeEdition, editionOf};
 ghost use Rattle.model.specs.State.{State};
 ghost use Rattle.model.specs.Frame.{Stands};
 ghost use Rattle.descent.specs.Spot.{Standing};
@@ -16,8 +16,8 @@ ghost use Rattle.store.specs.Info.{fullness, InfoPromise};
 
 // The numbers of a good frame. Each list is read to its end: no list has as many bodies as are asked for.
 fn counts(frame: &[u8]) -> Counts
-    requires { ⌜ Standing (now frame) ⌝ }
-    ensures { λ r. ⌜ ((s : State) → Stands edition1 (now (frame .entry)) s → counted r ≡ fullness s) ⌝ }
+    requires { ⌜ SomeEdition (λ E. Standing E (now frame)) ⌝ }
+    ensures { λ r. ⌜ ((E : Edition) (s : State) → Stands E (now (frame .entry)) s → counted r ≡ fullness s) ⌝ }
 {
     let given = Header::slots_given(frame);
     let every = Needs {
@@ -43,10 +43,10 @@ fn counts(frame: &[u8]) -> Counts
     }
 }
 
-pub fn info(frame: &[u8]) -> Info
-    ensures { λ r. ⌜ InfoPromise (now (frame .entry)) (infoNumber r) (infoTold r) ⌝ }
+pub fn info(frame: &[u8], edition: usize) -> Info
+    ensures { λ r. ⌜ InfoPromise (editionOf edition) (now (frame .entry)) (infoNumber r) (infoTold r) ⌝ }
 {
-    let n = audit::check(frame);
+    let n = audit::check(frame, edition);
     if n == audit::BAD_LENGTH {
         return Info::Refused(Refusal::Length);
     }

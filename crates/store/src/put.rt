@@ -3,9 +3,8 @@ use answers::Put;
 use answers::PutOrReplace;
 use answers::Refusal;
 use answers::Replace;
-use descent::key;
 ghost use Rattle.answers.specs.Number.{putNumber, replaceNumber, putOrReplaceNumber};
-ghost use Rattle.model.specs.Edition.{edition1};
+ghost use Rattle.model.specs.Edition.{editionOf};
 ghost use Rattle.model.specs.Promise.{PutPromise, ReplacePromise, PutOrReplacePromise};
 ghost use Rattle.store.specs.Write.{Barred};
 
@@ -18,18 +17,18 @@ pub enum Bar {
     Refused(Refusal),
 }
 
-fn against(frame: &[u8], key: &[u8], value: &[u8]) -> Bar
-    ensures { λ r. ⌜ Barred (now (frame .entry)) (now (key .entry)) (now (value .entry)) r ⌝ }
+fn against(frame: &[u8], key: &[u8], value: &[u8], edition: usize) -> Bar
+    ensures { λ r. ⌜ Barred (editionOf edition) (now (frame .entry)) (now (key .entry)) (now (value .entry)) r ⌝ }
 {
-    let n = audit::check(frame);
+    let n = audit::check(frame, edition);
     if n == audit::BAD_LENGTH {
         return Bar::Refused(Refusal::Length);
     }
     if n != audit::GOOD {
         return Bar::Refused(Refusal::Frame);
     }
-    let fault = key::fault(key);
-    if fault == key::BAD_KEY_LENGTH {
+    let fault = keys::fault(key, edition);
+    if fault == keys::BAD_KEY_LENGTH {
         return Bar::Refused(Refusal::KeyLength);
     }
     if fault != 0 {
@@ -41,32 +40,32 @@ fn against(frame: &[u8], key: &[u8], value: &[u8]) -> Bar
     Bar::Nothing
 }
 
-pub fn put(frame: &mut [u8], key: &[u8], value: &[u8]) -> Put
-    ensures { λ r. ⌜ PutPromise edition1 (now (frame .entry)) (now (key .entry)) (now (value .entry)) (putNumber r) (now (frame .exit)) ⌝ }
+pub fn put(frame: &mut [u8], key: &[u8], value: &[u8], edition: usize) -> Put
+    ensures { λ r. ⌜ PutPromise (editionOf edition) (now (frame .entry)) (now (key .entry)) (now (value .entry)) (putNumber r) (now (frame .exit)) ⌝ }
 {
-    let bar = against(frame, key, value);
+    let bar = against(frame, key, value, edition);
     let Bar::Refused(r) = bar else {
-        return put_core::put_new(frame, key, value);
+        return put_core::put_new(frame, key, value, edition);
     };
     Put::Refused(r)
 }
 
-pub fn replace(frame: &mut [u8], key: &[u8], value: &[u8]) -> Replace
-    ensures { λ r. ⌜ ReplacePromise edition1 (now (frame .entry)) (now (key .entry)) (now (value .entry)) (replaceNumber r) (now (frame .exit)) ⌝ }
+pub fn replace(frame: &mut [u8], key: &[u8], value: &[u8], edition: usize) -> Replace
+    ensures { λ r. ⌜ ReplacePromise (editionOf edition) (now (frame .entry)) (now (key .entry)) (now (value .entry)) (replaceNumber r) (now (frame .exit)) ⌝ }
 {
-    let bar = against(frame, key, value);
+    let bar = against(frame, key, value, edition);
     let Bar::Refused(r) = bar else {
-        return put_core::replace(frame, key, value);
+        return put_core::replace(frame, key, value, edition);
     };
     Replace::Refused(r)
 }
 
-pub fn put_or_replace(frame: &mut [u8], key: &[u8], value: &[u8]) -> PutOrReplace
-    ensures { λ r. ⌜ PutOrReplacePromise edition1 (now (frame .entry)) (now (key .entry)) (now (value .entry)) (putOrReplaceNumber r) (now (frame .exit)) ⌝ }
+pub fn put_or_replace(frame: &mut [u8], key: &[u8], value: &[u8], edition: usize) -> PutOrReplace
+    ensures { λ r. ⌜ PutOrReplacePromise (editionOf edition) (now (frame .entry)) (now (key .entry)) (now (value .entry)) (putOrReplaceNumber r) (now (frame .exit)) ⌝ }
 {
-    let bar = against(frame, key, value);
+    let bar = against(frame, key, value, edition);
     let Bar::Refused(r) = bar else {
-        return put_core::put_or_replace(frame, key, value);
+        return put_core::put_or_replace(frame, key, value, edition);
     };
     PutOrReplace::Refused(r)
 }

@@ -1,7 +1,8 @@
 //! Changes, and what is said of their answers.
 
+use crate::image::EDITION;
 use crate::lines::Record;
-use frame_rules::layout::{number, LONGEST_KEY};
+use frame_rules::layout::number;
 use frame_store::{Batch, Frame, Full, Lack, Refusal};
 
 pub enum Change {
@@ -46,7 +47,7 @@ impl Change {
 
     fn add_to(&self, batch: &mut Batch) -> Result<(), Full> {
         // A key that is longer is refused as one that is too long by a byte.
-        let key = &self.key()[..self.key().len().min(LONGEST_KEY + 1)];
+        let key = &self.key()[..self.key().len().min(EDITION.longest_key() + 1)];
         match self {
             Change::Put(_) => batch.put(key, self.value()),
             Change::Replace(_) => batch.replace(key, self.value()),

@@ -6,13 +6,16 @@
 
 use crate::ended::Ended;
 use frame_rules::check::read as read_by_rules;
-use frame_rules::layout::LONGEST_FRAME;
+use frame_rules::layout::{Edition, LONGEST_FRAME};
 use frame_rules::words;
 use frame_store::{Frame, Refusal, View};
 use std::fs::{self, File, OpenOptions};
 use std::io::{self, ErrorKind, Read, Write};
 use std::os::unix::fs::{fchown, MetadataExt};
 use std::path::{Path, PathBuf};
+
+/// The edition of the images that are taken.
+pub const EDITION: Edition = Edition::One;
 
 /// What the name of the file beside has at its end.
 const BESIDE: &str = ".frame-new";
@@ -81,12 +84,12 @@ pub fn verdict(refusal: Refusal) -> String {
 
 /// The rules that are broken, in words, for bytes that the proved check has refused.
 pub fn why_not(bytes: &[u8], refusal: Refusal) -> Vec<String> {
-    let told = match (refusal, read_by_rules(bytes)) {
+    let told = match (refusal, read_by_rules(EDITION, bytes)) {
         (Refusal::Length, None) => vec![words::told_lengths(bytes)],
         (_, None) => Vec::new(),
         (_, Some(reading)) => {
             let broken = reading.broken.iter();
-            broken.map(|(rule, place)| words::told(bytes, *rule, place)).collect()
+            broken.map(|(rule, place)| words::told(EDITION, bytes, *rule, place)).collect()
         }
     };
     match told.is_empty() {

@@ -2,6 +2,7 @@
 //!
 //! Read by the rules of document 01, after the proved check has called the frame good.
 
+use crate::image::EDITION;
 use frame_rules::check::read;
 use frame_rules::layout::*;
 use std::ops::Range;
@@ -30,7 +31,7 @@ pub struct Stretch {
 
 /// All bytes of a good frame, in their order.
 pub fn stretches(frame: &[u8]) -> Vec<Stretch> {
-    let reading = read(frame).expect("the lengths of a good frame agree");
+    let reading = read(EDITION, frame).expect("the lengths of a good frame agree");
     let (data, never_given) = (get32(frame, AT_D), get32(frame, AT_B));
     let mut taken: Vec<Stretch> = Vec::new();
     let mut body = |slot: usize, kind: Kind, what: What| {

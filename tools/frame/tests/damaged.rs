@@ -4,10 +4,13 @@ mod support;
 
 use second_store::check::{check_before, read, Rule};
 use second_store::damage::{all, undamaged, Aim};
-use second_store::layout::number;
+use second_store::layout::{number, Edition};
 use second_store::random::Random;
 use second_store::unused::soiled;
 use support::Folder;
+
+/// Of the images that the tool takes.
+const EDITION: Edition = Edition::One;
 
 /// What is said of an image that was good by the old rule.
 const HINT: &str =
@@ -16,7 +19,7 @@ const HINT: &str =
 #[test]
 fn every_damage_is_told() {
     let folder = Folder::new("damaged");
-    for damage in all() {
+    for damage in all(EDITION) {
         folder.write("i", &damage.bytes);
         let ran = folder.frame(&["check", "i"]);
         assert_eq!((ran.status, ran.err.as_str()), (Some(1), ""), "{}", damage.name);
@@ -24,19 +27,19 @@ fn every_damage_is_told() {
         assert_eq!(verdict, format!("i: not a good frame (answer {})", damage.number()));
         let rule = match damage.aim {
             Aim::Lengths => "F is ",
-            Aim::Alone(rule) | Aim::Among(rule) => rule.sentence(),
+            Aim::Alone(rule) | Aim::Among(rule) => rule.sentence(EDITION),
         };
         let told = why.lines().any(|line| line.starts_with(&format!("  {rule}")));
         assert!(told, "{}: {rule}\n{why}", damage.name);
         assert!(why.lines().all(|line| line.contains("byte")), "{why}");
         let hinted = why.lines().filter(|line| *line == HINT).count();
-        let before = check_before(&damage.bytes) == number::DONE;
+        let before = check_before(EDITION, &damage.bytes) == number::DONE;
         assert_eq!(hinted, usize::from(before), "{}: {why}", damage.name);
         if let Aim::Alone(_) = damage.aim {
             assert_eq!(why.lines().count(), 1 + hinted, "{}: {why}", damage.name);
         }
     }
-    for frame in undamaged() {
+    for frame in undamaged(EDITION) {
         folder.write("i", frame);
         folder.frame(&["check", "i"]).done("i: a good frame\n");
     }
@@ -48,7 +51,7 @@ fn an_image_from_before_is_moved_over() {
     folder.image("good", 2048, 32, "a=1\nab=22\nb=3\n");
     folder.frame(&["replace", "good", "ab", "2"]).done("");
     let good = folder.read("good");
-    let reading = read(&good).expect("the lengths agree");
+    let reading = read(EDITION, &good).expect("the lengths agree");
     let old = soiled(&mut Random::new(1), &good, &reading, &Rule::WIPED);
     folder.write("i", &old);
     for words in [

@@ -4,6 +4,7 @@
 mod support;
 
 use second_store::damage::undamaged;
+use second_store::layout::Edition;
 use std::fs;
 use support::Folder;
 
@@ -45,7 +46,7 @@ fn a_packed_frame() {
 #[test]
 fn a_frame_with_every_kind() {
     let folder = Folder::new("draw_kinds");
-    let frames = undamaged();
+    let frames = undamaged(Edition::One);
     folder.write("i", frames.iter().max_by_key(|frame| frame.len()).expect("some frame"));
     drawn(&folder, "kinds");
 }

@@ -1,4 +1,4 @@
-//! What the rules say of frames, a line for each: for the page's tests, whose
+//! What the rules say of frames of edition 1, a line for each: for the page's tests, whose
 //! own reader is held to it.
 //!
 //! `broken FILE LENGTH`: the file is frames of that length, one after another.
@@ -7,6 +7,7 @@
 //! then `|` and the live slots with their kinds.
 
 use frame_rules::check::read;
+use frame_rules::layout::Edition;
 use std::io::Write;
 
 fn main() -> std::io::Result<()> {
@@ -17,7 +18,7 @@ fn main() -> std::io::Result<()> {
     let bytes = std::fs::read(file)?;
     let mut out = std::io::BufWriter::new(std::io::stdout().lock());
     for frame in bytes.chunks(length.parse().expect("a length in bytes")) {
-        let Some(reading) = read(frame) else {
+        let Some(reading) = read(Edition::One, frame) else {
             writeln!(out, "length")?;
             continue;
         };

@@ -1,11 +1,13 @@
 //! The exact check, as a list of named rules.
 //!
 //! Believed here: the section "A good frame" and the first two refusals of
-//! document 01, and Q-3 of document 02: in a good frame freed bodies, dead
-//! extents and bytes from B on are zero. `read` looks at a whole frame and
-//! collects every rule it breaks, each with the first place where it does; a
-//! frame is good exactly if it breaks none, and was good before Q-3 exactly if
-//! it breaks none but those of Q-3. It never looks at padding.
+//! document 01; Q-3 of document 02: in a good frame freed bodies, dead
+//! extents and bytes from B on are zero; and Q-7: the keys of edition 2, and
+//! its chains of Prefixes, each full but the last. `read` looks at a whole frame
+//! as one of an edition and collects every rule it breaks, each with the first
+//! place where it does; a frame is good exactly if it breaks none, and was good
+//! before Q-3 exactly if it breaks none but those of Q-3. It never looks at
+//! padding.
 
 use crate::layout::*;
 use std::collections::BTreeMap;
@@ -14,7 +16,7 @@ use std::ops::Range;
 /// One sentence of "A good frame" each; the last three are of Q-3.
 #[derive(Clone, Copy, PartialEq, Eq, PartialOrd, Ord, Debug)]
 pub enum Rule {
-    /// The edition is 1.
+    /// The edition is the one that the frame is read as.
     Edition,
     /// N is even, from 8 to 10,240.
     SlotCapacity,
@@ -76,11 +78,12 @@ pub enum Rule {
     UnusedChildren,
     /// A Prefix has 1 to 112 bytes.
     PrefixLength,
-    /// The child of a Prefix is of kind 4 to 7.
+    /// The child of a Prefix is of kind 4 to 7; in edition 2 that of a full one
+    /// may be a Prefix.
     PrefixChild,
-    /// A Leaf's key has 1 to 112 bytes.
+    /// A Leaf's key has 1 to 112 bytes, in edition 2 1 to 255.
     KeyLength,
-    /// A Leaf's key holds no byte 0.
+    /// A Leaf's key holds no byte 0, in edition 1.
     KeyZero,
     /// A Leaf's walked string begins with the path that leads to it.
     Path,
@@ -142,6 +145,12 @@ impl Rule {
 
     /// What is freed, and what was never given out, is zero: the rules of Q-3.
     pub const WIPED: [Rule; 3] = [Rule::FreedBody, Rule::DeadExtent, Rule::NeverGiven];
+
+    /// Those that a frame of this edition can break.
+    pub fn of(edition: Edition) -> impl Iterator<Item = Rule> {
+        let stands = move |rule: &Rule| edition == Edition::One || *rule != Rule::KeyZero;
+        Rule::ALL.into_iter().filter(stands)
+    }
 }
 
 /// Where a rule is broken.
@@ -203,17 +212,17 @@ impl Reading {
 }
 
 /// 0, 1 or 2.
-pub fn check(frame: &[u8]) -> u32 {
-    verdict(frame, Reading::good)
+pub fn check(edition: Edition, frame: &[u8]) -> u32 {
+    verdict(edition, frame, Reading::good)
 }
 
 /// The same by the rules before Q-3.
-pub fn check_before(frame: &[u8]) -> u32 {
-    verdict(frame, Reading::good_before)
+pub fn check_before(edition: Edition, frame: &[u8]) -> u32 {
+    verdict(edition, frame, Reading::good_before)
 }
 
-fn verdict(frame: &[u8], good: fn(&Reading) -> bool) -> u32 {
-    match read(frame) {
+fn verdict(edition: Edition, frame: &[u8], good: fn(&Reading) -> bool) -> u32 {
+    match read(edition, frame) {
         None => number::LENGTHS,
         Some(reading) if good(&reading) => number::DONE,
         Some(_) => number::NOT_GOOD,
@@ -221,11 +230,12 @@ fn verdict(frame: &[u8], good: fn(&Reading) -> bool) -> u32 {
 }
 
 /// None if the slice's length is against F's limits or the stored F.
-pub fn read(frame: &[u8]) -> Option<Reading> {
+pub fn read(edition: Edition, frame: &[u8]) -> Option<Reading> {
     if !frame_length_allowed(frame.len()) || get32(frame, AT_F) != frame.len() {
         return None;
     }
     let mut reader = Reader {
+        edition,
         frame,
         data: 0..0,
         slots_given: 0,
@@ -242,6 +252,7 @@ pub fn read(frame: &[u8]) -> Option<Reading> {
 const NOBODY: u16 = 0;
 
 struct Reader<'a> {
+    edition: Edition,
     frame: &'a [u8],
     /// From D to B.
     data: Range<usize>,
@@ -315,7 +326,7 @@ impl Reader<'_> {
     /// False if the rest of the frame cannot be read by it.
     fn header(&mut self) -> bool {
         let frame = self.frame;
-        let edition_kept = get32(frame, AT_EDITION) == EDITION as usize;
+        let edition_kept = get32(frame, AT_EDITION) == self.edition.number();
         self.demand(Rule::Edition, edition_kept, Place::header(AT_EDITION, 4));
         let n = get32(frame, AT_N);
         if !self.demand(Rule::SlotCapacity, slot_capacity_allowed(n), Place::header(AT_N, 4)) {
@@ -401,7 +412,8 @@ impl Reader<'_> {
             return;
         }
         // No legal walked string is longer, so no Leaf below could keep its rule.
-        if !self.demand(Rule::Path, path.len() <= LONGEST_WALKED, Place::entry(slot)) {
+        if !self.demand(Rule::Path, path.len() <= self.edition.longest_walked(), Place::entry(slot))
+        {
             return;
         }
         let (offset, high) = get_entry(self.frame, slot);
@@ -437,7 +449,7 @@ impl Reader<'_> {
         let key_length = get16(self.frame, body + LEAF_KEY_LENGTH);
         let value_length = get16(self.frame, body + LEAF_VALUE_LENGTH);
         let length_field = Place::field16(slot, body + LEAF_KEY_LENGTH);
-        let length_legal = (1..=LONGEST_KEY).contains(&key_length);
+        let length_legal = (1..=self.edition.longest_key()).contains(&key_length);
         let key_kept = self.demand(Rule::KeyLength, length_legal, length_field);
         let extent_field = Place::field32(slot, body + LEAF_EXTENT);
         self.demand(Rule::ExtentMultiple, extent.is_multiple_of(UNIT), extent_field);
@@ -448,8 +460,10 @@ impl Reader<'_> {
         }
         let key_bytes = extent..extent + key_length;
         let key = &self.frame[key_bytes.clone()];
-        self.demand(Rule::KeyZero, !key.contains(&END_BYTE), Place::of(slot, key_bytes.clone()));
-        self.demand(Rule::Path, walked(key).starts_with(path), Place::of(slot, key_bytes));
+        let zero_legal = self.edition == Edition::Two || !key.contains(&0);
+        self.demand(Rule::KeyZero, zero_legal, Place::of(slot, key_bytes.clone()));
+        let on_its_path = self.edition.walked(key).starts_with(path);
+        self.demand(Rule::Path, on_its_path, Place::of(slot, key_bytes));
     }
 
     fn prefix(&mut self, slot: usize, body: usize, path: &mut Vec<u8>) {
@@ -466,8 +480,12 @@ impl Reader<'_> {
             return;
         };
         let (_, high) = get_entry(self.frame, child);
-        let over_inner = Kind::of_number(high).is_some_and(Kind::is_inner);
-        self.demand(Rule::PrefixChild, over_inner, Place::field32(slot, child_field));
+        let kind = Kind::of_number(high);
+        let over_inner = kind.is_some_and(Kind::is_inner);
+        let in_chain =
+            self.edition == Edition::Two && length == LONGEST_PREFIX && kind == Some(Kind::Prefix);
+        let child_place = Place::field32(slot, child_field);
+        self.demand(Rule::PrefixChild, over_inner || in_chain, child_place);
         // Only what lengthens the path is followed, so that every way ends.
         if over_inner || length > 0 {
             let depth = path.len();

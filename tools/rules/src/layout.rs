@@ -6,8 +6,6 @@
 
 use std::ops::{Range, RangeInclusive};
 
-pub const EDITION: u32 = 1;
-
 pub const SHORTEST_FRAME: usize = 1_024;
 pub const LONGEST_FRAME: usize = 524_288;
 pub const FEWEST_SLOTS: usize = 8;
@@ -15,12 +13,13 @@ pub const MOST_SLOTS: usize = 10_240;
 /// Frame lengths, offsets, bodies and extents are multiples of this.
 pub const UNIT: usize = 8;
 
-pub const LONGEST_KEY: usize = 112;
 pub const LONGEST_VALUE: usize = 65_535;
+/// Of one body; in edition 2 a longer shared beginning is a chain of them.
 pub const LONGEST_PREFIX: usize = 112;
-/// A walked string is a key and this byte.
+/// What a walked string ends with: once in edition 1, twice in edition 2.
 pub const END_BYTE: u8 = 0;
-pub const LONGEST_WALKED: usize = LONGEST_KEY + 1;
+/// In edition 2 it follows each byte 0 of a key.
+pub const ESCAPE: u8 = 255;
 
 pub const AT_EDITION: usize = 0;
 pub const AT_F: usize = 4;
@@ -76,6 +75,76 @@ pub mod number {
     pub const PRESENT: u32 = 11;
     /// A batch is not laid out as one (document 02, Q-6).
     pub const LAYOUT: u32 = 12;
+}
+
+/// Which keys a frame can hold, and what their walked strings are: document 01
+/// has edition 1, Q-7 of document 02 edition 2.
+#[derive(Clone, Copy, PartialEq, Eq, PartialOrd, Ord, Debug)]
+pub enum Edition {
+    One = 1,
+    Two = 2,
+}
+
+impl Edition {
+    pub const ALL: [Edition; 2] = [Edition::One, Edition::Two];
+
+    pub fn number(self) -> usize {
+        self as usize
+    }
+
+    pub fn other(self) -> Edition {
+        match self {
+            Edition::One => Edition::Two,
+            Edition::Two => Edition::One,
+        }
+    }
+
+    /// Of a key, and of a listing's prefix.
+    pub const fn longest_key(self) -> usize {
+        match self {
+            Edition::One => 112,
+            Edition::Two => 255,
+        }
+    }
+
+    /// Of all keys, that of the longest with as many bytes 0 as it can have.
+    pub const fn longest_walked(self) -> usize {
+        match self {
+            Edition::One => self.longest_key() + 1,
+            Edition::Two => 2 * self.longest_key() + 2,
+        }
+    }
+
+    pub fn walked(self, key: &[u8]) -> Vec<u8> {
+        match self {
+            Edition::One => [key, &[END_BYTE]].concat(),
+            Edition::Two => {
+                let mut string = Vec::new();
+                for byte in key.iter().copied() {
+                    string.push(byte);
+                    string.extend((byte == 0).then_some(ESCAPE));
+                }
+                string.extend([END_BYTE, END_BYTE]);
+                string
+            }
+        }
+    }
+
+    /// The refusal a key earns by itself.
+    pub fn key_refusal(self, key: &[u8]) -> Option<u32> {
+        if key.is_empty() || key.len() > self.longest_key() {
+            Some(number::KEY_LENGTH)
+        } else if self == Edition::One && key.contains(&0) {
+            Some(number::KEY_HOLDS_ZERO)
+        } else {
+            None
+        }
+    }
+}
+
+/// How many Prefixes a shared beginning of so many bytes takes.
+pub fn prefixes(bytes: usize) -> usize {
+    bytes.div_ceil(LONGEST_PREFIX)
 }
 
 #[derive(Clone, Copy, PartialEq, Eq, PartialOrd, Ord, Debug)]
@@ -235,26 +304,9 @@ pub fn extent_bytes(key_length: usize, value_length: usize) -> usize {
     rounded(key_length + value_length)
 }
 
-pub fn walked(key: &[u8]) -> Vec<u8> {
-    let mut string = key.to_vec();
-    string.push(END_BYTE);
-    string
-}
-
 /// How many bytes two strings share from their start.
 pub fn shared(a: &[u8], b: &[u8]) -> usize {
     a.iter().zip(b).take_while(|(x, y)| x == y).count()
-}
-
-/// The refusal a key earns by itself.
-pub fn key_refusal(key: &[u8]) -> Option<u32> {
-    if key.is_empty() || key.len() > LONGEST_KEY {
-        Some(number::KEY_LENGTH)
-    } else if key.contains(&END_BYTE) {
-        Some(number::KEY_HOLDS_ZERO)
-    } else {
-        None
-    }
 }
 
 pub fn get16(bytes: &[u8], at: usize) -> usize {

@@ -9,9 +9,12 @@ use std::fmt::Write;
 
 impl Rule {
     /// The rule, in the documents' words.
-    pub fn sentence(self) -> &'static str {
+    pub fn sentence(self, edition: Edition) -> &'static str {
         match self {
-            Rule::Edition => "the edition is 1",
+            Rule::Edition => match edition {
+                Edition::One => "the edition is 1",
+                Edition::Two => "the edition is 2",
+            },
             Rule::SlotCapacity => "N is even, from 8 to 10,240",
             Rule::DataStart => "D is 64 + 4N",
             Rule::DataFits => "D + 8 is at most F",
@@ -44,8 +47,16 @@ impl Rule {
             Rule::UnusedBytes => "unused bytes of live bodies are 0",
             Rule::UnusedChildren => "unused children of live bodies are 0",
             Rule::PrefixLength => "a Prefix has 1 to 112 bytes",
-            Rule::PrefixChild => "the child of a Prefix is of kind 4 to 7",
-            Rule::KeyLength => "a Leaf's key has 1 to 112 bytes",
+            Rule::PrefixChild => match edition {
+                Edition::One => "the child of a Prefix is of kind 4 to 7",
+                Edition::Two => {
+                    "the child of a Prefix is of kind 4 to 7, or a Prefix if all 112 bytes are used"
+                }
+            },
+            Rule::KeyLength => match edition {
+                Edition::One => "a Leaf's key has 1 to 112 bytes",
+                Edition::Two => "a Leaf's key has 1 to 255 bytes",
+            },
             Rule::KeyZero => "a Leaf's key holds no byte 0",
             Rule::Path => "a Leaf's walked string begins with the path that leads to it",
             Rule::EmptyRootPlace => "EmptyRoot stands only at the root",
@@ -109,9 +120,10 @@ impl Rule {
     }
 }
 
-/// One line: the rule, the slot and the bytes, and what stands there.
-pub fn told(frame: &[u8], rule: Rule, place: &Place) -> String {
-    let mut line = format!("{}: ", rule.sentence());
+/// One line: the rule of the edition, the slot and the bytes, and what stands
+/// there.
+pub fn told(edition: Edition, frame: &[u8], rule: Rule, place: &Place) -> String {
+    let mut line = format!("{}: ", rule.sentence(edition));
     if let Some(slot) = place.slot {
         write!(line, "slot {slot}, ").expect("a string takes it");
     }

@@ -1,5 +1,7 @@
 -- What is written is the image of no records. Assumes nothing.
 use Rattle.blank.proofs.BlankLaws.{laid-out}
+use Prim.Native.Nat.{_<_}
+use native.Mathlib.Omega.{arith}
 use borrow.Author.Needs.{needs}
 use Rattle.blank.proofs.lay_out.Statement.{statement}
 use Rattle.blank.proofs.lay_out.Tie as tie
@@ -10,8 +12,8 @@ data-start-of-requires c κs = search needs
 clear-requires : tie.Need-clear-requires
 clear-requires c κs = search needs
 
-add-t9 : tie.Need-add-t9
-add-t9 c = search needs
+add-t10 : tie.Need-add-t10
+add-t10 c = search needs
 
 write-requires : tie.Need-write-requires
 write-requires c κs = search needs
@@ -27,7 +29,8 @@ returns c =
     let wrote = c .before .before in
     let cleared = wrote .before .before .before .before .before .before .before .before in
     let start = cleared .before .before .before .before in
-    cc (laid-out _ _ _ (start .pre) (cleared .clear .ensures))
+    λ E e. (let small : E .number < 4294967296 = omega (arith, e, start .pre .1) in
+    let is = laid-out E small _ _ _ (start .pre .0) (cleared .clear .ensures) in cc)
 
 pub lay-out-spec : {M : Type 1} → statement M
 lay-out-spec =
@@ -35,7 +38,7 @@ lay-out-spec =
     (tie.spec
     data-start-of-requires
     clear-requires
-    add-t9
+    add-t10
     write-requires
     write-requires-2
     same-length

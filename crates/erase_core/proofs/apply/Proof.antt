@@ -7,19 +7,19 @@ use Rattle.erase_core.proofs.apply.Statement.{statement}
 use Rattle.erase_core.proofs.apply.Tie as tie
 
 count-requires : tie.Need-count-requires
-count-requires c κs = node-fits (c .before .before .before .before .pre) .0
+count-requires c κs = node-fits (c .before .before .before .before .pre .holds) .0
 
 shrink-mark-requires : tie.Need-shrink-mark-requires
-shrink-mark-requires c κs = node-fits (c .before .before .before .before .before .pre) .1
+shrink-mark-requires c κs = node-fits (c .before .before .before .before .before .pre .holds) .1
 
 add-if1 : tie.Need-add-if1
-add-if1 c = let z = c .before .before .before .before .before .before in omega (arith, c .shrink-mark .ensures, mark-small (z .args .spot .node .kind) (node-fits (z .pre) .1))
+add-if1 c = let z = c .before .before .before .before .before .before in omega (arith, c .shrink-mark .ensures, mark-small (z .args .spot .node .kind) (node-fits (z .pre .holds) .1))
 
 remove-child-requires : tie.Need-remove-child-requires
 remove-child-requires c κs =
     let test = c .before in
     let start = test .before .before .before .before .before .before .before in
-    record { key = start .args .key .now; holds = at-keeps (start .pre) (test .before .before .count .ensures .1) (test .before .shrink-mark .ensures) (test .if1 .taken) }
+    record { edition = start .pre .edition; key = start .args .key .now; holds = at-keeps (start .pre .holds) (test .before .before .count .ensures .1) (test .before .shrink-mark .ensures) (test .if1 .taken) }
 
 same-length : tie.Need-same-length
 same-length c = search needs
@@ -29,24 +29,28 @@ returns c =
     let done = c .before .before in
     let test = done .before .before in
     let start = test .before .before .before .before .before .before .before in
-    done .remove-child .ensures (start .args .key .now) (at-keeps (start .pre) (test .before .before .count .ensures .1) (test .before .shrink-mark .ensures) (test .if1 .taken))
+    λ E P. done .remove-child .ensures E (start .args .key .now) (at-keeps P (test .before .before .count .ensures .1) (test .before .shrink-mark .ensures) (test .if1 .taken))
 
 join-requires : tie.Need-join-requires
 join-requires c κs =
     let test = c .before .before .before in
-    at-pair (test .before .before .before .before .before .before .before .pre) (test .before .before .count .ensures .1) (test .before .shrink-mark .ensures) (test .if1 .left) (c .before .if2 .taken)
+    let start = test .before .before .before .before .before .before .before in
+    record { edition = start .pre .edition; holds = at-pair (start .pre .holds) (test .before .before .count .ensures .1) (test .before .shrink-mark .ensures) (test .if1 .left) (c .before .if2 .taken) }
 
 same-length-2 : tie.Need-same-length-2
 same-length-2 c = search needs
 
 returns-2 : tie.Need-returns-2
-returns-2 c = search needs
+returns-2 c =
+    let done = c .before .before in
+    let test = done .before .before .before .before in
+    λ E P. done .join .ensures E (at-pair P (test .before .before .count .ensures .1) (test .before .shrink-mark .ensures) (test .if1 .left) (done .before .before .if2 .taken))
 
 shrink-requires : tie.Need-shrink-requires
 shrink-requires c κs =
     let test = c .before .before .before in
     let start = test .before .before .before .before .before .before .before in
-    record { key = start .args .key .now; holds = at-mark (start .pre) (test .before .before .count .ensures .1) (test .before .shrink-mark .ensures) (test .if1 .left) (c .before .if2 .left) }
+    record { edition = start .pre .edition; key = start .args .key .now; holds = at-mark (start .pre .holds) (test .before .before .count .ensures .1) (test .before .shrink-mark .ensures) (test .if1 .left) (c .before .if2 .left) }
 
 same-length-3 : tie.Need-same-length-3
 same-length-3 c = search needs
@@ -56,7 +60,7 @@ returns-3 c =
     let done = c .before .before in
     let test = done .before .before .before .before in
     let start = test .before .before .before .before .before .before .before in
-    done .shrink .ensures (start .args .key .now) (at-mark (start .pre) (test .before .before .count .ensures .1) (test .before .shrink-mark .ensures) (test .if1 .left) (done .before .before .if2 .left))
+    λ E P. done .shrink .ensures E (start .args .key .now) (at-mark P (test .before .before .count .ensures .1) (test .before .shrink-mark .ensures) (test .if1 .left) (done .before .before .if2 .left))
 
 pub apply-spec : {M : Type 1} → statement M
 apply-spec =

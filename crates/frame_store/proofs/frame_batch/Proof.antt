@@ -1,17 +1,11 @@
--- The number and the place of the batch's end in one. Assumes nothing.
-use Rattle.frame_store.proofs.BatchLaws.{batched}
+-- 1 names edition 1. Assumes nothing.
+use Rattle.model.specs.Edition.{editionOf}
 use borrow.Author.Needs.{needs}
 use Rattle.frame_store.proofs.frame_batch.Statement.{statement}
 use Rattle.frame_store.proofs.frame_batch.Tie as tie
 
-apply-requires : tie.Need-apply-requires
-apply-requires c κs = search needs
-
-mul-result : tie.Need-mul-result
-mul-result c = search needs
-
-add-result : tie.Need-add-result
-add-result c = search needs
+batch-requires : tie.Need-batch-requires
+batch-requires c κs = search needs
 
 same-length : tie.Need-same-length
 same-length c = search needs
@@ -23,11 +17,8 @@ same-length-3 : tie.Need-same-length-3
 same-length-3 c = search needs
 
 returns : tie.Need-returns
-returns c =
-    let end = c .before .before .before .before .before .before .apply in
-    batched (end .result .number) (end .result .place) (end .ensures .0) (end .ensures .1)
+unfolding editionOf
+returns c = c .before .before .before .before .before .before .batch .ensures
 
 pub frame-batch-spec : {M : Type 1} → statement M
-frame-batch-spec =
-    tie.close
-    (tie.spec apply-requires mul-result add-result same-length same-length-2 same-length-3 returns)
+frame-batch-spec = tie.close (tie.spec batch-requires same-length same-length-2 same-length-3 returns)

@@ -1,4 +1,5 @@
--- The number is that of the check's answer. Assumes nothing.
+-- 1 names edition 1. Assumes nothing.
+use Rattle.model.specs.Edition.{editionOf}
 use borrow.Author.Needs.{needs}
 use Rattle.frame_store.proofs.frame_check.Statement.{statement}
 use Rattle.frame_store.proofs.frame_check.Tie as tie
@@ -6,11 +7,9 @@ use Rattle.frame_store.proofs.frame_check.Tie as tie
 check-requires : tie.Need-check-requires
 check-requires c κs = search needs
 
-check-number-requires : tie.Need-check-number-requires
-check-number-requires c κs = search needs
-
 returns : tie.Need-returns
-returns c = rw (c .check-number .ensures) (c .before .check .ensures)
+unfolding editionOf
+returns c = c .check .ensures
 
 pub frame-check-spec : {M : Type 1} → statement M
-frame-check-spec = tie.close (tie.spec check-requires check-number-requires returns)
+frame-check-spec = tie.close (tie.spec check-requires returns)

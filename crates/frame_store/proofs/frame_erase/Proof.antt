@@ -1,4 +1,5 @@
--- The number is that of erase's answer. Assumes nothing.
+-- 1 names edition 1. Assumes nothing.
+use Rattle.model.specs.Edition.{editionOf}
 use borrow.Author.Needs.{needs}
 use Rattle.frame_store.proofs.frame_erase.Statement.{statement}
 use Rattle.frame_store.proofs.frame_erase.Tie as tie
@@ -6,14 +7,12 @@ use Rattle.frame_store.proofs.frame_erase.Tie as tie
 erase-requires : tie.Need-erase-requires
 erase-requires c κs = search needs
 
-erase-number-requires : tie.Need-erase-number-requires
-erase-number-requires c κs = search needs
-
 same-length : tie.Need-same-length
 same-length c = search needs
 
 returns : tie.Need-returns
-returns c = rw (c .erase-number .ensures) (c .before .before .before .erase .ensures)
+unfolding editionOf
+returns c = c .before .before .erase .ensures
 
 pub frame-erase-spec : {M : Type 1} → statement M
-frame-erase-spec = tie.close (tie.spec erase-requires erase-number-requires same-length returns)
+frame-erase-spec = tie.close (tie.spec erase-requires same-length returns)

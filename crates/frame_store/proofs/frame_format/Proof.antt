@@ -1,4 +1,5 @@
--- The number is that of format's answer. Assumes nothing.
+-- 1 names edition 1. Assumes nothing.
+use Rattle.model.specs.Edition.{editionOf}
 use borrow.Author.Needs.{needs}
 use Rattle.frame_store.proofs.frame_format.Statement.{statement}
 use Rattle.frame_store.proofs.frame_format.Tie as tie
@@ -6,14 +7,12 @@ use Rattle.frame_store.proofs.frame_format.Tie as tie
 format-requires : tie.Need-format-requires
 format-requires c κs = search needs
 
-format-number-requires : tie.Need-format-number-requires
-format-number-requires c κs = search needs
-
 same-length : tie.Need-same-length
 same-length c = search needs
 
 returns : tie.Need-returns
-returns c = rw (c .format-number .ensures) (c .before .before .before .format .ensures)
+unfolding editionOf
+returns c = c .before .before .format .ensures
 
 pub frame-format-spec : {M : Type 1} → statement M
-frame-format-spec = tie.close (tie.spec format-requires format-number-requires same-length returns)
+frame-format-spec = tie.close (tie.spec format-requires same-length returns)

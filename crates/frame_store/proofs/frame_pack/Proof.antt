@@ -1,4 +1,5 @@
--- The number is that of packing's answer. Assumes nothing.
+-- 1 names edition 1. Assumes nothing.
+use Rattle.model.specs.Edition.{editionOf}
 use borrow.Author.Needs.{needs}
 use Rattle.frame_store.proofs.frame_pack.Statement.{statement}
 use Rattle.frame_store.proofs.frame_pack.Tie as tie
@@ -6,14 +7,12 @@ use Rattle.frame_store.proofs.frame_pack.Tie as tie
 pack-requires : tie.Need-pack-requires
 pack-requires c κs = search needs
 
-pack-number-requires : tie.Need-pack-number-requires
-pack-number-requires c κs = search needs
-
 same-length : tie.Need-same-length
 same-length c = search needs
 
 returns : tie.Need-returns
-returns c = rw (c .pack-number .ensures) (c .before .before .before .pack .ensures)
+unfolding editionOf
+returns c = c .before .before .pack .ensures
 
 pub frame-pack-spec : {M : Type 1} → statement M
-frame-pack-spec = tie.close (tie.spec pack-requires pack-number-requires same-length returns)
+frame-pack-spec = tie.close (tie.spec pack-requires same-length returns)

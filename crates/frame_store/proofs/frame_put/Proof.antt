@@ -1,4 +1,5 @@
--- The number is that of put's answer. Assumes nothing.
+-- 1 names edition 1. Assumes nothing.
+use Rattle.model.specs.Edition.{editionOf}
 use borrow.Author.Needs.{needs}
 use Rattle.frame_store.proofs.frame_put.Statement.{statement}
 use Rattle.frame_store.proofs.frame_put.Tie as tie
@@ -6,14 +7,12 @@ use Rattle.frame_store.proofs.frame_put.Tie as tie
 put-requires : tie.Need-put-requires
 put-requires c κs = search needs
 
-put-number-requires : tie.Need-put-number-requires
-put-number-requires c κs = search needs
-
 same-length : tie.Need-same-length
 same-length c = search needs
 
 returns : tie.Need-returns
-returns c = rw (c .put-number .ensures) (c .before .before .before .put .ensures)
+unfolding editionOf
+returns c = c .before .before .put .ensures
 
 pub frame-put-spec : {M : Type 1} → statement M
-frame-put-spec = tie.close (tie.spec put-requires put-number-requires same-length returns)
+frame-put-spec = tie.close (tie.spec put-requires same-length returns)

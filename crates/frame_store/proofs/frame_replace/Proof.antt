@@ -1,4 +1,5 @@
--- The number is that of replacement's answer. Assumes nothing.
+-- 1 names edition 1. Assumes nothing.
+use Rattle.model.specs.Edition.{editionOf}
 use borrow.Author.Needs.{needs}
 use Rattle.frame_store.proofs.frame_replace.Statement.{statement}
 use Rattle.frame_store.proofs.frame_replace.Tie as tie
@@ -6,14 +7,12 @@ use Rattle.frame_store.proofs.frame_replace.Tie as tie
 replace-requires : tie.Need-replace-requires
 replace-requires c κs = search needs
 
-replace-number-requires : tie.Need-replace-number-requires
-replace-number-requires c κs = search needs
-
 same-length : tie.Need-same-length
 same-length c = search needs
 
 returns : tie.Need-returns
-returns c = rw (c .replace-number .ensures) (c .before .before .before .replace .ensures)
+unfolding editionOf
+returns c = c .before .before .replace .ensures
 
 pub frame-replace-spec : {M : Type 1} → statement M
-frame-replace-spec = tie.close (tie.spec replace-requires replace-number-requires same-length returns)
+frame-replace-spec = tie.close (tie.spec replace-requires same-length returns)

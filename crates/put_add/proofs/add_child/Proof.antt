@@ -5,43 +5,42 @@ use borrow.Author.Needs.{needs}
 use Rattle.put_add.proofs.add_child.Statement.{statement}
 use Rattle.put_add.proofs.add_child.Tie as tie
 
-walked-at-requires : tie.Need-walked-at-requires
-walked-at-requires c κs = search needs
+at-requires : tie.Need-at-requires
+at-requires c κs = search needs
 
 new-leaf-requires : tie.Need-new-leaf-requires
-new-leaf-requires c κs = open-makes (c .before .before .before .before .before .before .pre)
+new-leaf-requires c κs = open-makes (c .before .before .before .before .before .before .before .pre .holds)
 
 add-requires : tie.Need-add-requires
 add-requires c κs =
     let leaf = c .before .before .before in
-    let start = leaf .before .before .before .before .before .before .before in
-    open-adds (start .pre) (leaf .new-leaf .ensures)
+    let start = leaf .before .before .before .before .before .before .before .before in
+    open-adds (start .pre .holds) (leaf .new-leaf .ensures)
 
 count-record-requires : tie.Need-count-record-requires
 count-record-requires c κs =
     let added = c .before .before .before in
     let leaf = added .before .before .before .before in
     let byte = leaf .before .before in
-    let start = byte .before .before .before .before .before in
-    open-counts (start .pre) (leaf .new-leaf .ensures) (byte .walked-at .ensures) (added .add .ensures)
+    let start = byte .before .before .before .before .before .before in
+    open-counts (start .pre .holds) (leaf .new-leaf .ensures) (byte .at .ensures) (added .add .ensures)
 
 same-length : tie.Need-same-length
 same-length c = search needs
 
 returns : tie.Need-returns
-returns c =
+returns c = λ E A.
     let counted = c .before .before in
     let added = counted .before .before .before .before in
     let leaf = added .before .before .before .before in
     let byte = leaf .before .before in
-    let start = byte .before .before .before .before .before in
-    open-put (start .pre) (leaf .new-leaf .ensures) (byte .walked-at .ensures) (added .add .ensures) (counted .count-record .ensures) (λ a. omega (arith, c .slice-known4 .given a))
+    open-put A (leaf .new-leaf .ensures) (byte .at .ensures) (added .add .ensures) (counted .count-record .ensures) (λ a. omega (arith, c .slice-known4 .given a))
 
 pub add-child-spec : {M : Type 1} → statement M
 add-child-spec =
     tie.close
     (tie.spec
-    walked-at-requires
+    at-requires
     new-leaf-requires
     add-requires
     count-record-requires

@@ -1,56 +1,58 @@
--- `put_new` finds the key there, or ends as the write does. Assumes nothing.
-use borrow.Author.Tests.{not-true, not-false}
-use Rattle.put_core.proofs.CoreLaws.{new-present, new-full, new-made}
+-- `put_new`: edition 2 reads the walked string, written out; edition 1 the key itself. Assumes nothing.
+use native.Mathlib.Omega.{arith}
+use Rattle.model.proofs.Edition2.{lawfulOf}
+use Rattle.keys.proofs.WordLaws.{word-fits, spells-walked, spelt-within, spells-key}
 use borrow.Author.Needs.{needs}
 use Rattle.put_core.proofs.put_new.Statement.{statement}
 use Rattle.put_core.proofs.put_new.Tie as tie
 
-descend-requires : tie.Need-descend-requires
-descend-requires c κs = search needs
+slice-aggregate-walk : tie.Need-slice-aggregate-walk
+slice-aggregate-walk c = search needs
+
+walk-requires : tie.Need-walk-requires
+walk-requires c κs = (word-fits (lawfulOf _) _ (c .before .before .before .before .before .pre .legal), omega arith)
+
+sub-new-by : tie.Need-sub-new-by
+sub-new-by c = search needs
+
+part-new-by-start : tie.Need-part-new-by-start
+part-new-by-start c = search needs
+
+part-new-by-end : tie.Need-part-new-by-end
+part-new-by-end c = spelt-within (c .before .before .before .walk .ensures)
+
+new-by-requires : tie.Need-new-by-requires
+new-by-requires c κs =
+    let walk = c .before .before .before .before in
+    (walk .before .before .before .before .before .before .pre, spells-walked _ _ _ _ (walk .walk .ensures))
 
 same-length : tie.Need-same-length
 same-length c = search needs
 
 returns : tie.Need-returns
-returns c =
-    let spot = c .before .before in
-    let start = spot .before .before .before .before .before in
-    new-present (record { asked = start .pre; spot = spot .descend .ensures }) (c .if1 .taken)
+returns c = c .before .before .new-by .ensures
 
-write-requires : tie.Need-write-requires
-write-requires c κs = search needs
+new-by-requires-2 : tie.Need-new-by-requires-2
+new-by-requires-2 c κs = (c .before .before .before .before .before .pre, spells-key _ _ (c .before .if1 .left))
 
 same-length-2 : tie.Need-same-length-2
 same-length-2 c = search needs
 
 returns-2 : tie.Need-returns-2
-returns-2 c =
-    let write = c .before .before .before in
-    let test = write .before .before in
-    let spot = test .before .before in
-    let start = spot .before .before .before .before .before in
-    new-full (record { asked = start .pre; spot = spot .descend .ensures }) (write .write .ensures) (not-true _ (c .if2 .taken)) (test .if1 .left)
-
-same-length-3 : tie.Need-same-length-3
-same-length-3 c = search needs
-
-returns-3 : tie.Need-returns-3
-returns-3 c =
-    let write = c .before .before .before in
-    let test = write .before .before in
-    let spot = test .before .before in
-    let start = spot .before .before .before .before .before in
-    new-made (record { asked = start .pre; spot = spot .descend .ensures }) (write .write .ensures) (not-false _ (c .if2 .left)) (test .if1 .left)
+returns-2 c = c .before .before .new-by2 .ensures
 
 pub put-new-spec : {M : Type 1} → statement M
 put-new-spec =
     tie.close
     (tie.spec
-    descend-requires
+    slice-aggregate-walk
+    walk-requires
+    sub-new-by
+    part-new-by-start
+    part-new-by-end
+    new-by-requires
     same-length
     returns
-    write-requires
+    new-by-requires-2
     same-length-2
-    returns-2
-    same-length-3
-    returns-3)
+    returns-2)

@@ -1,57 +1,58 @@
--- `put_or_replace` ends as the write does, and tells whether the key was there. Assumes nothing.
-use borrow.Author.Tests.{not-true, not-false}
-use Rattle.put_core.proofs.CoreLaws.{either-full, either-there, either-new}
+-- `put_or_replace`: edition 2 reads the walked string, written out; edition 1 the key itself. Assumes nothing.
+use native.Mathlib.Omega.{arith}
+use Rattle.model.proofs.Edition2.{lawfulOf}
+use Rattle.keys.proofs.WordLaws.{word-fits, spells-walked, spelt-within, spells-key}
 use borrow.Author.Needs.{needs}
 use Rattle.put_core.proofs.put_or_replace.Statement.{statement}
 use Rattle.put_core.proofs.put_or_replace.Tie as tie
 
-descend-requires : tie.Need-descend-requires
-descend-requires c κs = search needs
+slice-aggregate-walk : tie.Need-slice-aggregate-walk
+slice-aggregate-walk c = search needs
 
-write-requires : tie.Need-write-requires
-write-requires c κs = search needs
+walk-requires : tie.Need-walk-requires
+walk-requires c κs = (word-fits (lawfulOf _) _ (c .before .before .before .before .before .pre .legal), omega arith)
+
+sub-either-by : tie.Need-sub-either-by
+sub-either-by c = search needs
+
+part-either-by-start : tie.Need-part-either-by-start
+part-either-by-start c = search needs
+
+part-either-by-end : tie.Need-part-either-by-end
+part-either-by-end c = spelt-within (c .before .before .before .walk .ensures)
+
+either-by-requires : tie.Need-either-by-requires
+either-by-requires c κs =
+    let walk = c .before .before .before .before in
+    (walk .before .before .before .before .before .before .pre, spells-walked _ _ _ _ (walk .walk .ensures))
 
 same-length : tie.Need-same-length
 same-length c = search needs
 
 returns : tie.Need-returns
-returns c =
-    let write = c .before .before .before in
-    let spot = write .before .before in
-    let start = spot .before .before .before .before .before in
-    either-full (record { asked = start .pre; spot = spot .descend .ensures }) (write .write .ensures) (not-true _ (c .if1 .taken))
+returns c = c .before .before .either-by .ensures
+
+either-by-requires-2 : tie.Need-either-by-requires-2
+either-by-requires-2 c κs = (c .before .before .before .before .before .pre, spells-key _ _ (c .before .if1 .left))
 
 same-length-2 : tie.Need-same-length-2
 same-length-2 c = search needs
 
 returns-2 : tie.Need-returns-2
-returns-2 c =
-    let test = c .before .before in
-    let write = test .before .before .before in
-    let spot = write .before .before in
-    let start = spot .before .before .before .before .before in
-    either-there (record { asked = start .pre; spot = spot .descend .ensures }) (write .write .ensures) (not-false _ (test .if1 .left)) (c .if2 .taken)
-
-same-length-3 : tie.Need-same-length-3
-same-length-3 c = search needs
-
-returns-3 : tie.Need-returns-3
-returns-3 c =
-    let test = c .before .before in
-    let write = test .before .before .before in
-    let spot = write .before .before in
-    let start = spot .before .before .before .before .before in
-    either-new (record { asked = start .pre; spot = spot .descend .ensures }) (write .write .ensures) (not-false _ (test .if1 .left)) (c .if2 .left)
+returns-2 c = c .before .before .either-by2 .ensures
 
 pub put-or-replace-spec : {M : Type 1} → statement M
 put-or-replace-spec =
     tie.close
     (tie.spec
-    descend-requires
-    write-requires
+    slice-aggregate-walk
+    walk-requires
+    sub-either-by
+    part-either-by-start
+    part-either-by-end
+    either-by-requires
     same-length
     returns
+    either-by-requires-2
     same-length-2
-    returns-2
-    same-length-3
-    returns-3)
+    returns-2)

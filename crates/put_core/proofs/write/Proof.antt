@@ -1,21 +1,19 @@
 -- `write` ends without room, or with what the edit has made. Assumes nothing.
 use borrow.Author.Tests.{not-true, not-false}
-use Rattle.put_core.proofs.CoreLaws.{plans, small, spotted, no-room, there-was}
+use Rattle.keys.proofs.KeyLaws.{key-some}
+use Rattle.put_core.proofs.CoreLaws.{plans, spotted, no-room, there-was}
 use borrow.Author.Needs.{needs}
 use Rattle.put_core.proofs.write.Statement.{statement}
 use Rattle.put_core.proofs.write.Tie as tie
 
 put-needs-requires : tie.Need-put-needs-requires
-put-needs-requires c κs = plans (c .before .before .before .before .pre)
+put-needs-requires c κs = record { edition = _; holds = plans (c .before .before .before .before .before .pre) }
 
 room-for-requires : tie.Need-room-for-requires
 room-for-requires c κs = search needs
 
 fits-requires : tie.Need-fits-requires
-fits-requires c κs =
-    let plan = c .before .before in
-    let start = plan .before .before .before .before .before in
-    small (start .pre) (plan .put-needs .ensures)
+fits-requires c κs = c .before .before .put-needs .ensures .0
 
 same-length : tie.Need-same-length
 same-length c = search needs
@@ -25,16 +23,16 @@ returns c =
     let fits = c .before in
     let room = fits .before in
     let plan = room .before .before in
-    let start = plan .before .before .before .before .before in
-    no-room (start .pre) (plan .put-needs .ensures) (room .room-for .ensures) (fits .fits2 .ensures) (not-true _ (c .if1 .taken))
+    let start = plan .before .before .before .before .before .before in
+    no-room (start .pre) (plan .put-needs .ensures .1 _) (room .room-for .ensures) (fits .fits2 .ensures) (not-true _ (c .if1 .taken))
 
 apply-requires : tie.Need-apply-requires
 apply-requires c κs =
     let fits = c .before .before in
     let room = fits .before in
     let plan = room .before .before in
-    let start = plan .before .before .before .before .before in
-    spotted (start .pre) (plan .put-needs .ensures) (room .room-for .ensures) (fits .fits2 .ensures) (not-false _ (c .before .if1 .left))
+    let start = plan .before .before .before .before .before .before in
+    spotted (start .pre) (plan .put-needs .ensures .1 _) (room .room-for .ensures) (fits .fits2 .ensures) (key-some _ _ (start .pre .asked .legal .passes)) (not-false _ (c .before .if1 .left))
 
 same-length-2 : tie.Need-same-length-2
 same-length-2 c = search needs
@@ -46,8 +44,8 @@ returns-2 c =
     let fits = test .before in
     let room = fits .before in
     let plan = room .before .before in
-    let start = plan .before .before .before .before .before in
-    there-was (start .pre) (plan .put-needs .ensures) (room .room-for .ensures) (fits .fits2 .ensures) (not-false _ (test .if1 .left)) (edit .apply .ensures)
+    let start = plan .before .before .before .before .before .before in
+    there-was (start .pre) (plan .put-needs .ensures .1 _) (room .room-for .ensures) (fits .fits2 .ensures) (not-false _ (test .if1 .left)) (edit .apply .ensures)
 
 pub write-spec : {M : Type 1} → statement M
 write-spec =

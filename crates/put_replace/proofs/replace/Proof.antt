@@ -1,16 +1,15 @@
 -- `replace` meets its contract: each need is one law of ReplaceLaws. Assumes nothing.
 use native.Mathlib.Omega.{arith}
 use borrow.Author.Needs.{needs}
-use lib.ListN.{length}
 use Rattle.put_replace.proofs.ReplaceLaws.{body-room, lengths, paste-ok, ends-same, extend-ok, write-ok, retire-ok, ends-other}
 use Rattle.put_replace.proofs.replace.Statement.{statement}
 use Rattle.put_replace.proofs.replace.Tie as tie
 
 value-length-requires : tie.Need-value-length-requires
-value-length-requires c κs = body-room (c .before .before .before .before .before .pre)
+value-length-requires c κs = body-room (c .before .before .before .before .before .pre .holds)
 
 extent-requires : tie.Need-extent-requires
-extent-requires c κs = body-room (c .before .before .before .before .before .before .before .pre)
+extent-requires c κs = body-room (c .before .before .before .before .before .before .before .pre .holds)
 
 add-paste : tie.Need-add-paste
 add-paste c = search needs
@@ -20,30 +19,29 @@ paste-requires c κs =
     let q = c .before .before in
     let m = q .before .before in
     let z = m .before .before .before .before .before .before in
-    paste-ok (z .pre) (m .value-length .ensures .0) (q .extent .ensures .0) (omega arith)
+    paste-ok (z .pre .holds) (m .value-length .ensures .0) (q .extent .ensures .0) (omega arith)
 
 same-length : tie.Need-same-length
 same-length c = search needs
 
 returns : tie.Need-returns
-returns c =
+returns c = λ E A.
     let q = c .before .before .before .before .before in
     let m = q .before .before in
-    let z = m .before .before .before .before .before .before in
-    ends-same (z .pre) (m .value-length .ensures .0) (q .extent .ensures .0) (omega arith) (c .before .before .paste .ensures) (λ a. omega (arith, c .slice-known2 .given a))
+    ends-same A (m .value-length .ensures .0) (q .extent .ensures .0) (omega arith) (c .before .before .paste .ensures) (λ a. omega (arith, c .slice-known2 .given a))
 
 extend-requires : tie.Need-extend-requires
 extend-requires c κs =
     let m = c .before .before .before .before in
     let z = m .before .before .before .before .before .before in
-    extend-ok (z .pre) (m .value-length .ensures .0) (λ q. omega arith)
+    extend-ok (z .pre .holds) (m .value-length .ensures .0) (λ q. omega arith)
 
 write-requires : tie.Need-write-requires
 write-requires c κs =
     let x = c .before .before .before in
     let m = x .before .before .before .before .before in
     let z = m .before .before .before .before .before .before in
-    write-ok (z .pre) (m .value-length .ensures .0) (λ q. omega arith) (x .extend .ensures)
+    write-ok (z .pre .holds) (m .value-length .ensures .0) (λ q. omega arith) (x .extend .ensures)
 
 add-rounded : tie.Need-add-rounded
 add-rounded c = search needs
@@ -52,7 +50,7 @@ rounded-requires : tie.Need-rounded-requires
 rounded-requires c κs =
     let m = c .before .before .before .before .before .before .before .before .before .before .before .before in
     let z = m .before .before .before .before .before .before in
-    omega (arith, lengths (z .pre) (m .value-length .ensures .0))
+    omega (arith, lengths (z .pre .holds) (m .value-length .ensures .0))
 
 retire-requires : tie.Need-retire-requires
 retire-requires c κs =
@@ -61,20 +59,19 @@ retire-requires c κs =
     let e = x .before .before .before in
     let m = e .before .before in
     let z = m .before .before .before .before .before .before in
-    retire-ok (z .pre) (m .value-length .ensures .0) (λ q. omega arith) (x .extend .ensures) (y .write .ensures) (c .rounded .ensures) (e .extent .ensures .0)
+    retire-ok (z .pre .holds) (m .value-length .ensures .0) (λ q. omega arith) (x .extend .ensures) (y .write .ensures) (c .rounded .ensures) (e .extent .ensures .0)
 
 same-length-2 : tie.Need-same-length-2
 same-length-2 c = search needs
 
 returns-2 : tie.Need-returns-2
-returns-2 c =
+returns-2 c = λ E A.
     let r = c .before .before .before in
     let y = r .before .before .before .before in
     let x = y .before .before .before .before in
     let e = x .before .before .before in
     let m = e .before .before in
-    let z = m .before .before .before .before .before .before in
-    ends-other (z .pre) (m .value-length .ensures .0) (λ q. omega arith) (x .extend .ensures) (y .write .ensures) (r .rounded .ensures) (e .extent .ensures .0) (c .before .before .retire .ensures) (λ a. omega (arith, c .slice-known5 .given a))
+    ends-other A (m .value-length .ensures .0) (λ q. omega arith) (x .extend .ensures) (y .write .ensures) (r .rounded .ensures) (e .extent .ensures .0) (c .before .before .retire .ensures) (λ a. omega (arith, c .slice-known5 .given a))
 
 pub replace-spec : {M : Type 1} → statement M
 replace-spec =

@@ -1,29 +1,34 @@
 -- `split_leaf` takes a Node4 and a row of Prefixes, makes the Leaf, writes the row, then the link. Assumes nothing.
 use mathlib.Core.Path.{refl}
 use native.Mathlib.Omega.{arith}
-use Rattle.put_split.proofs.OtherLaws.{leaf-here, to-short, key-short, shared-short, takes-node, takes-row, forks, writes, relinks, counts, ends}
+use Rattle.put_split.proofs.OtherLaws.{leaf-here, to-short, to-low, shared-short, takes-node, takes-row, forks, writes, relinks, counts, ends}
 use borrow.Author.Needs.{needs}
 use Rattle.put_split.proofs.split_leaf.Statement.{statement}
 use Rattle.put_split.proofs.split_leaf.Tie as tie
 
 add-to : tie.Need-add-to
-add-to c = let start = c .before .before .before .before .before in omega (arith, to-short (start .pre), key-short (start .pre))
+add-to c = omega (arith, to-low (c .before .before .before .before .before .before .pre))
+
+at-requires : tie.Need-at-requires
+at-requires c κs = search needs
 
 old-byte-requires : tie.Need-old-byte-requires
-old-byte-requires c κs = leaf-here (c .before .before .before .before .before .before .pre)
+old-byte-requires c κs = leaf-here (c .before .before .before .before .before .before .before .before .pre)
 
 take-requires : tie.Need-take-requires
 take-requires c κs =
     let byte = c .before in
-    let start = byte .before .before .before .before .before .before .before in
-    takes-node (start .pre) (byte .old-byte .ensures)
+    let word = byte .before .before in
+    let start = word .before .before .before .before .before .before .before in
+    takes-node (start .pre) (word .at .ensures) (byte .old-byte .ensures)
 
 bodies-of-requires : tie.Need-bodies-of-requires
 bodies-of-requires c κs =
     let took = c .before .before in
     let byte = took .before .before in
-    let start = byte .before .before .before .before .before .before .before in
-    shared-short (start .pre) (byte .old-byte .ensures)
+    let word = byte .before .before in
+    let start = word .before .before .before .before .before .before .before in
+    shared-short (start .pre) (word .at .ensures) (byte .old-byte .ensures)
 
 slice-aggregate-take-row : tie.Need-slice-aggregate-take-row
 slice-aggregate-take-row c = search needs
@@ -33,8 +38,9 @@ take-row-requires c κs =
     let need = c .before .before in
     let took = need .before .before .before in
     let byte = took .before .before in
-    let start = byte .before .before .before .before .before .before .before in
-    takes-row (start .pre) (byte .old-byte .ensures) (took .take .ensures) (need .bodies-of .ensures) refl
+    let word = byte .before .before in
+    let start = word .before .before .before .before .before .before .before in
+    takes-row (start .pre) (word .at .ensures) (byte .old-byte .ensures) (took .take .ensures) (need .bodies-of .ensures) refl
 
 fork-requires : tie.Need-fork-requires
 fork-requires c κs =
@@ -42,8 +48,9 @@ fork-requires c κs =
     let need = rowed .before .before .before in
     let took = need .before .before .before in
     let byte = took .before .before in
-    let start = byte .before .before .before .before .before .before .before in
-    forks (start .pre) (byte .old-byte .ensures) (took .take .ensures) (need .bodies-of .ensures) (rowed .take-row .ensures)
+    let word = byte .before .before in
+    let start = word .before .before .before .before .before .before .before in
+    forks (start .pre) (word .at .ensures) (byte .old-byte .ensures) (took .take .ensures) (need .bodies-of .ensures) (rowed .take-row .ensures)
 
 slice-aggregate-write-row : tie.Need-slice-aggregate-write-row
 slice-aggregate-write-row c = search needs
@@ -61,7 +68,7 @@ part-write-row-end c =
     let need = rowed .before .before .before in
     let took = need .before .before .before in
     let byte = took .before .before in
-    let start = byte .before .before .before .before .before .before .before in
+    let start = byte .before .before .before .before .before .before .before .before .before in
     omega (arith, to-short (start .pre))
 
 write-row-requires : tie.Need-write-row-requires
@@ -71,8 +78,9 @@ write-row-requires c κs =
     let need = rowed .before .before .before in
     let took = need .before .before .before in
     let byte = took .before .before in
-    let start = byte .before .before .before .before .before .before .before in
-    writes (start .pre) (byte .old-byte .ensures) (took .take .ensures) (need .bodies-of .ensures) (rowed .take-row .ensures) (forked .fork .ensures) refl (omega arith)
+    let word = byte .before .before in
+    let start = word .before .before .before .before .before .before .before in
+    writes (start .pre) (word .at .ensures) (byte .old-byte .ensures) (took .take .ensures) (need .bodies-of .ensures) (rowed .take-row .ensures) (forked .fork .ensures) refl (omega arith)
 
 relink-requires : tie.Need-relink-requires
 relink-requires c κs =
@@ -82,8 +90,9 @@ relink-requires c κs =
     let need = rowed .before .before .before in
     let took = need .before .before .before in
     let byte = took .before .before in
-    let start = byte .before .before .before .before .before .before .before in
-    relinks (start .pre) (byte .old-byte .ensures) (took .take .ensures) (need .bodies-of .ensures) (rowed .take-row .ensures) (forked .fork .ensures) refl (wrote .write-row .ensures)
+    let word = byte .before .before in
+    let start = word .before .before .before .before .before .before .before in
+    relinks (start .pre) (word .at .ensures) (byte .old-byte .ensures) (took .take .ensures) (need .bodies-of .ensures) (rowed .take-row .ensures) (forked .fork .ensures) refl (wrote .write-row .ensures)
 
 count-record-requires : tie.Need-count-record-requires
 count-record-requires c κs =
@@ -94,8 +103,9 @@ count-record-requires c κs =
     let need = rowed .before .before .before in
     let took = need .before .before .before in
     let byte = took .before .before in
-    let start = byte .before .before .before .before .before .before .before in
-    counts (start .pre) (byte .old-byte .ensures) (took .take .ensures) (need .bodies-of .ensures) (rowed .take-row .ensures) (forked .fork .ensures) refl (wrote .write-row .ensures) (linked .relink .ensures)
+    let word = byte .before .before in
+    let start = word .before .before .before .before .before .before .before in
+    counts (start .pre) (word .at .ensures) (byte .old-byte .ensures) (took .take .ensures) (need .bodies-of .ensures) (rowed .take-row .ensures) (forked .fork .ensures) refl (wrote .write-row .ensures) (linked .relink .ensures)
 
 same-length : tie.Need-same-length
 same-length c = search needs
@@ -110,14 +120,16 @@ returns c =
     let need = rowed .before .before .before in
     let took = need .before .before .before in
     let byte = took .before .before in
-    let start = byte .before .before .before .before .before .before .before in
-    ends (start .pre) (byte .old-byte .ensures) (took .take .ensures) (need .bodies-of .ensures) (rowed .take-row .ensures) (forked .fork .ensures) refl (wrote .write-row .ensures) (linked .relink .ensures) (counted .count-record .ensures) (λ a. omega (arith, c .slice-known7 .given a))
+    let word = byte .before .before in
+    let start = word .before .before .before .before .before .before .before in
+    ends (start .pre) (word .at .ensures) (byte .old-byte .ensures) (took .take .ensures) (need .bodies-of .ensures) (rowed .take-row .ensures) (forked .fork .ensures) refl (wrote .write-row .ensures) (linked .relink .ensures) (counted .count-record .ensures) (λ a. omega (arith, c .slice-known7 .given a))
 
 pub split-leaf-spec : {M : Type 1} → statement M
 split-leaf-spec =
     tie.close
     (tie.spec
     add-to
+    at-requires
     old-byte-requires
     take-requires
     bodies-of-requires

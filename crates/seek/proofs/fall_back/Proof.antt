@@ -7,18 +7,18 @@ use Rattle.seek.proofs.fall_back.Statement.{statement}
 use Rattle.seek.proofs.fall_back.Tie as tie
 
 returns : tie.Need-returns
-returns c = λ o B. record { there = λ h. clash (cc); gone = λ h. B .without (c .if1 .taken) }
+returns c = λ E o B. record { there = λ h. clash (cc); gone = λ h. B .without (c .if1 .taken) }
 
 first-requires : tie.Need-first-requires
 first-requires c κs =
-    let F = c .before .before .before .pre .fallback in
-    (F .sub (omega (arith, c .if1 .left)), F .short)
+    let P = c .before .before .before .pre in
+    record { edition = P .edition; holds = P .holds .fallback .sub (omega (arith, c .if1 .left)) }
 
 returns-2 : tie.Need-returns-2
-returns-2 c = λ o B.
+returns-2 c = λ E o B.
     let n : 1 ≤ c .before .before .before .before .args .spare .slot = omega (arith, c .before .if1 .left) in
     let S = B .sub n in
-    let P = c .first .ensures (S .path) (S .lay) (S .tree) (S .slotIs) in
+    let P = c .first .ensures E S (S .path) (S .lay) (S .tree) (S .slotIs) in
     record { there = λ h. record { leaf = P .leaf; is = B .first n ∙ P .is; place = P .place }; gone = λ h. clash (cc) }
 
 pub fall-back-spec : {M : Type 1} → statement M

@@ -3,7 +3,7 @@ use native.Mathlib.Omega.{arith}
 use Prim.Native.Nat.{_+_, _≤_}
 use borrow.Author.Needs.{needs}
 use borrow.Author.Tests.{not-true, not-false}
-use Rattle.audit.proofs.WalkLaws.{leaf-body, leaf-whole, leaf-bad, leaf-on}
+use Rattle.audit.proofs.WalkLaws.{key-some, leaf-body, leaf-whole, leaf-bad, leaf-on}
 use Rattle.audit.proofs.walk.leaf.Statement.{statement}
 use Rattle.audit.proofs.walk.leaf.Tie as tie
 
@@ -34,7 +34,7 @@ same-length-2 c = search needs
 
 returns-2 : tie.Need-returns-2
 returns-2 c =
-    leaf-bad (c .before .before .before .before .before .before .before .before .body .ensures) (not-false _ (c .before .before .before .before .if1 .left)) (c .before .before .before .leaf-good .ensures) (not-true _ (c .before .if2 .taken)) (c .refused2 .ensures)
+    leaf-bad (c .before .before .before .before .before .before .before .before .body .ensures) (key-some (c .before .before .before .before .before .before .before .before .before .before .before .before .before .args .edition)) (not-false _ (c .before .before .before .before .if1 .left)) (c .before .before .before .leaf-good .ensures) (not-true _ (c .before .if2 .taken)) (c .refused2 .ensures)
 
 extent-requires : tie.Need-extent-requires
 extent-requires c κs =

@@ -44,7 +44,7 @@ same-length-2 c = search needs
 returns-4 : tie.Need-returns-4
 returns-4 c =
     let p = c .before .before .before .before .before .before .before .before .before .before .before .before .pre in
-    node-refused (omega (arith, c .before .before .before .before .before .before .before .before .before .if1 .left)) (omega (arith, c .before .before .before .before .before .before .before .before .if2 .left)) (c .before .before .before .before .before .before .body .ensures) (not-false _ (c .before .before .if3 .left)) (c .refused4 .ensures) (λ path s l E. node-deep (omega (arith, c .before .before .before .before .before .before .before .before .before .if1 .left)) (p .0 .bytes) E l (c .before .if4 .taken))
+    node-refused (omega (arith, c .before .before .before .before .before .before .before .before .before .if1 .left)) (omega (arith, c .before .before .before .before .before .before .before .before .if2 .left)) (c .before .before .before .before .before .before .body .ensures) (not-false _ (c .before .before .if3 .left)) (c .refused4 .ensures) (λ Ed L w path s l E. node-deep (omega (arith, c .before .before .before .before .before .before .before .before .before .if1 .left)) L w (p .0 .bytes) E l (c .before .if4 .taken))
 
 inner-good-requires : tie.Need-inner-good-requires
 inner-good-requires c κs =
@@ -58,7 +58,7 @@ same-length-3 : tie.Need-same-length-3
 same-length-3 c = search needs
 
 returns-5 : tie.Need-returns-5
-returns-5 c = node-refused (omega (arith, c .before .before .before .before .before .before .before .before .before .before .before .if1 .left)) (omega (arith, c .before .before .before .before .before .before .before .before .before .before .if2 .left)) (c .before .before .before .before .before .before .before .before .body .ensures) (not-false _ (c .before .before .before .before .if3 .left)) (c .refused5 .ensures) (λ path s l E. node-bad (omega (arith, c .before .before .before .before .before .before .before .before .before .before .before .if1 .left)) (refuted (c .before .before .inner-good .ensures) (c .before .if5 .taken)))
+returns-5 c = node-refused (omega (arith, c .before .before .before .before .before .before .before .before .before .before .before .if1 .left)) (omega (arith, c .before .before .before .before .before .before .before .before .before .before .if2 .left)) (c .before .before .before .before .before .before .before .before .body .ensures) (not-false _ (c .before .before .before .before .if3 .left)) (c .refused5 .ensures) (λ Ed L w path s l E. node-bad (omega (arith, c .before .before .before .before .before .before .before .before .before .before .before .if1 .left)) (refuted (c .before .before .inner-good .ensures) (c .before .if5 .taken)))
 
 same-length-4 : tie.Need-same-length-4
 same-length-4 c = search needs

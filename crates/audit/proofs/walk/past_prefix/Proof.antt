@@ -36,7 +36,7 @@ returns-2 : tie.Need-returns-2
 returns-2 c =
     let p = c .before .before .before .before .before .before .before .before .before .before .before .before .pre in
     let E = entry-made (p .7) (p .8) in
-    (kept-same, prefix-refused (c .before .before .before .before .before .before .before .body .ensures) E (p .5) (p .6) (not-false _ (c .before .before .before .if1 .left)) (c .none2 .ensures) (prefix-bad (refuted (c .before .before .prefix-good .ensures) (c .before .if2 .taken))))
+    (kept-same, prefix-refused (c .before .before .before .before .before .before .before .body .ensures) E (p .5) (p .6) (not-false _ (c .before .before .before .if1 .left)) (c .none2 .ensures) (λ Ed L w. prefix-bad (refuted (c .before .before .prefix-good .ensures) (c .before .if2 .taken))))
 
 length-requires : tie.Need-length-requires
 length-requires c κs =
@@ -56,14 +56,14 @@ returns-3 c =
     let z = c .before .before .before .before .before .before .before .before .before .before .before .before .before .before in
     let p = z .pre in
     let E = entry-made (p .7) (p .8) in
-    (kept-same, prefix-refused (c .before .before .before .before .before .before .before .before .before .body .ensures) E (p .5) (p .6) (not-false _ (c .before .before .before .before .before .if1 .left)) (c .none3 .ensures) (prefix-long (p .0 .bytes) (path-length (z .args .path .now) (z .args .depth) (omega (arith, p .3, p .4))) (c .before .before .length .ensures .0) (c .before .if3 .taken)))
+    (kept-same, prefix-refused (c .before .before .before .before .before .before .before .before .before .body .ensures) E (p .5) (p .6) (not-false _ (c .before .before .before .before .before .if1 .left)) (c .none3 .ensures) (λ Ed L w. prefix-long L w (p .0 .bytes) (path-length (z .args .path .now) (z .args .depth) (p .4)) (c .before .before .length .ensures .0) (c .before .if3 .taken)))
 
 child-requires : tie.Need-child-requires
 child-requires c κs =
     omega (arith, c .before .before .before .before .before .before .before .before .before .before .before .before .before .pre .0 .inside, c .before .before .before .before .before .before .before .before .body .ensures .high (not-false _ (c .before .before .before .before .if1 .left)))
 
-inner-slot-requires : tie.Need-inner-slot-requires
-inner-slot-requires c κs = search needs
+below-slot-requires : tie.Need-below-slot-requires
+below-slot-requires c κs = search needs
 
 none-requires-4 : tie.Need-none-requires-4
 none-requires-4 c κs = search needs
@@ -75,22 +75,23 @@ returns-4 : tie.Need-returns-4
 returns-4 c =
     let p = c .before .before .before .before .before .before .before .before .before .before .before .before .before .before .before .before .before .pre in
     let E = entry-made (p .7) (p .8) in
-    (kept-same, prefix-refused (c .before .before .before .before .before .before .before .before .before .before .before .before .body .ensures) E (p .5) (p .6) (not-false _ (c .before .before .before .before .before .before .before .before .if1 .left)) (c .none4 .ensures) (prefix-child (p .0 .bytes) (refuted (c .before .before .inner-slot .ensures) (c .before .if4 .taken)) (c .before .before .before .child .ensures .0)))
+    (kept-same, prefix-refused (c .before .before .before .before .before .before .before .before .before .before .before .before .body .ensures) E (p .5) (p .6) (not-false _ (c .before .before .before .before .before .before .before .before .if1 .left)) (c .none4 .ensures) (λ Ed L w. prefix-child (refuted (c .before .before .below-slot .ensures) (c .before .if4 .taken)) (c .before .before .before .child .ensures .0) (c .before .before .before .before .before .length .ensures .0)))
 
 extend-requires : tie.Need-extend-requires
 extend-requires c κs =
     let p = c .before .before .before .before .before .before .before .before .before .before .before .before .before .before .before .before .before .pre in
     let h = c .before .before .before .before .before .before .before .before .before .before .before .before .body .ensures .high (not-false _ (c .before .before .before .before .before .before .before .before .if1 .left)) in
-    (omega (arith, p .3, c .before .before .before .before .if3 .left), omega (arith, p .0 .inside, h), omega (arith, c .before .before .before .before .if3 .left))
+    let P = passed (c .before .before .before .before .before .before .before .prefix-good .ensures) (c .before .before .before .before .before .before .if2 .left) in
+    (omega (arith, p .3, c .before .before .before .before .if3 .left), omega (arith, p .0 .inside, h), omega (arith, P .is .most, P .is .long, c .before .before .before .before .before .length .ensures .0))
 
 read-requires : tie.Need-read-requires
 read-requires c κs =
     let G = c .before .before .before .before .before .before .before .before .before .before .before .before .before .before .before .before .before .before .before .before .pre .0 in
-    let I = passed (c .before .before .before .before .before .inner-slot .ensures) (c .before .before .before .before .if4 .left) in
+    let I = passed (c .before .before .before .before .before .below-slot .ensures) (c .before .before .before .before .if4 .left) in
     (I .first, omega (arith, I .last, G .table, G .order, G .inside))
 
-add-t18 : tie.Need-add-t18
-add-t18 c = search needs
+add-t19 : tie.Need-add-t19
+add-t19 c = omega (arith, c .before .before .before .before .before .before .before .before .if3 .left, c .before .before .before .before .before .before .before .before .before .before .before .before .before .before .before .before .before .before .before .before .before .pre .3)
 
 same-length-5 : tie.Need-same-length-5
 same-length-5 c = search needs
@@ -103,10 +104,10 @@ returns-5 c =
     let z = c .before .before .before .before .before .before .before .before .before .before .before .before .before .before .before .before .before .before .before .before .before in
     let p = z .pre in
     let P = passed (c .before .before .before .before .before .before .before .before .before .before .before .prefix-good .ensures) (c .before .before .before .before .before .before .before .before .before .before .if2 .left) in
-    let I = passed (c .before .before .before .before .before .before .inner-slot .ensures) (c .before .before .before .before .before .if4 .left) in
+    let I = passed (c .before .before .before .before .before .before .below-slot .ensures) (c .before .before .before .before .before .if4 .left) in
     let e = c .read .ensures in
     let X = c .before .before .before .extend .ensures in
-    (kept-far (omega (arith, p .3, p .4)) kept-same X, prefix-told P (c .before .before .before .before .before .before .before .before .before .before .before .before .before .before .before .before .body .ensures) (entry-made (p .7) (p .8)) (p .5) (p .6) (not-false _ (c .before .before .before .before .before .before .before .before .before .before .before .before .if1 .left)) I (c .before .before .before .before .before .before .before .child .ensures .0) (e .0) (e .1) (e .3) (omega arith) (omega (arith, c .before .before .before .before .before .before .before .before .if3 .left)) (path-on P (c .before .before .before .before .before .before .before .before .before .length .ensures .0) X))
+    (kept-far (p .4) kept-same X, prefix-told P (c .before .before .before .before .before .before .before .before .before .before .before .before .before .before .before .before .body .ensures) (entry-made (p .7) (p .8)) (p .5) (p .6) (not-false _ (c .before .before .before .before .before .before .before .before .before .before .before .before .if1 .left)) I (c .before .before .before .before .before .before .before .child .ensures .0) (c .before .before .before .before .before .before .before .before .before .length .ensures .0) (e .0) (e .1) (e .3) (omega arith) (omega (arith, c .before .before .before .before .before .before .before .before .if3 .left, c .before .before .before .extend .kept)) (path-on P (c .before .before .before .before .before .before .before .before .before .length .ensures .0) X))
 
 pub past-prefix-spec : {M : Type 1} → statement M
 past-prefix-spec =
@@ -126,13 +127,13 @@ past-prefix-spec =
     same-length-3
     returns-3
     child-requires
-    inner-slot-requires
+    below-slot-requires
     none-requires-4
     same-length-4
     returns-4
     extend-requires
     read-requires
-    add-t18
+    add-t19
     same-length-5
     same-length-6
     returns-5)

@@ -44,18 +44,24 @@ returns-4 c =
     let e = c .before .before .before .before .before .before .before .before .read .ensures in
     root-tree (e .0) (c .before .before .before .before .before .before .if3 .left) (slot-at (e .0) (e .1) (omega (arith, c .before .before .before .before .before .before .before .before .before .before .if1 .left)) (omega (arith, c .before .before .before .before .before .before .before .before .before .if2 .left)) (c .before .before .before .before .if4 .taken) (c .before .before .lone .ensures))
 
-tree-requires : tie.Need-tree-requires
-tree-requires c κs =
-    let p = c .before .before .before .before .before .before .before .before .before .before .pre in
-    let e = c .before .before .before .before .before .read .ensures in
-    (p .0, p .1, p .2, omega (arith, c .before .before .before .before .before .before .before .if1 .left), omega (arith, c .before .before .before .before .before .before .if2 .left), λ q. c .before .if4 .left (e .0 ∙ q))
+along-requires : tie.Need-along-requires
+along-requires c κs =
+    let p = c .before .before .before .before .before .before .before .before .before .before .before .before .before .before .pre in
+    let L = p .1 in
+    let e = c .before .before .before .before .before .before .before .read .ensures in
+    (p .0, record { table = L .table; order = L .order; size = L .size; room = L .room }, p .2, omega (arith, c .before .before .before .before .before .before .before .before .before .if1 .left), omega (arith, c .before .before .before .before .before .before .before .before .if2 .left), λ q. c .before .before .before .if4 .left (e .0 ∙ q), p .3, p .4)
 
 same-length-3 : tie.Need-same-length-3
 same-length-3 c = search needs
 
+same-length-4 : tie.Need-same-length-4
+same-length-4 c = search needs
+
+same-length-5 : tie.Need-same-length-5
+same-length-5 c = search needs
+
 returns-5 : tie.Need-returns-5
-returns-5 c =
-    root-tree (c .before .before .before .before .before .before .before .before .read .ensures .0) (c .before .before .before .before .before .before .if3 .left) (c .before .before .tree .ensures)
+returns-5 c = root-tree (c .before .before .before .before .before .before .before .before .before .before .before .before .before .before .read .ensures .0) (c .before .before .before .before .before .before .before .before .before .before .before .before .if3 .left) (c .before .before .before .before .before .before .along .ensures)
 
 pub root-spec : {M : Type 1} → statement M
 root-spec =
@@ -72,6 +78,8 @@ root-spec =
     lone-requires
     same-length-2
     returns-4
-    tree-requires
+    along-requires
     same-length-3
+    same-length-4
+    same-length-5
     returns-5)

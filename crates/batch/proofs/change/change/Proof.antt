@@ -60,7 +60,7 @@ returns c =
     let made = c .before .before .put in
     let from = o + 8 in
     let to = from + kl .result in
-    (call-put _ b o _ _ (sym kind ∙ c .before .before .before .before .before .before .if1 .taken) (made .ensures .0) (key-part b o (kl .result) (vl .result) (kl .ensures .0) (to - from) (omega arith)) (value-part b o (kl .result) (vl .result) (kl .ensures .0) (vl .ensures .0) (to + vl .result - to) to (omega arith) refl), made .ensures .1)
+    (call-put _ _ b o _ _ (sym kind ∙ c .before .before .before .before .before .before .if1 .taken) (made .ensures .0) (key-part b o (kl .result) (vl .result) (kl .ensures .0) (to - from) (omega arith)) (value-part b o (kl .result) (vl .result) (kl .ensures .0) (vl .ensures .0) (to + vl .result - to) to (omega arith) refl), made .ensures .1)
 
 sub-replace : tie.Need-sub-replace
 sub-replace c = search needs
@@ -97,7 +97,7 @@ returns-2 c =
     let made = c .before .before .replace in
     let from = o + 8 in
     let to = from + kl .result in
-    (call-replace _ b o _ _ (λ e. c .before .before .before .before .before .before .before .if1 .left (kind ∙ e)) (sym kind ∙ c .before .before .before .before .before .before .if2 .taken) (made .ensures .0) (key-part b o (kl .result) (vl .result) (kl .ensures .0) (to - from) (omega arith)) (value-part b o (kl .result) (vl .result) (kl .ensures .0) (vl .ensures .0) (to + vl .result - to) to (omega arith) refl), made .ensures .1)
+    (call-replace _ _ b o _ _ (λ e. c .before .before .before .before .before .before .before .if1 .left (kind ∙ e)) (sym kind ∙ c .before .before .before .before .before .before .if2 .taken) (made .ensures .0) (key-part b o (kl .result) (vl .result) (kl .ensures .0) (to - from) (omega arith)) (value-part b o (kl .result) (vl .result) (kl .ensures .0) (vl .ensures .0) (to + vl .result - to) to (omega arith) refl), made .ensures .1)
 
 sub-erase : tie.Need-sub-erase
 sub-erase c = search needs
@@ -125,7 +125,7 @@ returns-3 c =
     let made = c .before .before .erase in
     let from = o + 8 in
     let to = from + kl .result in
-    (call-erase _ b o _ _ (λ e. c .before .before .before .before .before .before .if1 .left (kind ∙ e)) (λ e. c .before .before .before .before .before .if2 .left (kind ∙ e)) (made .ensures .0) (key-part b o (kl .result) (vl .result) (kl .ensures .0) (to - from) (omega arith)), made .ensures .1)
+    (call-erase _ _ b o _ _ (λ e. c .before .before .before .before .before .before .if1 .left (kind ∙ e)) (λ e. c .before .before .before .before .before .if2 .left (kind ∙ e)) (made .ensures .0) (key-part b o (kl .result) (vl .result) (kl .ensures .0) (to - from) (omega arith)), made .ensures .1)
 
 pub change-spec : {M : Type 1} → statement M
 change-spec =

@@ -3,6 +3,7 @@ use Prim.Native.Nat.{_-_, _<_}
 use mathlib.Core.Path.{_≡_, refl}
 use native.Mathlib.Omega.{arith}
 use lib.ListN.{length}
+use Rattle.model.specs.Edition.{editionOf}
 use Rattle.batch.specs.Layout.{countIn}
 use Rattle.batch.specs.Batch.{told}
 use Rattle.batch.specs.Run.{Far}
@@ -12,10 +13,10 @@ use Rattle.batch.proofs.run.carry_out.Statement.{statement}
 use Rattle.batch.proofs.run.carry_out.Tie as tie
 
 abbrev Inv-loop : tie.InvT-loop
-Inv-loop f₀ b lent₀ n i₀ f lent i = (length f ≡ length f₀) × (length lent ≡ length lent₀) × ((F : Far f₀ b i f) × (lent ≡ told (F .numbers) lent₀))
+Inv-loop f₀ b lent₀ edition n i₀ f lent i = (length f ≡ length f₀) × (length lent ≡ length lent₀) × ((F : Far (editionOf edition) f₀ b i f) × (lent ≡ told (F .numbers) lent₀))
 
 abbrev μ-loop : tie.MeasureT-loop
-μ-loop f₀ b lent₀ n i₀ f lent i = n - i
+μ-loop f₀ b lent₀ edition n i₀ f lent i = n - i
 
 count-requires : tie.Need-count-requires Inv-loop μ-loop
 count-requires c κs = let z = c .before .before .before in headed-of (z .args .b .now) (z .pre .whole) .count

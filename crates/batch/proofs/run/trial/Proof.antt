@@ -3,6 +3,7 @@ use Prim.Native.Nat.{_-_, _<_}
 use mathlib.Core.Path.{_≡_, refl, sym, _∙_}
 use native.Mathlib.Omega.{arith}
 use lib.ListN.{length}
+use Rattle.model.specs.Edition.{editionOf}
 use Rattle.batch.specs.Layout.{countIn}
 use Rattle.batch.specs.Batch.{Unrefused}
 use Rattle.batch.specs.Run.{Far}
@@ -12,10 +13,10 @@ use Rattle.batch.proofs.run.trial.Statement.{statement}
 use Rattle.batch.proofs.run.trial.Tie as tie
 
 abbrev Inv-loop : tie.InvT-loop
-Inv-loop f₀ b n i₀ f i = (length f ≡ length f₀) × ((F : Far f₀ b i f) × Unrefused (F .numbers))
+Inv-loop f₀ b edition n i₀ f i = (length f ≡ length f₀) × ((F : Far (editionOf edition) f₀ b i f) × Unrefused (F .numbers))
 
 abbrev μ-loop : tie.MeasureT-loop
-μ-loop f₀ b n i₀ f i = n - i
+μ-loop f₀ b edition n i₀ f i = n - i
 
 count-requires : tie.Need-count-requires Inv-loop μ-loop
 count-requires c κs = let z = c .before .before in headed-of (z .args .b .now) (z .pre .whole) .count
@@ -41,8 +42,8 @@ change-requires c κs =
 is-refusal-requires : tie.Need-is-refusal-requires Inv-loop μ-loop
 is-refusal-requires c κs = search needs
 
-add-t11 : tie.Need-add-t11 Inv-loop μ-loop
-add-t11 c = search needs
+add-t12 : tie.Need-add-t12 Inv-loop μ-loop
+add-t12 c = search needs
 
 same-length : tie.Need-same-length Inv-loop μ-loop
 same-length c = search needs
@@ -92,7 +93,7 @@ trial-spec =
     offset-requires
     change-requires
     is-refusal-requires
-    add-t11
+    add-t12
     same-length
     returns
     add-i

@@ -38,7 +38,7 @@ returns-2 c =
     let test = copying .before .before .before in
     let known = test .before in
     let z = known .before .before .before .before .before .before .before .before .args in
-    ordered
+    ordered _
     (z .first-kind) (z .first-key .now) (z .first-value .now) (λ a. omega (arith, known .before .before .before .shared-slice-known .given a)) (λ a. omega (arith, known .before .before .shared-slice-known2 .given a))
     (z .second-kind) (z .second-key .now) (z .second-value .now) (λ a. omega (arith, known .before .shared-slice-known3 .given a)) (λ a. omega (arith, known .shared-slice-known4 .given a))
     (z .copy .now) (test .if1 .left) (copying .copy .ensures .1) (forth .in-order .ensures) (back .in-order2 .ensures)

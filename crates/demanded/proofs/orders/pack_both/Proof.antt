@@ -27,7 +27,7 @@ returns c =
     let second = c .before .before .before in
     let number = second .before .before in
     let first = number .before .before .before in
-    packed-both (rw (number .pack-number .ensures) (first .pack .ensures)) (rw (c .pack-number2 .ensures) (second .pack2 .ensures))
+    packed-both _ (rw (number .pack-number .ensures) (first .pack .ensures)) (rw (c .pack-number2 .ensures) (second .pack2 .ensures))
 
 pub pack-both-spec : {M : Type 1} → statement M
 pack-both-spec =

@@ -34,7 +34,7 @@ returns c =
     let putting = given .before .before .before in
     let start = putting .before .before in
     let z = start .before .before .before .before .args in
-    read-in-image (z .key .now) (z .value .now) (λ a. omega (arith, start .before .shared-slice-known .given a)) (λ a. omega (arith, start .shared-slice-known2 .given a))
+    read-in-image _ (z .key .now) (z .value .now) (λ a. omega (arith, start .before .shared-slice-known .given a)) (λ a. omega (arith, start .shared-slice-known2 .given a))
     (rw (given .put-or-replace-number .ensures) (putting .put-or-replace .ensures)) (rw (packed .pack-number .ensures) (packing .pack .ensures)) (c .look-up .ensures)
 
 pub in-image-spec : {M : Type 1} → statement M

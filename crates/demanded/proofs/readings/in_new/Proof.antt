@@ -31,7 +31,7 @@ returns c =
     let formatting = made .before .before .before in
     let start = formatting .before .before in
     let z = start .before .before .before .args in
-    read-in-new (z .key .now) (z .value .now) (λ a. omega (arith, start .before .shared-slice-known .given a)) (λ a. omega (arith, start .shared-slice-known2 .given a))
+    read-in-new _ (z .key .now) (z .value .now) (λ a. omega (arith, start .before .shared-slice-known .given a)) (λ a. omega (arith, start .shared-slice-known2 .given a))
     (rw (← made .format-number .ensures) at (formatting .format .ensures)) (rw (← putting .put-number .ensures) at (call .put .ensures)) (c .look-up .ensures)
 
 pub in-new-spec : {M : Type 1} → statement M

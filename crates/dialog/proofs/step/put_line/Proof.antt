@@ -1,4 +1,5 @@
 -- `step::put_line` meets its contract: what `put_or_replace` promises, and its number. Assumes nothing.
+use Rattle.model.specs.Edition.{editionOf}
 use borrow.Author.Needs.{needs}
 use Rattle.dialog.proofs.step.put_line.Statement.{statement}
 use Rattle.dialog.proofs.step.put_line.Tie as tie
@@ -19,6 +20,7 @@ same-length-2 : tie.Need-same-length-2
 same-length-2 c = search needs
 
 returns : tie.Need-returns
+unfolding editionOf
 returns c =
     let a = c .before .before .number .ensures in
     let e = c .before .before .before .put-or-replace-number .ensures in

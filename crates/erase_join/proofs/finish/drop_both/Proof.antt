@@ -13,7 +13,7 @@ drop-leaf-requires c κs =
     let z = freed .before .before .before in
     let D = z .pre in
     let a = z .args in
-    drops-leaf (D .view) (D .slot) (D .lay) (a .node) (D .nodeAt) (D .path) (a .leaf) (a .at) (D .extent) (D .key) (D .value) (D .work) (freed .release .ensures) (D .some)
+    drops-leaf (D .view) (D .slot) (D .lay) (a .node) (D .nodeAt) (D .path) (a .leaf) (a .at) (D .extent) (D .key) (D .value) (D .work) (freed .release .ensures) (D .some) (D .records)
 
 same-length : tie.Need-same-length
 same-length c = search needs
@@ -23,7 +23,7 @@ returns c =
     let gone = c .before .before in
     let freed = gone .before .before .before .before in
     let a = freed .before .before .before .args in
-    record { after = λ h s t o path e k v W l. dropped h s t (a .node) o path (a .leaf) (a .at) e k v W (freed .release .ensures) (gone .drop-leaf .ensures) }
+    record { after = λ E h s t o path e k v W l. dropped h s t (a .node) o path (a .leaf) (a .at) e k v W (freed .release .ensures) (gone .drop-leaf .ensures) }
 
 pub drop-both-spec : {M : Type 1} → statement M
 drop-both-spec = tie.close (tie.spec release-requires drop-leaf-requires same-length returns)

@@ -5,10 +5,10 @@ use Rattle.erase_join.proofs.join.read.Statement.{statement}
 use Rattle.erase_join.proofs.join.read.Tie as tie
 
 other-child-requires : tie.Need-other-child-requires
-other-child-requires c κs = pair-couple (c .before .before .before .before .pre)
+other-child-requires c κs = pair-couple (c .before .before .before .before .pre .holds)
 
 read-requires : tie.Need-read-requires
-read-requires c κs = child-entry (c .before .before .before .before .before .pre) (c .other-child .ensures)
+read-requires c κs = child-entry (c .before .before .before .before .before .pre .holds) (c .other-child .ensures)
 
 cast-t8 : tie.Need-cast-t8
 cast-t8 c = search needs
@@ -17,7 +17,7 @@ returns : tie.Need-returns
 returns c =
     let entry = c .before in
     let other = entry .before in
-    pair-read (other .before .before .before .before .before .pre) (other .other-child .ensures) (entry .read .ensures .0)
+    λ E P. pair-read P (other .other-child .ensures) (entry .read .ensures .0)
 
 pub read-spec : {M : Type 1} → statement M
 read-spec = tie.close (tie.spec other-child-requires read-requires cast-t8 returns)

@@ -8,15 +8,15 @@ use Rattle.erase_join.proofs.lone.up.Tie as tie
 push-requires : tie.Need-push-requires
 push-requires c κs =
     let z = c .before .before .before in
-    let R = z .pre in
-    up-pushes (R .ready .stands) (R .free) (z .args .link) (R .linkIs) (R .child) (R .is) (R .ready .site) (R .ready .room)
+    let R = z .pre .holds in
+    up-pushes (R .ready .stands) (R .free) (z .args .link) (R .linkIs) (R .child) (R .is) (R .ready .site) (R .ready .room) (R .ready .lawful)
 
 drop-both-requires : tie.Need-drop-both-requires
 drop-both-requires c κs =
     let pushed = c .before .before .before in
     let z = pushed .before .before .before .before in
-    let R = z .pre in
-    drops-of (R .ready) (λ s w P q. run-up w (R .free) (z .args .link) (R .linkIs) (pushed .push .ensures) (R .child) (R .is) P q)
+    let R = z .pre .holds in
+    drops-of (R .ready) (λ s w P q. run-up w (R .free) (z .args .link) (R .linkIs) (R .child) (R .is) P q (pushed .push .ensures))
 
 same-length : tie.Need-same-length
 same-length c = search needs
@@ -25,8 +25,7 @@ returns : tie.Need-returns
 returns c =
     let pushed = c .before .before .before .before .before .before in
     let z = pushed .before .before .before .before in
-    let R = z .pre in
-    step-of (R .ready) (λ s w P q. run-up w (R .free) (z .args .link) (R .linkIs) (pushed .push .ensures) (R .child) (R .is) P q) (c .before .before .drop-both .ensures) (λ i. c .slice-known3 .given i .fits)
+    λ E R. step-of (R .ready) (λ s w P q. run-up w (R .free) (z .args .link) (R .linkIs) (R .child) (R .is) P q (pushed .push .ensures)) (c .before .before .drop-both .ensures) (λ i. c .slice-known3 .given i .fits)
 
 pub up-spec : {M : Type 1} → statement M
 up-spec = tie.close (tie.spec push-requires drop-both-requires same-length returns)

@@ -8,8 +8,8 @@ use Rattle.erase_remove.proofs.remove.remove_child.Tie as tie
 
 remove-requires : tie.Need-remove-requires
 remove-requires c κs =
-    let E = c .before .before .before .before .pre .holds .erase in
-    has-byte E (E .st) (E .stands) (W0 E (E .st) (E .stands))
+    let P = c .before .before .before .before .pre .holds .erase in
+    has-byte P (P .st) (P .stands) (W0 P (P .st) (P .stands))
 
 drop-leaf-requires : tie.Need-drop-leaf-requires
 drop-leaf-requires c κs =
@@ -24,7 +24,7 @@ returns : tie.Need-returns
 returns c =
     let dropped = c .before .before in
     let removed = dropped .before .before .before .before in
-    λ k P. as-step k (λ s w. remove-done P s w (removed .remove .ensures) (dropped .drop-leaf .ensures) (λ i. c .slice-known3 .given i .fits))
+    λ E k P. as-step k (λ s w. remove-done P s w (removed .remove .ensures) (dropped .drop-leaf .ensures) (λ i. c .slice-known3 .given i .fits))
 
 pub remove-child-spec : {M : Type 1} → statement M
 remove-child-spec = tie.close (tie.spec remove-requires drop-leaf-requires same-length returns)

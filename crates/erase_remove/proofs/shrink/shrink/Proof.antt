@@ -100,7 +100,7 @@ returns c =
     let new = removed .before .before in
     let took = new .before .before .before .before in
     let kind = took .before .before in
-    λ k P. as-step k (λ s w. shrink-done P s w (kind .kind-down .ensures) (took .take .ensures) (new .read .ensures .1) (removed .remove .ensures) (emptied .empty .ensures) (carried .carry .ensures) (linked .relink .ensures) (freed .release .ensures) (dropped .drop-leaf .ensures) (λ i. c .slice-known8 .given i .fits))
+    λ E k P. as-step k (λ s w. shrink-done P s w (kind .kind-down .ensures) (took .take .ensures) (new .read .ensures .1) (removed .remove .ensures) (emptied .empty .ensures) (carried .carry .ensures) (linked .relink .ensures) (freed .release .ensures) (dropped .drop-leaf .ensures) (λ i. c .slice-known8 .given i .fits))
 
 pub shrink-spec : {M : Type 1} → statement M
 shrink-spec =

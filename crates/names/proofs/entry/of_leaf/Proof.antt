@@ -2,17 +2,17 @@
 use Prim.Native.Nat.{_+_, _-_}
 use mathlib.Core.Path.{_∙_}
 use native.Mathlib.Omega.{arith}
-use borrow.Author.Needs.{needs}
 use Rattle.listing.specs.Listing.{delimiterOf}
 use Rattle.names.proofs.CutLaws.{leaf-long, leaf-none, leaf-some}
+use borrow.Author.Needs.{needs}
 use Rattle.names.proofs.entry.of_leaf.Statement.{statement}
 use Rattle.names.proofs.entry.of_leaf.Tie as tie
 
 extent-requires : tie.Need-extent-requires
-extent-requires c κs = search needs
+extent-requires c κs = let r = c .before .before .pre .holds .room in omega arith
 
 key-length-requires : tie.Need-key-length-requires
-key-length-requires c κs = search needs
+key-length-requires c κs = let r = c .before .before .before .pre .holds .room in omega arith
 
 add-end : tie.Need-add-end
 add-end c = search needs
@@ -24,8 +24,7 @@ part-key-start : tie.Need-part-key-start
 part-key-start c = search needs
 
 part-key-end : tie.Need-part-key-end
-part-key-end c =
-    let P = c .before .before .before .before .pre in
+part-key-end c = let P = c .before .before .before .before .pre .holds in
     let a = c .before .extent .ensures .0 ∙ P .at .extent in
     let b = c .key-length .ensures .0 ∙ P .at .keyLength in
     let r = P .at .room in
@@ -38,27 +37,18 @@ none-requires : tie.Need-none-requires
 none-requires c κs = search needs
 
 returns : tie.Need-returns
-returns c =
-    let z = c .before .before .before .before .before .before .before .before in
-    let x = c .before .before .before .before .before .extent in
-    let n = c .before .before .before .before .key-length in
-    leaf-none (z .args .f .now) (z .args .prefix .now) (delimiterOf (z .args .delimiter)) (x .result) (n .result) (x .result + n .result - x .result) (z .args .place) (x .ensures .0) (n .ensures .0) (omega arith)
+returns c = let z = c .before .before .before .before .before .before .before .before .args in
+    leaf-none (z .f .now) (z .prefix .now) (delimiterOf (z .delimiter)) (c .before .before .before .before .before .extent .result) (c .before .before .before .before .key-length .result) (c .before .before .before .before .before .extent .result + c .before .before .before .before .key-length .result - c .before .before .before .before .before .extent .result) (z .place) (c .before .before .before .before .before .extent .ensures .0) (c .before .before .before .before .key-length .ensures .0) (omega arith)
     (c .before .before .starts-with .ensures) (c .before .if1 .taken) (c .none .ensures)
 
 ending-requires : tie.Need-ending-requires
-ending-requires c κs =
-    let z = c .before .before .before .before .before .before .before in
-    let x = c .before .before .before .before .extent in
-    let n = c .before .before .before .key-length in
-    leaf-long (z .args .f .now) (z .args .prefix .now) (delimiterOf (z .args .delimiter)) (x .result) (n .result) (x .result + n .result - x .result) (z .args .place) (x .ensures .0) (n .ensures .0) (omega arith)
+ending-requires c κs = let z = c .before .before .before .before .before .before .before .args in
+    leaf-long (z .f .now) (z .prefix .now) (delimiterOf (z .delimiter)) (c .before .before .before .before .extent .result) (c .before .before .before .key-length .result) (c .before .before .before .before .extent .result + c .before .before .before .key-length .result - c .before .before .before .before .extent .result) (z .place) (c .before .before .before .before .extent .ensures .0) (c .before .before .before .key-length .ensures .0) (omega arith)
     (c .before .starts-with .ensures) (c .if1 .left)
 
 returns-2 : tie.Need-returns-2
-returns-2 c =
-    let z = c .before .before .before .before .before .before .before .before in
-    let x = c .before .before .before .before .before .extent in
-    let n = c .before .before .before .before .key-length in
-    leaf-some (z .args .f .now) (z .args .prefix .now) (delimiterOf (z .args .delimiter)) (x .result) (n .result) (x .result + n .result - x .result) (z .args .place) (x .ensures .0) (n .ensures .0) (omega arith)
+returns-2 c = let z = c .before .before .before .before .before .before .before .before .args in
+    leaf-some (z .f .now) (z .prefix .now) (delimiterOf (z .delimiter)) (c .before .before .before .before .before .extent .result) (c .before .before .before .before .key-length .result) (c .before .before .before .before .before .extent .result + c .before .before .before .before .key-length .result - c .before .before .before .before .before .extent .result) (z .place) (c .before .before .before .before .before .extent .ensures .0) (c .before .before .before .before .key-length .ensures .0) (omega arith)
     (c .before .before .starts-with .ensures) (c .before .if1 .left) (c .ending .ensures)
 
 pub of-leaf-spec : {M : Type 1} → statement M

@@ -1,7 +1,7 @@
 -- One law for each step (ImageLaws). Assumes nothing.
 use mathlib.Core.Path.{refl}
 use native.Mathlib.Omega.{arith}
-use Rattle.pack.proofs.ImageLaws.{known-limits, image-start, head-zero, image-made}
+use Rattle.pack.proofs.ImageLaws.{known-limits, image-start, head-zero, end-some, image-made}
 use borrow.Author.Needs.{needs}
 use Rattle.pack.proofs.image.of_tree.Statement.{statement}
 use Rattle.pack.proofs.image.of_tree.Tie as tie
@@ -10,33 +10,50 @@ clear-requires : tie.Need-clear-requires
 clear-requires c κs = search needs
 
 data-start-of-requires : tie.Need-data-start-of-requires
-data-start-of-requires c κs = let P = c .before .before .before .before .before .before .pre in omega (arith, known-limits (P .0) (P .1) .slots)
+data-start-of-requires c κs = let P = c .before .before .before .before .before .before .pre in omega (arith, known-limits (P .0 .holds) (P .1) .slots)
+
+longest-path-requires : tie.Need-longest-path-requires
+longest-path-requires c κs = search needs
 
 tree-requires : tie.Need-tree-requires
 tree-requires c κs =
-    let d = c .before in
+    let d = c .before .before in
     let k = d .before .before .before in
-    let P = k .before .before .before .before .pre in rw (d .data-start-of .ensures) (image-start (P .0) (P .2) (P .1) refl (k .clear .ensures))
+    let P = k .before .before .before .before .pre in
+    record { edition = _; holds = image-start (P .0 .holds) (P .2) (P .1) refl (k .clear .ensures) (d .data-start-of .ensures) (c .longest-path .ensures) }
+
+edition-requires : tie.Need-edition-requires
+edition-requires c κs = search needs
 
 sub-write : tie.Need-sub-write
-sub-write c = search needs
+sub-write c =
+    let w = c .before .before .before .before .before in
+    let d = w .before .before .before in
+    let k = d .before .before .before in
+    let P = k .before .before .before .before .pre in
+    let S = image-start (P .0 .holds) (P .2) (P .1) refl (k .clear .ensures) (d .data-start-of .ensures) (w .before .longest-path .ensures) in
+    end-some (P .0 .holds) (P .2) (P .1) refl (k .clear .ensures) (d .data-start-of .ensures) (w .tree .ensures _ S)
 
 write-requires : tie.Need-write-requires
 write-requires c κs =
-    let w = c .before .before .before .before in
-    let d = w .before .before in
+    let w = c .before .before .before .before .before in
+    let d = w .before .before .before in
     let k = d .before .before .before in
-    let P = k .before .before .before .before .pre in head-zero (P .0) (P .2) (P .1) refl (k .clear .ensures) (rw (d .data-start-of .ensures) at (w .tree .ensures))
+    let P = k .before .before .before .before .pre in
+    let S = image-start (P .0 .holds) (P .2) (P .1) refl (k .clear .ensures) (d .data-start-of .ensures) (w .before .longest-path .ensures) in
+    head-zero (P .0 .holds) (P .2) (P .1) refl (k .clear .ensures) (d .data-start-of .ensures) (w .tree .ensures _ S)
 
 same-length : tie.Need-same-length
 same-length c = search needs
 
 returns : tie.Need-returns
-returns c =
-    let w = c .before .before .before .before .before .before .before in
-    let d = w .before .before in
+returns c G K =
+    let w = c .before .before .before .before .before .before .before .before in
+    let d = w .before .before .before in
     let k = d .before .before .before in
-    let P = k .before .before .before .before .pre in image-made (P .0) (P .2) (P .1) refl (k .clear .ensures) (rw (d .data-start-of .ensures) at (w .tree .ensures)) (c .before .before .write .ensures)
+    let P = k .before .before .before .before .pre in
+    let S = image-start K (P .2) (P .1) refl (k .clear .ensures) (d .data-start-of .ensures) (w .before .longest-path .ensures) in
+    image-made K (P .2) (P .1) refl (k .clear .ensures) (d .data-start-of .ensures) (w .tree .ensures _ S) (c .before .before .before .before .edition .ensures .0) (c .before .before .write .ensures)
 
 pub of-tree-spec : {M : Type 1} → statement M
 of-tree-spec =
@@ -44,7 +61,9 @@ of-tree-spec =
     (tie.spec
     clear-requires
     data-start-of-requires
+    longest-path-requires
     tree-requires
+    edition-requires
     sub-write
     write-requires
     same-length

@@ -1,15 +1,15 @@
 -- `header_good` tells a good header, with HeaderLaws at each exit. Assumes nothing.
+use mathlib.Core.Path.{sym, _∙_}
 use native.Mathlib.Omega.{arith}
-use borrow.Author.Needs.{needs}
 use Rattle.shape.proofs.HeaderLaws.{HeaderRead, header-denied, header-edition, header-numbers, header-end}
 use Rattle.pieces.proofs.DecideLaws.{refuted, passed}
+use borrow.Author.Needs.{needs}
 use Rattle.shape.proofs.header.header_good.Statement.{statement}
 use Rattle.shape.proofs.header.header_good.Tie as tie
 
 -- what has been read before the numbers are compared
 fields : (m : tie.After-slots-given)
-    → HeaderRead (m .before .before .before .before .before .before .before .args .f .now) (m .before .before .before .slot-capacity .result)
-    (m .before .before .data-start .result) (m .before .next-byte .result) (m .slots-given .result)
+    → HeaderRead (m .before .before .before .before .before .before .before .before .args .f .now) (m .before .before .before .slot-capacity .result) (m .before .before .data-start .result) (m .before .next-byte .result) (m .slots-given .result)
 fields m =
     record {
       slots = m .before .before .before .slot-capacity .ensures .0;
@@ -21,8 +21,11 @@ fields m =
 edition-requires : tie.Need-edition-requires
 edition-requires c κs = search needs
 
+number-of-requires : tie.Need-number-of-requires
+number-of-requires c κs = search needs
+
 returns : tie.Need-returns
-returns c = let f = c .before .before .before .args .f .now in header-denied f (λ h H e. c .if1 .taken (omega (arith, header-edition f h H e)))
+returns c = let f = c .before .before .before .before .args .f .now in header-denied f (λ h H e. c .if1 .taken (c .before .before .edition .ensures .0 ∙ header-edition f h _ H e ∙ sym (c .before .number-of .ensures)))
 
 slot-capacity-requires : tie.Need-slot-capacity-requires
 slot-capacity-requires c κs = search needs
@@ -57,20 +60,21 @@ add-all-zero c = search needs
 
 all-zero-requires-2 : tie.Need-all-zero-requires-2
 all-zero-requires-2 c κs = let N = passed (c .before .before .before .numbers-fit .ensures) (c .before .before .if2 .left) in
-    let L = c .before .before .before .before .before .before .before .before .before .before .before .pre in
+    let L = c .before .before .before .before .before .before .before .before .before .before .before .before .pre in
     omega arith
 
 returns-4 : tie.Need-returns-4
 returns-4 c = let m = c .before .before .before .before .before in
     let N = passed (c .before .before .before .before .numbers-fit .ensures) (c .before .before .before .if2 .left) in
     let s = passed (c .before .before .all-zero .ensures) (c .before .if3 .left) in
-    header-end _ _ _ _ _ (fields m) (c .before .before .before .before .before .before .before .before .before .before .before .before .pre) (omega (arith, c .before .before .before .before .before .before .before .before .before .before .edition .ensures .0, c .before .before .before .before .before .before .before .before .before .if1 .left)) N s (c .all-zero2 .ensures)
+    header-end _ _ _ _ _ (fields m) (c .before .before .before .before .before .before .before .before .before .before .before .before .before .pre) (sym (c .before .before .before .before .before .before .before .before .before .before .before .edition .ensures .0) ∙ c .before .before .before .before .before .before .before .before .before .if1 .left ∙ c .before .before .before .before .before .before .before .before .before .before .number-of .ensures) N s (c .all-zero2 .ensures)
 
 pub header-good-spec : {M : Type 1} → statement M
 header-good-spec =
     tie.close
     (tie.spec
     edition-requires
+    number-of-requires
     returns
     slot-capacity-requires
     data-start-requires

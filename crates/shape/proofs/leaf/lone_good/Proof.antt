@@ -1,16 +1,17 @@
 -- `lone_good` tells a good Leaf to which no path leads, with LeafLaws at each exit. Assumes nothing.
+use mathlib.Core.Path.{sym, _∙_}
 use mathlib.Core.List.{[]}
 use native.Mathlib.Omega.{arith}
-use borrow.Author.Needs.{needs}
-use Rattle.shape.proofs.LeafLaws.{LeafRead, leaf-denied, leaf-extent, leaf-blank, leaf-key, leaf-end, key-lone}
+use Rattle.model.specs.Edition.{editionOf}
+use Rattle.shape.proofs.LeafLaws.{LeafRead, leaf-denied, leaf-room, leaf-extent, leaf-blank, leaf-key, leaf-end, under-lone, part-is}
 use Rattle.pieces.proofs.DecideLaws.{refuted, passed}
+use borrow.Author.Needs.{needs}
 use Rattle.shape.proofs.leaf.lone_good.Statement.{statement}
 use Rattle.shape.proofs.leaf.lone_good.Tie as tie
 
 -- what has been read before anything is compared
 fields : (m : tie.After-rounded)
-    → LeafRead (m .before .before .before .before .before .args .f .now) (m .before .before .before .before .before .args .o)
-    (m .before .before .before .extent .result) (m .before .before .key-length .result) (m .before .value-length .result) (m .rounded .result)
+    → LeafRead (m .before .before .before .before .before .args .f .now) (m .before .before .before .before .before .args .o) (m .before .before .before .extent .result) (m .before .before .key-length .result) (m .before .value-length .result) (m .rounded .result)
 fields m =
     record {
       extent = m .before .before .before .extent .ensures .0;
@@ -38,33 +39,34 @@ extent-fits-requires : tie.Need-extent-fits-requires
 extent-fits-requires c κs = search needs
 
 returns : tie.Need-returns
-returns c = let a = c .before .before .before .before .before .before .before .args in
-    let m = c .before .before in
-    leaf-denied (λ e n L. refuted (c .before .extent-fits .ensures) (c .if1 .taken) (leaf-extent (a .f .now) [] (a .o) (a .d) (a .b) 0 (m .before .before .before .extent .result) (m .before .before .key-length .result) (m .before .value-length .result) (m .rounded .result) (omega arith) (fields m) e n L))
+returns c = leaf-denied (λ e n H. refuted (c .before .extent-fits .ensures) (c .if1 .taken) (leaf-extent (c .before .before .before .before .before .before .before .args .f .now) [] (c .before .before .before .before .before .before .before .args .o) (c .before .before .before .before .before .before .before .args .d) (c .before .before .before .before .before .before .before .args .b) (c .before .before .before .before .before .extent .result) (c .before .before .before .before .key-length .result) (c .before .before .before .value-length .result) (c .before .before .rounded .result) (fields (c .before .before)) e n H))
 
 zeros-good-requires : tie.Need-zeros-good-requires
 zeros-good-requires c κs = search needs
 
 returns-2 : tie.Need-returns-2
-returns-2 c = let a = c .before .before .before .before .before .before .before .before .before .args in
-    let m = c .before .before .before .before in
-    leaf-denied (λ e n L. refuted (c .before .zeros-good .ensures) (c .if2 .taken) (leaf-blank (a .f .now) [] (a .o) (a .d) (a .b) 0 (m .before .before .before .extent .result) (m .before .before .key-length .result) (m .before .value-length .result) (m .rounded .result) (omega arith) (fields m) e n L))
+returns-2 c = leaf-denied (λ e n H. refuted (c .before .zeros-good .ensures) (c .if2 .taken) (leaf-blank (c .before .before .before .before .before .before .before .before .before .args .f .now) [] (c .before .before .before .before .before .before .before .before .before .args .o) (c .before .before .before .before .before .before .before .before .before .args .d) (c .before .before .before .before .before .before .before .before .before .args .b) (c .before .before .before .before .before .before .before .extent .result) (c .before .before .before .before .before .before .key-length .result) (c .before .before .before .before .before .value-length .result) (c .before .before .before .before .rounded .result) (fields (c .before .before .before .before)) e n H))
 
-add-no-zero : tie.Need-add-no-zero
-add-no-zero c = search needs
+add-fault : tie.Need-add-fault
+add-fault c = search needs
 
-no-zero-requires : tie.Need-no-zero-requires
-no-zero-requires c κs = let X = passed (c .before .before .before .extent-fits .ensures) (c .before .before .if1 .left) in omega arith
+sub-fault : tie.Need-sub-fault
+sub-fault c = search needs
+
+part-fault-start : tie.Need-part-fault-start
+part-fault-start c = search needs
+
+part-fault-end : tie.Need-part-fault-end
+part-fault-end c = let h = leaf-room (fields (c .before .before .before .before)) (c .before .before .before .before .before .before .before .before .before .pre .1) (passed (c .before .before .before .extent-fits .ensures) (c .before .before .if1 .left)) in omega arith
+
+fault-requires : tie.Need-fault-requires
+fault-requires c κs = search needs
 
 returns-3 : tie.Need-returns-3
-returns-3 c = let a = c .before .before .before .before .before .before .before .before .before .before .before .args in
-    let m = c .before .before .before .before .before .before in
-    leaf-denied (λ e n L. refuted (c .before .no-zero .ensures) (c .if3 .taken) (leaf-key (a .f .now) [] (a .o) (a .d) (a .b) 0 (m .before .before .before .extent .result) (m .before .before .key-length .result) (m .before .value-length .result) (m .rounded .result) (omega arith) (fields m) e n L .clean))
+returns-3 c = leaf-denied (λ e n H. c .if3 .taken (c .before .fault .ensures ∙ part-is (editionOf (c .before .before .before .before .before .before .before .before .before .before .before .before .args .edition)) (c .before .before .before .before .before .before .before .before .before .before .before .before .args .f .now) (c .before .before .before .before .before .before .before .before .before .before .extent .result) (c .before .before .before .before .before .before .before .before .before .key-length .result) ∙ leaf-key (c .before .before .before .before .before .before .before .before .before .before .before .before .args .f .now) [] (c .before .before .before .before .before .before .before .before .before .before .before .before .args .o) (c .before .before .before .before .before .before .before .before .before .before .before .before .args .d) (c .before .before .before .before .before .before .before .before .before .before .before .before .args .b) (c .before .before .before .before .before .before .before .before .before .before .extent .result) (c .before .before .before .before .before .before .before .before .before .key-length .result) (c .before .before .before .before .before .before .before .before .value-length .result) (c .before .before .before .before .before .before .before .rounded .result) (fields (c .before .before .before .before .before .before .before)) e n H .legal))
 
 returns-4 : tie.Need-returns-4
-returns-4 c = let a = c .before .before .before .before .before .before .before .before .before .before .before .args in
-    let m = c .before .before .before .before .before .before in
-    leaf-end (a .f .now) [] (a .o) (a .d) (a .b) 0 (m .before .before .before .extent .result) (m .before .before .key-length .result) (m .before .value-length .result) (m .rounded .result) (omega arith) (fields m) (omega arith) (passed (c .before .before .before .before .before .extent-fits .ensures) (c .before .before .before .before .if1 .left)) (passed (c .before .before .before .zeros-good .ensures) (c .before .before .if2 .left)) (key-lone (a .f .now) (m .before .before .before .extent .result) (m .before .before .key-length .result) (passed (c .before .no-zero .ensures) (c .if3 .left)))
+returns-4 c = leaf-end (c .before .before .before .before .before .before .before .before .before .before .before .before .args .f .now) [] (c .before .before .before .before .before .before .before .before .before .before .before .before .args .o) (c .before .before .before .before .before .before .before .before .before .before .before .before .args .d) (c .before .before .before .before .before .before .before .before .before .before .before .before .args .b) (c .before .before .before .before .before .before .before .before .before .before .extent .result) (c .before .before .before .before .before .before .before .before .before .key-length .result) (c .before .before .before .before .before .before .before .before .value-length .result) (c .before .before .before .before .before .before .before .rounded .result) (fields (c .before .before .before .before .before .before .before)) (c .before .before .before .before .before .before .before .before .before .before .before .before .pre .1) (passed (c .before .before .before .before .before .before .extent-fits .ensures) (c .before .before .before .before .before .if1 .left)) (passed (c .before .before .before .before .zeros-good .ensures) (c .before .before .before .if2 .left)) (under-lone (sym (part-is (editionOf (c .before .before .before .before .before .before .before .before .before .before .before .before .args .edition)) (c .before .before .before .before .before .before .before .before .before .before .before .before .args .f .now) (c .before .before .before .before .before .before .before .before .before .before .extent .result) (c .before .before .before .before .before .before .before .before .before .key-length .result)) ∙ sym (c .before .fault .ensures) ∙ c .if3 .left))
 
 pub lone-good-spec : {M : Type 1} → statement M
 lone-good-spec =
@@ -79,7 +81,10 @@ lone-good-spec =
     returns
     zeros-good-requires
     returns-2
-    add-no-zero
-    no-zero-requires
+    add-fault
+    sub-fault
+    part-fault-start
+    part-fault-end
+    fault-requires
     returns-3
     returns-4)

@@ -1,5 +1,4 @@
 -- The numbers are read one by one, and the lists at once. Assumes nothing.
-use Rattle.model.specs.Edition.{edition1}
 use Rattle.store.proofs.InfoLaws.{counts-are}
 use borrow.Author.Needs.{needs}
 use Rattle.store.proofs.info.counts.Statement.{statement}
@@ -51,11 +50,11 @@ array-read-t35 : tie.Need-array-read-t35
 array-read-t35 c = search needs
 
 returns : tie.Need-returns
-returns c s W =
+returns c E s W =
     let capacity = c .before .before .before in
     let lists = capacity .before .before in
-    counts-are W (capacity .slot-capacity .ensures .0) (lists .before .slots-given .ensures .0) (c .before .before .next-byte .ensures .0)
-    (c .before .records .ensures .0) (c .dead-bytes .ensures .0) (lists .room-for .ensures edition1 s W)
+    counts-are E W (capacity .slot-capacity .ensures .0) (lists .before .slots-given .ensures .0) (c .before .before .next-byte .ensures .0)
+    (c .before .records .ensures .0) (c .dead-bytes .ensures .0) (lists .room-for .ensures E s W)
 
 pub counts-spec : {M : Type 1} → statement M
 counts-spec =

@@ -15,7 +15,7 @@ returns c = rw (c .if1 .taken) at (c .before .check .ensures)
 returns-2 : tie.Need-returns-2
 returns-2 c =
     let P = c .before .before .check .ensures in
-    rw (check-two _ _ P (c .if2 .taken) (c .before .if1 .left)) at P
+    rw (check-two _ _ _ P (c .if2 .taken) (c .before .if1 .left)) at P
 
 returns-3 : tie.Need-returns-3
 returns-3 c =
