@@ -9,7 +9,7 @@ use Rattle.model.specs.Tree.{Art, Change, Left, chain, cutPrefix, loneCh
 use Rattle.model.specs.Tree.Art.{leaf, prefix, node}
 use Rattle.model.specs.Tree.Kids.{nil, kid}
 use Rattle.model.specs.Tree.Left.{gone}
-use Rattle.model.specs.State.{State, Done, formatted, callPut, callErase}
+use Rattle.model.specs.State.{Done, formatted, callPut, callErase}
 
 -- ---- "a byte 0 of the key becomes 0, 255, and the end is 0, 0"
 
@@ -134,63 +134,15 @@ j6 = refl
 j7 : underPrefix (replicate 300 9) 8 (leaf (1 ∷ []) []) (idle gone) .frees ≡ Prefix ∷ Prefix ∷ Prefix ∷ []
 j7 = refl
 
--- ---- a frame of edition 2: two keys of 200 bytes that part at the last
+-- ---- a frame of edition 2: two keys of 200 bytes that part at the last (`table2` has U, B and X of these frames)
 
-abbrev x200 : List ℕ
-x200 = replicate 199 97 ++ 120 ∷ []
+abbrev s2 : Done
+s2 = callPut edition2 (callPut edition2 (formatted 4096 16) (replicate 199 97 ++ 120 ∷ []) (49 ∷ []) .state) (replicate 199 97 ++ 121 ∷ []) (50 ∷ [])
 
-abbrev y200 : List ℕ
-y200 = replicate 199 97 ++ 121 ∷ []
-
-abbrev s0 : State
-s0 = formatted 4096 16
-
--- D 128, B 136. The Leaf 16, the extent 201 rounded to 208: B 360, U 2
-abbrev s1 : Done
-s1 = callPut edition2 s0 x200 (49 ∷ [])
-
-f1 : s1 .state .B ≡ 360
+-- the erase of one frees its Leaf, the Node4 and both Prefixes
+f1 : callErase edition2 (s2 .state) (replicate 199 97 ++ 120 ∷ []) .state .free ≡ 0 ∷ 1 ∷ 2 ∷ 0 ∷ 1 ∷ 0 ∷ 0 ∷ 0 ∷ 1 ∷ []
 f1 = refl
 
-f1' : s1 .state .U ≡ 2
-f1' = refl
-
--- 199 shared bytes are 112 and 87: a Leaf, a Node4, two Prefixes and the extent: 16 + 24 + 256 + 208 = 504: B 864, U 6
-abbrev s2 : Done
-s2 = callPut edition2 (s1 .state) y200 (50 ∷ [])
-
-f2 : s2 .state .B ≡ 864
+-- a third key that leaves the chain at byte 112, between its Prefixes: no Prefix more, and none freed
+f2 : callPut edition2 (s2 .state) (replicate 112 97 ++ 98 ∷ []) [] .state .free ≡ 0 ∷ 0 ∷ 0 ∷ 0 ∷ 0 ∷ 0 ∷ 0 ∷ 0 ∷ 1 ∷ []
 f2 = refl
-
-f2' : s2 .state .U ≡ 6
-f2' = refl
-
--- the erase of one frees its Leaf, the Node4 and both Prefixes; X 208
-abbrev s3 : Done
-s3 = callErase edition2 (s2 .state) x200
-
-f3 : s3 .state .B ≡ 864
-f3 = refl
-
-f3' : s3 .state .X ≡ 208
-f3' = refl
-
-f3'' : s3 .state .free ≡ 0 ∷ 1 ∷ 2 ∷ 0 ∷ 1 ∷ 0 ∷ 0 ∷ 0 ∷ 1 ∷ []
-f3'' = refl
-
--- a third key that leaves the chain at byte 112, between its Prefixes: 112 and 86 bytes stay, and the Node4 comes between: no Prefix more
-abbrev s4 : Done
-s4 = callPut edition2 (s2 .state) (replicate 112 97 ++ 98 ∷ []) []
-
-f4 : s4 .answer ≡ 0
-f4 = refl
-
--- Leaf 16, Node4 24, extent 113 rounded to 120: B 1,024, U 8, no free Prefix
-f4' : s4 .state .B ≡ 1024
-f4' = refl
-
-f4'' : s4 .state .U ≡ 8
-f4'' = refl
-
-f4''' : s4 .state .free ≡ 0 ∷ 0 ∷ 0 ∷ 0 ∷ 0 ∷ 0 ∷ 0 ∷ 0 ∷ 1 ∷ []
-f4''' = refl
