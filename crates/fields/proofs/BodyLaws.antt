@@ -9,7 +9,7 @@ use borrow.Author.Tests.{leb-true, le-leb}
 use lib.Dec.{leb}
 use lib.ListN.{length}
 use Rattle.layout.specs.Number.{byteAt, le, put}
-use Rattle.layout.specs.Place.{leafExtent, leafKey, leafValue, leafZero, prefixZero, prefixBytes}
+use Rattle.layout.specs.Place.{leafExtent, leafKey, leafValue, leafStamp, prefixZero, prefixBytes}
 use Rattle.pieces.specs.Decides.{Decides}
 use Rattle.pieces.specs.Range.{IsZero, Blank}
 use Rattle.pieces.proofs.DecideLaws.{handed}
@@ -52,19 +52,19 @@ module _ (f : List ℕ) (o extent key value : ℕ) where
     unfolding putLeafBody
     leaf-value h = simp (le-laws, own16, room)
 
-    pub leaf-zero-low : le 4 (putLeafBody f o extent key value) (o + leafZero) ≡ 0
+    pub leaf-zero-low : le 4 (putLeafBody f o extent key value) (o + leafStamp) ≡ 0
     unfolding putLeafBody
     leaf-zero-low = let z : 0 < 4294967296 = omega arith in simp (le-laws, own16, room)
 
-    pub leaf-zero-high : le 4 (putLeafBody f o extent key value) (o + (leafZero + 4)) ≡ 0
+    pub leaf-zero-high : le 4 (putLeafBody f o extent key value) (o + (leafStamp + 4)) ≡ 0
     unfolding putLeafBody
     leaf-zero-high = let z : 0 < 4294967296 = omega arith in simp (le-laws, own16, room)
 
-    pub leaf-zeros : (a : ℕ) → o + leafZero ≤ a → a < o + 16 → byteAt (putLeafBody f o extent key value) a ≡ 0
+    pub leaf-zeros : (a : ℕ) → o + leafStamp ≤ a → a < o + 16 → byteAt (putLeafBody f o extent key value) a ≡ 0
     leaf-zeros a x y =
         let g = putLeafBody f o extent key value in
-        ⊎-elim (λ l. zero-le-bytes 4 g (o + leafZero) leaf-zero-low a x (omega arith))
-        (λ l. zero-le-bytes 4 g (o + (leafZero + 4)) leaf-zero-high a l (omega arith)) (lt-or-le a (o + (leafZero + 4)))
+        ⊎-elim (λ l. zero-le-bytes 4 g (o + leafStamp) leaf-zero-low a x (omega arith))
+        (λ l. zero-le-bytes 4 g (o + (leafStamp + 4)) leaf-zero-high a l (omega arith)) (lt-or-le a (o + (leafStamp + 4)))
 
 -- ---- the zero field of a Prefix, ten bytes: two, and eight
 

@@ -7,7 +7,7 @@ ghost use mathlib.Core.Path.{_≡_};
 ghost use Prim.Native.Nat.{_+_, _*_, _/_, _≤_, _<_};
 ghost use lib.ListN.{length, set, take, drop};
 ghost use Rattle.layout.specs.Number.{byteAt, le, put};
-ghost use Rattle.layout.specs.Place.{leafExtent, leafKey, leafValue, leafZero, prefixChild, prefixLength, prefixZero, prefixBytes, nodeCount, nodeZero, node48Index, node48Children, node256Children};
+ghost use Rattle.layout.specs.Place.{leafExtent, leafKey, leafValue, leafStamp, prefixChild, prefixLength, prefixZero, prefixBytes, nodeCount, nodeZero, node48Index, node48Children, node256Children};
 ghost use Rattle.pieces.specs.Decides.{Decides};
 ghost use Rattle.pieces.specs.Range.{Blank};
 ghost use Rattle.fields.specs.Body.{putLeafBody};
@@ -50,7 +50,7 @@ impl Leaf {
     // Its zero field is zero.
     pub fn zeros_good(f: &[u8], o: usize) -> bool
         requires { ⌜ o + 16 ≤ length (now f) ⌝ }
-        ensures { λ r. ⌜ Decides (Blank (now (f .entry)) (o + leafZero) (o + leafZero + 8)) r ⌝ }
+        ensures { λ r. ⌜ Decides (Blank (now (f .entry)) (o + leafStamp) (o + leafStamp + 8)) r ⌝ }
     {
         pieces::zero_eight(f, o + Leaf::ZERO)
     }

@@ -9,7 +9,7 @@ use borrow.Author.Tests.{eq-eqb, ne-eqb}
 use Rattle.layout.specs.Number.{byteAt, le, Bytes}
 use Rattle.layout.proofs.NumberLaws.{le-lt}
 use Rattle.fields.specs.Body.{putLeafBody}
-use Rattle.layout.specs.Place.{leafExtent, leafKey, leafValue, leafZero}
+use Rattle.layout.specs.Place.{leafExtent, leafKey, leafValue, leafStamp}
 use Rattle.layout.specs.Kind.{Leaf}
 use Rattle.model.specs.Edition.{Edition}
 use Rattle.model.specs.Tree.{Art, Change, up8, extentOf, putTree}
@@ -104,7 +104,7 @@ module _ {E : Edition} {f : List ℕ} {s : State} (w : Stands E f s) (xs : List 
             extent = le-keeps 4 (o + leafExtent) K (omega arith) (omega arith) ∙ A .extent;
             keyLength = le-keeps 2 (o + leafKey) K (omega arith) (omega arith) ∙ A .keyLength;
             valueLength = le-keeps 2 (o + leafValue) K (omega arith) (omega arith) ∙ A .valueLength ∙ sym len;
-            zeros = λ i l. K .bytes (o + leafZero + i) (omega arith) (omega arith) ∙ A .zeros i l;
+            zeros = λ i l. K .bytes (o + leafStamp + i) (omega arith) (omega arith) ∙ A .zeros i l;
             text = text-of g e k v (λ a i l q. G .only .below a (omega arith) ∙ ap (byteAt f) q ∙ A .text i (omega (arith, length-append k v')) ∙ List·getD-append k v' 0 i l) (λ a i l q. G .text a i l q);
           };
           eights = L .eights;

@@ -8,7 +8,7 @@ use native.Mathlib.Omega.{arith}
 use lib.ListN.{length, getD, take, drop, length-append, length-take, length-drop, List·getD-eq-default}
 use lib.Seq.{getD-take, getD-drop, length-take-le}
 use Rattle.layout.specs.Number.{byteAt, le, Bytes}
-use Rattle.layout.specs.Place.{leafExtent, leafKey, leafValue, leafZero}
+use Rattle.layout.specs.Place.{leafExtent, leafKey, leafValue, leafStamp}
 use Rattle.layout.proofs.NumberLaws.{lt-or-le}
 use Rattle.model.specs.Edition.{Edition, edition1, editionOf}
 use Rattle.model.specs.Tree.{up8}
@@ -164,8 +164,8 @@ module _ {E : Edition} (f path : List ℕ) (o d b e k v size : ℕ) (R : LeafRea
       let s : size ≡ n = R .rounded ∙ rw z (sym (L .long)) in
       record { eights = omega (arith, L .is .eights); low = omega arith; high = omega arith }
 
-  pub leaf-blank : (x n : ℕ) → LeafHere E f path o d b x n → Blank f (o + leafZero) (o + leafZero + 8)
-  leaf-blank x n L = zero-blank f (o + leafZero) 8 (L .is .at .zeros)
+  pub leaf-blank : (x n : ℕ) → LeafHere E f path o d b x n → Blank f (o + leafStamp) (o + leafStamp + 8)
+  leaf-blank x n L = zero-blank f (o + leafStamp) 8 (L .is .at .zeros)
 
   pub leaf-key : (x n : ℕ) → LeafHere E f path o d b x n → Under E path (take k (drop e f))
   leaf-key x n L =
@@ -177,7 +177,7 @@ module _ {E : Edition} (f path : List ℕ) (o d b e k v size : ℕ) (R : LeafRea
       let is : take k (drop e f) ≡ key = rw (m, q) at t in
       record { legal = rw is (L .is .legal); begins = rw is (L .is .begins) }
 
-  pub leaf-end : b ≤ length f → ExtentFits e size d b → Blank f (o + leafZero) (o + leafZero + 8) → Under E path (take k (drop e f)) → LeafTold E f path o d b true e size
+  pub leaf-end : b ≤ length f → ExtentFits e size d b → Blank f (o + leafStamp) (o + leafStamp + 8) → Under E path (take k (drop e f)) → LeafTold E f path o d b true e size
   leaf-end room X Z U =
       let key = bytesFrom f e k in
       let value = bytesFrom f (e + k) v in
@@ -191,7 +191,7 @@ module _ {E : Edition} (f path : List ℕ) (o d b e k v size : ℕ) (R : LeafRea
         extent = cc;
         keyLength = cc;
         valueLength = cc;
-        zeros = blank-zero f (o + leafZero) 8 Z;
+        zeros = blank-zero f (o + leafStamp) 8 Z;
         text = rw (← bytes-append f e k v) (here.bytes-text f e (k + v));
       } in
       let l : LeafHere E f path o d b e size
