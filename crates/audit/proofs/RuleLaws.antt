@@ -7,7 +7,7 @@ use mathlib.Core.List.{List, [], _∷_, _++_}
 use lib.Dec.{lit≤}
 use Rattle.layout.specs.Number.{le}
 use Rattle.layout.specs.Place.{atD}
-use Rattle.model.specs.Edition.{Edition, editionOf, before1}
+use Rattle.model.specs.Edition.{Edition, editionOf, before1, Value}
 use Rattle.model.specs.State.{State}
 use Rattle.model.specs.Frame.{Lay, LayKids, Root, bare, tree, Tree, Trees, RootAt, LeafOf, rootItems, Clean, Stands, Good}
 use Rattle.model.specs.Frame.Lay.{leaf, prefix, node}
@@ -21,10 +21,11 @@ pub record SameKeys (E G : Edition) : Type 0 where
   pub number : E .number ≡ G .number
   pub faults : (k : List ℕ) → G .keyFault k ≡ E .keyFault k
   pub walks : (k : List ℕ) → G .walked k ≡ E .walked k
+  pub stamps : G .stamps ≡ E .stamps
 
 module _ {E G : Edition} (same : SameKeys E G) (f : List ℕ) where
-  leaf-as : {path : List ℕ} {o e : ℕ} {k v : List ℕ} → LeafOf E f path o e k v → LeafOf G f path o e k v
-  leaf-as {k = k} L = record { at = L .at; eights = L .eights; legal = same .faults k ∙ L .legal; begins = rw (same .walks k) (L .begins) }
+  leaf-as : {path : List ℕ} {o e : ℕ} {k : List ℕ} {v : Value} → LeafOf E f path o e k v → LeafOf G f path o e k v
+  leaf-as {k = k} L = record { at = L .at; eights = L .eights; legal = same .faults k ∙ L .legal; begins = rw (same .walks k) (L .begins); stamped = rw (same .stamps) (L .stamped) }
 
   mutual
     unfolding Tree Trees
@@ -85,13 +86,13 @@ module _ {E G : Edition} (same : SameKeys E G) (f : List ℕ) where
 -- ---- the rules
 
 pub rule-of : (wiped : Bool) (E : Edition) → SameKeys E (ruled wiped E)
-rule-of wiped E = record { number = refl; faults = λ k. refl; walks = λ k. refl }
+rule-of wiped E = record { number = refl; faults = λ k. refl; walks = λ k. refl; stamps = refl }
 
 pub of-rule : (wiped : Bool) (E : Edition) → SameKeys (ruled wiped E) E
-of-rule wiped E = record { number = refl; faults = λ k. refl; walks = λ k. refl }
+of-rule wiped E = record { number = refl; faults = λ k. refl; walks = λ k. refl; stamps = refl }
 
 between : (wiped other : Bool) (E : Edition) → SameKeys (ruled wiped E) (ruled other E)
-between wiped other E = record { number = refl; faults = λ k. refl; walks = λ k. refl }
+between wiped other E = record { number = refl; faults = λ k. refl; walks = λ k. refl; stamps = refl }
 
 pub rule-before : (wiped : Bool) (E : Edition) {f : List ℕ} → Good (ruled wiped E) f → Good (ruled false E) f
 rule-before wiped E {f} G = (G .0, stands-as (between wiped false E) f (G .1) (λ e. clash (cc)))
