@@ -16,6 +16,7 @@ use Rattle.model.specs.Promise.{changes, CheckPromise, WritePromise}
 use Rattle.model.proofs.Edition2.{lawfulOf}
 use Rattle.model.proofs.TextLaws.{bytes-all}
 use Rattle.keys.proofs.KeyLaws.{of-two, of-other}
+use Rattle.model.proofs.StringLaws.{eqb-cases, ltb-cases}
 use Rattle.put_core.specs.Core.{Left, Asked, WriteMade}
 use Rattle.put_core.proofs.CoreLaws.{left-same}
 use Rattle.answers.specs.declared.Refusal.{Refusal}
@@ -107,6 +108,12 @@ stamp-other ed s h = rw (of-other ed h) (first-only s (ltb s 1) refl, lit< tt)
     first-only : (s : ℕ) (b : Bool) → ltb s 1 ≡ b → 0 ≡ pick b s 0
     first-only s true e = omega (arith, ltb-true s 1 e)
     first-only s false e = refl
+
+-- it is one of the edition's
+pub stamp-held : (ed s : ℕ) → stampFor (editionOf ed) s < editionOf ed .stamps
+stamp-held ed s = ltb-cases s (editionOf ed .stamps)
+    (λ t h. rw t h)
+    (λ t h. rw t (eqb-cases ed 2 (λ u e. rw (of-two ed e) (lit< tt)) (λ u e. rw (of-other ed e) (lit< tt))))
 
 -- what was made with it
 pub made-for : (E : Edition) (f k t : List ℕ) (s : ℕ) (a : Write) {r n : ℕ} {f' : List ℕ} → r ≡ stampFor E s → WritePromise E a f k (record { bytes = t; stamp = r }) n f' → WritePromise E a f k (valueFor E t s) n f'
