@@ -3,8 +3,13 @@
  * bytes that it is lent.
  *
  * A frame has F bytes, a multiple of 8 from 1,024 to 524,288, and N slots, an even number from 8 to 10,240; 64 + 4 N + 8 is at
- * most F. A key has 1 to 112 bytes, none of them 0. A value has 0 to 65,535 bytes. Records are kept in the frame alone: copy or
- * store its F bytes anywhere, and lend them again later.
+ * most F. A value has 0 to 65,535 bytes. Records are kept in the frame alone: copy or store its F bytes anywhere, and lend them
+ * again later.
+ *
+ * There are two editions, and a frame is of one of them. Edition 1, the calls that begin with frame_: a key has 1 to 112 bytes, none of
+ * them 0. Edition 2, the calls that begin with frame2_: a key has 1 to 255 bytes of any kind. What is said here of a frame_ call holds of
+ * the frame2_ call of that name with its own keys, and nothing else differs but what is told beside them. A call that is lent a frame of the
+ * other edition answers 2.
  *
  * Every number that a call can give:
  *
@@ -15,8 +20,8 @@
  *   1  FRAME_BAD_LENGTH    format: F or N against the limits, or frame_len is not F; else: frame_len is no F that a frame can have,
  *                          or is not the F that the frame holds
  *   2  FRAME_NOT_GOOD      the bytes are not a good frame
- *   3  FRAME_KEY_LENGTH    the key has no byte, or more than 112; list: the prefix has more than 112
- *   4  FRAME_KEY_ZERO      the key holds a byte 0
+ *   3  FRAME_KEY_LENGTH    the key has no byte, or more than 112 (edition 2: 255); list: the prefix has more than that
+ *   4  FRAME_KEY_ZERO      the key holds a byte 0; edition 2 does not give it
  *   5  FRAME_VALUE_LENGTH  the value has more than 65,535 bytes
  *   7  FRAME_OUT_LENGTH    pack, pack_before: the output is not as long as the frame; batch: the second frame is not
  *  12  FRAME_LAYOUT        batch: not laid out as docs/FORMAT.md says
@@ -37,8 +42,8 @@
  *
  * What a call frees it overwrites with zero: the bytes of a record that was erased, of a value that was replaced by one of another length,
  * and of the nodes above them. In a good frame all bytes that nothing uses are zero, but for the up to seven that fill a record's up to a
- * multiple of 8; the check looks at them. So a frame from before freed bytes were wiped is answered 2 by every call but
- * frame_pack_before, which packs it once. Copies of a frame made earlier (in flash, in another buffer) are the caller's to overwrite.
+ * multiple of 8; the check looks at them. So a frame from before freed bytes were wiped, which is one of edition 1, is answered 2 by every
+ * call but frame_pack_before, which packs it once. Copies of a frame made earlier (in flash, in another buffer) are the caller's to overwrite.
  *
  * What the caller answers for, because no call can test it:
  *   - each pointer leads to as many bytes (for found, page and counts: numbers) as the length after it says, and is not NULL even
@@ -164,20 +169,20 @@ struct frame_counts {
     uint64_t freed[8];    /* freed bodies: Leaf, Prefix, none, Node4, Node16, Node48, Node256, EmptyRoot */
 };
 
+static inline void frame_set_counts(struct frame_counts *counts, const uint64_t told[14]) {
+    counts->bytes = told[0];
+    counts->slots = told[1];
+    counts->slots_given = told[2];
+    counts->bytes_given = told[3];
+    counts->records = told[4];
+    counts->dead_bytes = told[5];
+    for (int kind = 0; kind < 8; kind++) counts->freed[kind] = told[6 + kind];
+}
+
 static inline uint32_t frame_fullness(const uint8_t *frame, frame_length frame_len, struct frame_counts *counts) {
     uint64_t told[14] = {0};
     uint32_t given = frame_info(frame, frame_len, told, 14);
-    if (given == 0) {
-        counts->bytes = told[0];
-        counts->slots = told[1];
-        counts->slots_given = told[2];
-        counts->bytes_given = told[3];
-        counts->records = told[4];
-        counts->dead_bytes = told[5];
-        for (int kind = 0; kind < 8; kind++) {
-            counts->freed[kind] = told[6 + kind];
-        }
-    }
+    if (given == 0) frame_set_counts(counts, told);
     return given;
 }
 
@@ -222,7 +227,7 @@ static inline uint32_t frame_names(const uint8_t *frame, frame_length frame_len,
 /* An entry of a page. */
 struct frame_entry {
     const uint8_t *text;
-    uint32_t length; /* at most 112 */
+    uint32_t length; /* at most 112, in edition 2 at most 255 */
 };
 
 /* Reads the entry that stands at a place of the buffer, its start at first, and gives the place of the next one. */
@@ -301,6 +306,77 @@ static inline int frame_changes_add(struct frame_changes *changes, int kind, con
     frame_set4(changes->bytes, changes->count);
     return 0;
 }
+
+/*
+ * Edition 2: the same calls for frames whose keys have 1 to 255 bytes of any kind, hardware addresses and long names. Parameters, answers and
+ * what is written are those of the frame_ call of that name, but that 4 is not given, and that 3 is for a key of no byte or more than 255,
+ * and for a prefix of more than 255. Where a name is sorted or cut at a delimiter, a byte 0 is a byte as any other, the smallest. There is no
+ * packing of frames from before: there are none of edition 2.
+ */
+uint32_t frame2_format(uint8_t *frame, frame_length frame_len, frame_length f, frame_length n);
+
+uint32_t frame2_check(const uint8_t *frame, frame_length frame_len);
+
+/*
+ * found[2], the slots visited, is at most 3 and a slot for each byte of the key, two for a byte 0. Keys that share more than 112 bytes share
+ * several slots, one for each 112 bytes and one for the rest.
+ */
+uint32_t frame2_look_up(const uint8_t *frame, frame_length frame_len, const uint8_t *key, frame_length key_len, uint64_t *found,
+                        frame_length three);
+
+static inline uint32_t frame2_find(const uint8_t *frame, frame_length frame_len, const uint8_t *key, frame_length key_len,
+                                   struct frame_found *found) {
+    uint64_t told[3] = {0, 0, 0};
+    uint32_t given = frame2_look_up(frame, frame_len, key, key_len, told, 3);
+    if (given == 0 || given == 8) {
+        found->place = told[0];
+        found->length = told[1];
+        found->slots = told[2];
+    }
+    return given;
+}
+
+/* A put needs up to seven slots: a Leaf, a node, and five for the up to 509 bytes that two keys share, bytes 0 counted twice. */
+uint32_t frame2_put(uint8_t *frame, frame_length frame_len, const uint8_t *key, frame_length key_len, const uint8_t *value,
+                    frame_length value_len);
+
+uint32_t frame2_replace(uint8_t *frame, frame_length frame_len, const uint8_t *key, frame_length key_len, const uint8_t *value,
+                        frame_length value_len);
+
+uint32_t frame2_erase(uint8_t *frame, frame_length frame_len, const uint8_t *key, frame_length key_len);
+
+/* The one call that takes much stack: 73 KB on the deepest tree that a frame of edition 2 can hold (edition 1: 16 KB); every other takes at most 13 KB. */
+uint32_t frame2_pack(const uint8_t *frame, frame_length frame_len, uint8_t *out, frame_length out_len);
+
+uint32_t frame2_info(const uint8_t *frame, frame_length frame_len, uint64_t *counts, frame_length fourteen);
+
+static inline uint32_t frame2_fullness(const uint8_t *frame, frame_length frame_len, struct frame_counts *counts) {
+    uint64_t told[14] = {0};
+    uint32_t given = frame2_info(frame, frame_len, told, 14);
+    if (given == 0) frame_set_counts(counts, told);
+    return given;
+}
+
+uint32_t frame2_list(const uint8_t *frame, frame_length frame_len, const uint8_t *prefix, frame_length prefix_len, const uint8_t *start,
+                     frame_length start_len, frame_length has_start, frame_length delimiter, uint8_t *buffer, frame_length buffer_len,
+                     uint64_t *page, frame_length two);
+
+static inline uint32_t frame2_names(const uint8_t *frame, frame_length frame_len, const uint8_t *prefix, frame_length prefix_len,
+                                    const uint8_t *start, frame_length start_len, unsigned delimiter, uint8_t *buffer,
+                                    frame_length buffer_len, struct frame_page *page) {
+    uint64_t told[2] = {0, 0};
+    uint32_t given = frame2_list(frame, frame_len, prefix, prefix_len, start ? start : prefix, start ? start_len : 0, start ? 1 : 0,
+                                 delimiter, buffer, buffer_len, told, 2);
+    if (given == 0) {
+        page->count = told[0];
+        page->more = told[1];
+    }
+    return given;
+}
+
+/* The batch is laid out as one of edition 1. */
+uint64_t frame2_batch(uint8_t *frame, frame_length frame_len, uint8_t *second, frame_length second_len, const uint8_t *batch,
+                      frame_length batch_len, uint8_t *answers, frame_length answers_len);
 
 #ifdef __cplusplus
 }

@@ -24,7 +24,7 @@
 
 #include "frame_store.h"
 
-#define STACK_BYTES 65536
+#define STACK_BYTES 131072
 #include "start.h"
 
 enum {

@@ -100,77 +100,96 @@ fn page(out: &mut [u8]) -> &mut [u8] {
     &mut out[..length]
 }
 
-/// Every part is passed with its own length, and lives through the call.
-pub fn proved(call: Call) -> Function {
-    match call {
-        Call::Format => |lent| unsafe {
-            let length = lent.frame.len();
-            exported::frame_format(lent.frame.as_mut_ptr(), length, length, lent.n)
-        },
-        Call::Check => {
-            |lent| unsafe { exported::frame_check(lent.frame.as_ptr(), lent.frame.len()) }
+/// The exported calls of one edition. Every part is passed with its own length, and
+/// lives through the call.
+macro_rules! calls_of_edition {
+    ($(#[$about:meta])* $proved:ident: $format:ident, $check:ident, $look_up:ident, $put:ident,
+     $replace:ident, $erase:ident, $pack:ident, $list:ident) => {
+        $(#[$about])*
+        pub fn $proved(call: Call) -> Function {
+            match call {
+                Call::Format => |lent| unsafe {
+                    let length = lent.frame.len();
+                    exported::$format(lent.frame.as_mut_ptr(), length, length, lent.n)
+                },
+                Call::Check => {
+                    |lent| unsafe { exported::$check(lent.frame.as_ptr(), lent.frame.len()) }
+                }
+                Call::LookUp => |lent| unsafe {
+                    exported::$look_up(
+                        lent.frame.as_ptr(),
+                        lent.frame.len(),
+                        lent.key.as_ptr(),
+                        lent.key.len(),
+                        lent.found.as_mut_ptr(),
+                        lent.found.len(),
+                    )
+                },
+                Call::Put => |lent| unsafe {
+                    exported::$put(
+                        lent.frame.as_mut_ptr(),
+                        lent.frame.len(),
+                        lent.key.as_ptr(),
+                        lent.key.len(),
+                        lent.value.as_ptr(),
+                        lent.value.len(),
+                    )
+                },
+                Call::Replace => |lent| unsafe {
+                    exported::$replace(
+                        lent.frame.as_mut_ptr(),
+                        lent.frame.len(),
+                        lent.key.as_ptr(),
+                        lent.key.len(),
+                        lent.value.as_ptr(),
+                        lent.value.len(),
+                    )
+                },
+                Call::Erase => |lent| unsafe {
+                    let length = lent.frame.len();
+                    exported::$erase(
+                        lent.frame.as_mut_ptr(),
+                        length,
+                        lent.key.as_ptr(),
+                        lent.key.len(),
+                    )
+                },
+                Call::Pack => |lent| unsafe {
+                    let (frame, out) = (lent.frame.as_ptr(), lent.out.as_mut_ptr());
+                    exported::$pack(frame, lent.frame.len(), out, lent.out.len())
+                },
+                Call::List => |lent| unsafe {
+                    let (frame, buffer) = (lent.frame.as_ptr(), page(lent.out));
+                    exported::$list(
+                        frame,
+                        lent.frame.len(),
+                        b"".as_ptr(),
+                        0,
+                        lent.key.as_ptr(),
+                        lent.key.len(),
+                        usize::from(!lent.key.is_empty()),
+                        exported::NO_DELIMITER,
+                        buffer.as_mut_ptr(),
+                        buffer.len(),
+                        lent.found.as_mut_ptr(),
+                        exported::PAGE_NUMBERS,
+                    )
+                },
+            }
         }
-        Call::LookUp => |lent| unsafe {
-            exported::frame_look_up(
-                lent.frame.as_ptr(),
-                lent.frame.len(),
-                lent.key.as_ptr(),
-                lent.key.len(),
-                lent.found.as_mut_ptr(),
-                lent.found.len(),
-            )
-        },
-        Call::Put => |lent| unsafe {
-            exported::frame_put(
-                lent.frame.as_mut_ptr(),
-                lent.frame.len(),
-                lent.key.as_ptr(),
-                lent.key.len(),
-                lent.value.as_ptr(),
-                lent.value.len(),
-            )
-        },
-        Call::Replace => |lent| unsafe {
-            exported::frame_replace(
-                lent.frame.as_mut_ptr(),
-                lent.frame.len(),
-                lent.key.as_ptr(),
-                lent.key.len(),
-                lent.value.as_ptr(),
-                lent.value.len(),
-            )
-        },
-        Call::Erase => |lent| unsafe {
-            let length = lent.frame.len();
-            exported::frame_erase(
-                lent.frame.as_mut_ptr(),
-                length,
-                lent.key.as_ptr(),
-                lent.key.len(),
-            )
-        },
-        Call::Pack => |lent| unsafe {
-            let (frame, out) = (lent.frame.as_ptr(), lent.out.as_mut_ptr());
-            exported::frame_pack(frame, lent.frame.len(), out, lent.out.len())
-        },
-        Call::List => |lent| unsafe {
-            let (frame, buffer) = (lent.frame.as_ptr(), page(lent.out));
-            exported::frame_list(
-                frame,
-                lent.frame.len(),
-                b"".as_ptr(),
-                0,
-                lent.key.as_ptr(),
-                lent.key.len(),
-                usize::from(!lent.key.is_empty()),
-                exported::NO_DELIMITER,
-                buffer.as_mut_ptr(),
-                buffer.len(),
-                lent.found.as_mut_ptr(),
-                exported::PAGE_NUMBERS,
-            )
-        },
-    }
+    };
+}
+
+calls_of_edition! {
+    /// Those of edition 1.
+    proved: frame_format, frame_check, frame_look_up, frame_put, frame_replace, frame_erase,
+    frame_pack, frame_list
+}
+
+calls_of_edition! {
+    /// Those of edition 2.
+    proved2: frame2_format, frame2_check, frame2_look_up, frame2_put, frame2_replace, frame2_erase,
+    frame2_pack, frame2_list
 }
 
 /// A batch by the proved store; gives its number and the place of the change
@@ -204,10 +223,27 @@ mod exported {
     pub const NO_DELIMITER: usize = 256;
     pub const PAGE_NUMBERS: usize = 2;
 
-    extern "C" {
-        pub fn frame_format(frame: *mut u8, length: usize, f: usize, n: usize) -> u32;
-        pub fn frame_check(frame: *const u8, length: usize) -> u32;
-        pub fn frame_look_up(
+    /// Declares a function of each edition, both alike.
+    macro_rules! declared {
+        ($($one:ident, $two:ident: fn($($name:ident: $type:ty),* $(,)?) -> $given:ty;)*) => {
+            extern "C" {
+                $(
+                    pub fn $one($($name: $type),*) -> $given;
+                    pub fn $two($($name: $type),*) -> $given;
+                )*
+            }
+        };
+    }
+
+    declared! {
+        frame_format, frame2_format: fn(
+            frame: *mut u8,
+            length: usize,
+            f: usize,
+            n: usize,
+        ) -> u32;
+        frame_check, frame2_check: fn(frame: *const u8, length: usize) -> u32;
+        frame_look_up, frame2_look_up: fn(
             frame: *const u8,
             length: usize,
             key: *const u8,
@@ -215,7 +251,7 @@ mod exported {
             found: *mut u64,
             numbers: usize,
         ) -> u32;
-        pub fn frame_put(
+        frame_put, frame2_put: fn(
             frame: *mut u8,
             length: usize,
             key: *const u8,
@@ -223,7 +259,7 @@ mod exported {
             value: *const u8,
             value_length: usize,
         ) -> u32;
-        pub fn frame_replace(
+        frame_replace, frame2_replace: fn(
             frame: *mut u8,
             length: usize,
             key: *const u8,
@@ -231,20 +267,19 @@ mod exported {
             value: *const u8,
             value_length: usize,
         ) -> u32;
-        pub fn frame_erase(frame: *mut u8, length: usize, key: *const u8, key_length: usize)
-            -> u32;
-        pub fn frame_pack(frame: *const u8, length: usize, out: *mut u8, out_length: usize) -> u32;
-        pub fn frame_batch(
+        frame_erase, frame2_erase: fn(
             frame: *mut u8,
             length: usize,
-            second: *mut u8,
-            second_length: usize,
-            batch: *const u8,
-            batch_length: usize,
-            answers: *mut u8,
-            answers_length: usize,
-        ) -> u64;
-        pub fn frame_list(
+            key: *const u8,
+            key_length: usize,
+        ) -> u32;
+        frame_pack, frame2_pack: fn(
+            frame: *const u8,
+            length: usize,
+            out: *mut u8,
+            out_length: usize,
+        ) -> u32;
+        frame_list, frame2_list: fn(
             frame: *const u8,
             length: usize,
             prefix: *const u8,
@@ -258,5 +293,18 @@ mod exported {
             page: *mut u64,
             numbers: usize,
         ) -> u32;
+    }
+
+    extern "C" {
+        pub fn frame_batch(
+            frame: *mut u8,
+            length: usize,
+            second: *mut u8,
+            second_length: usize,
+            batch: *const u8,
+            batch_length: usize,
+            answers: *mut u8,
+            answers_length: usize,
+        ) -> u64;
     }
 }

@@ -2,8 +2,11 @@
 //!
 //! The longest key is one byte repeated; other keys leave it after each byte,
 //! so that a node stands at each of its 112 bytes and its Leaf is slot 113 of
-//! the way. The trees differ in the kind that the way goes through.
+//! the way. The trees differ in the kind that the way goes through. In edition 2 the
+//! way of bytes 0 is the longest: other keys leave it where a byte 0 begins, and end
+//! where one could go on.
 
+use crate::calls::{proved2, Call, Lent};
 use crate::plain;
 use crate::plain::layout::number::DONE;
 use crate::plain::layout::{LONGEST_FRAME, LONGEST_KEY, MOST_SLOTS};
@@ -68,4 +71,25 @@ fn leaving(depth: usize, byte: u8) -> Vec<u8> {
 
 fn put(frame: &mut [u8], key: &[u8]) {
     assert_eq!(plain::put(frame, key, b""), DONE, "there is room for a deep tree");
+}
+
+/// The bytes of the longest key of edition 2.
+const LONGEST_KEY_2: usize = 255;
+
+/// The deepest tree of edition 2, in a frame of the longest length: a slot for each of
+/// 510 walked bytes of the longest key of bytes 0, and its Leaf.
+pub fn deepest_of_edition_2() -> DeepTree {
+    let mut frame = vec![0; LONGEST_FRAME];
+    let mut call = |call, key: &[u8]| {
+        let mut lent =
+            Lent { frame: &mut frame, out: &mut [], key, value: b"", n: MOST_SLOTS, found: [0; 3] };
+        assert_eq!(proved2(call)(&mut lent), DONE, "there is room for a deep tree");
+    };
+    call(Call::Format, b"");
+    for length in 1..=LONGEST_KEY_2 {
+        call(Call::Put, &vec![0; length]);
+        call(Call::Put, &[&vec![0; length - 1][..], &[1]].concat());
+    }
+    let absent = [&vec![0; LONGEST_KEY_2 - 1][..], &[2]].concat();
+    DeepTree { name: "edition 2, Node4", frame, present: vec![0; LONGEST_KEY_2], absent }
 }

@@ -1,10 +1,11 @@
 //! The proved store beside the plain one: times, or with `stack` the stack.
 
-use store_bench::calls::{plain, proved, Call, Lent};
-use store_bench::deepest::{deep_trees, DeepTree};
+use store_bench::calls::{plain, proved, proved2, Call, Function, Lent};
+use store_bench::deepest::{deep_trees, deepest_of_edition_2, DeepTree};
 use store_bench::measure::{
-    measure, page_times, page_to_check, page_to_page, visit_times, visit_to_check,
+    edition_times, measure, page_times, page_to_check, page_to_page, visit_times, visit_to_check,
 };
+use store_bench::plain::layout::number::{DONE, REPLACED};
 use store_bench::plain::layout::MOST_SLOTS;
 use store_bench::stack::bytes_used;
 use store_bench::workload::{page_starts, visit, wide, workload, Fill, Workload, FRAMES, WIDTHS};
@@ -14,11 +15,12 @@ fn main() {
     match arguments.iter().map(String::as_str).collect::<Vec<_>>()[..] {
         [] => times(),
         ["wide"] => wide_times(),
+        ["editions"] => editions(),
         ["pages"] => pages(),
         ["visit"] => visits(),
         ["stack"] => stacks(),
         _ => {
-            eprintln!("no argument: times; `wide`: those of trees of wide nodes; `pages`: those of a listing; `visit`: those of many changes; `stack`: the stack that each call uses");
+            eprintln!("no argument: times; `wide`: those of trees of wide nodes; `editions`: those of edition 2 beside edition 1; `pages`: those of a listing; `visit`: those of many changes; `stack`: the stack that each call uses");
             std::process::exit(2);
         }
     }
@@ -66,6 +68,38 @@ fn times_of(workload: &Workload, what: &str) {
     }
 }
 
+/// The calls of edition 2 beside those of edition 1, on the same frames.
+fn editions() {
+    println!(
+        "{:<22} {:>7} {:<7} {:>6} {:>12} {:>12} {:>6}",
+        "call", "F", "fill", "slots", "ns edition 1", "ns edition 2", "ratio"
+    );
+    for (f, n) in FRAMES {
+        for fill in Fill::ALL {
+            editions_of(&workload(f, n, fill), fill.name());
+        }
+    }
+    for width in WIDTHS {
+        editions_of(&wide(width), &format!("wide {width}"));
+    }
+}
+
+fn editions_of(workload: &Workload, what: &str) {
+    for task in &workload.tasks {
+        let [one, two, ratio] = edition_times(workload, task);
+        println!(
+            "{:<22} {:>7} {:<7} {:>6} {:>12.0} {:>12.0} {:>6.2}",
+            task.name,
+            workload.frame.len(),
+            what,
+            workload.slots(),
+            one,
+            two,
+            ratio,
+        );
+    }
+}
+
 /// Pages of names in a full frame of the longest length, beside a check of it.
 fn pages() {
     let (frame, starts) = page_starts();
@@ -101,24 +135,26 @@ fn stacks() {
     println!("{:<16} {:<8} {:>12} {:>12}", "way through", "call", "bytes plain", "bytes proved");
     for tree in deep_trees() {
         for call in Call::ALL {
-            let (mut frame, mut out) = (tree.frame.clone(), vec![0; tree.frame.len()]);
-            let mut used = |function| {
-                frame.copy_from_slice(&tree.frame);
-                let mut lent = lent(&tree, call, &mut frame, &mut out);
-                bytes_used(function, &mut lent)
-            };
-            let (number, plain_bytes) = used(plain(call));
-            let (proved_number, proved_bytes) = used(proved(call));
+            let (number, plain_bytes) = stack_of(&tree, call, plain(call));
+            let (proved_number, proved_bytes) = stack_of(&tree, call, proved(call));
             assert_eq!(proved_number, number, "{} answers differ", call.name());
-            println!(
-                "{:<16} {:<8} {:>12} {:>12}",
-                tree.name,
-                call.name(),
-                plain_bytes,
-                proved_bytes,
-            );
+            let call = call.name();
+            println!("{:<16} {call:<8} {plain_bytes:>12} {proved_bytes:>12}", tree.name);
         }
     }
+    // The plain store has no edition 2.
+    let tree = deepest_of_edition_2();
+    for call in Call::ALL {
+        let (number, bytes) = stack_of(&tree, call, proved2(call));
+        assert_eq!(number, if call == Call::Replace { REPLACED } else { DONE }, "{}", call.name());
+        println!("{:<16} {:<8} {:>12} {bytes:>12}", tree.name, call.name(), "");
+    }
+}
+
+/// The number of a call on a copy of the tree's frame, and the bytes of stack it used.
+fn stack_of(tree: &DeepTree, call: Call, function: Function) -> (u32, usize) {
+    let (mut frame, mut out) = (tree.frame.clone(), vec![0; tree.frame.len()]);
+    bytes_used(function, &mut lent(tree, call, &mut frame, &mut out))
 }
 
 /// The deepest key, except for put, which adds a new one beside it.

@@ -4,7 +4,7 @@
 //! right after one another and in changing order, so that both meet the same
 //! disturbances. Frames are restored before a sample, outside its time.
 
-use crate::calls::{plain, proved, proved_batch, Call, Function, Lent, PAGE_BYTES};
+use crate::calls::{plain, proved, proved2, proved_batch, Call, Function, Lent, PAGE_BYTES};
 use crate::plain::layout::number::DONE;
 use crate::plain::layout::{get16, NAME_LENGTH_BYTES};
 use crate::plain::{list, Asked};
@@ -29,8 +29,8 @@ const LARGEST_BATCH: u32 = 1_000;
 const COPIES_BYTES: usize = 16_384;
 
 pub fn measure(workload: &Workload, task: &Task) -> Measured {
-    let mut sampler = Sampler::new(workload, task);
     let (plain, proved) = (plain(task.call), proved(task.call));
+    let mut sampler = Sampler::new(workload, task, plain);
     let (mut plain_times, mut proved_times, mut ratios) = (Vec::new(), Vec::new(), Vec::new());
     for round in 0..UNCOUNTED_ROUNDS + ROUNDS {
         let (plain_time, proved_time);
@@ -48,6 +48,27 @@ pub fn measure(workload: &Workload, task: &Task) -> Measured {
         }
     }
     Measured { plain: median(plain_times), proved: median(proved_times), ratio: median(ratios) }
+}
+
+/// A call of edition 1 on a frame, and that of edition 2 on the same frame in edition
+/// 2: nanoseconds of both, and the ratio of the second to the first.
+pub fn edition_times(workload: &Workload, task: &Task) -> [f64; 3] {
+    let (in_one, in_two) = (proved(task.call), proved2(task.call));
+    let second = workload.in_edition_2();
+    let mut one = Sampler::new(workload, task, in_one);
+    let mut two = Sampler::new(&second, task, in_two);
+    two.batch = one.batch;
+    let (mut first, mut second) = (0, 0);
+    alternate(
+        || {
+            first += 1;
+            one.sample(in_one, first)
+        },
+        || {
+            second += 1;
+            two.sample(in_two, second)
+        },
+    )
 }
 
 /// Two ways to do the same in rounds: each round measures both, in changing
@@ -202,13 +223,14 @@ struct Sampler<'a> {
 }
 
 impl<'a> Sampler<'a> {
-    fn new(workload: &'a Workload, task: &'a Task) -> Sampler<'a> {
+    /// As many calls in a batch as the time of this function asks for.
+    fn new(workload: &'a Workload, task: &'a Task, function: Function) -> Sampler<'a> {
         let f = workload.frame.len();
         let copies = if task.call.changes_frame() { (COPIES_BYTES / f).max(1) } else { 1 };
         let frames = vec![workload.frame.clone(); copies];
         let mut sampler = Sampler { workload, task, frames, out: vec![0; f], batch: copies };
         if !task.call.changes_frame() {
-            let one_call = sampler.sample(plain(task.call), 0).max(1.0);
+            let one_call = sampler.sample(function, 0).max(1.0);
             let calls = BATCH_TIME.as_nanos() as f64 / one_call;
             sampler.batch = calls.clamp(1.0, f64::from(LARGEST_BATCH)) as usize;
         }

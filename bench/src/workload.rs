@@ -6,7 +6,7 @@
 use crate::calls::{self, Call, Lent};
 use crate::plain;
 use crate::plain::layout::number::{ABSENT, DONE, NO_ROOM, REPLACED};
-use crate::plain::layout::{get32, AT_U, LONGEST_FRAME, MOST_SLOTS};
+use crate::plain::layout::{get32, set32, AT_EDITION, AT_U, LONGEST_FRAME, MOST_SLOTS};
 use crate::random::Random;
 use frame_store::Batch;
 
@@ -68,8 +68,17 @@ impl Workload {
     pub fn slots(&self) -> usize {
         get32(&self.frame, AT_U)
     }
+
+    /// The same frame in edition 2, without the calls: what is good in edition 1 is so
+    /// in edition 2, but for the number.
+    pub fn in_edition_2(&self) -> Workload {
+        let mut frame = self.frame.clone();
+        set32(&mut frame, AT_EDITION, SECOND_EDITION);
+        Workload { frame, n: self.n, tasks: Vec::new() }
+    }
 }
 
+const SECOND_EDITION: usize = 2;
 const SEED: u64 = 1;
 /// Different inputs of one task; they are used in turn.
 const MOST_INPUTS: usize = 64;

@@ -9,7 +9,7 @@ use second_store::names::{list, Asked};
 use second_store::slotless::Tree;
 use second_store::store;
 use store_bench::calls::{Call, PAGE_BYTES};
-use store_bench::deepest::deep_trees;
+use store_bench::deepest::{deep_trees, deepest_of_edition_2};
 use store_bench::workload::{wide, workload, Fill, Workload, ABSENT_OF_WIDE, FRAMES, WIDTHS};
 
 /// Of the frames that are measured.
@@ -45,6 +45,33 @@ fn deep_trees_are_as_deep_as_allowed() {
             "{}",
             tree.name
         );
+    }
+}
+
+/// Of the 512 walked bytes of 255 bytes 0 the last two, the key's end, part from no
+/// other; a slot for each of the others and the Leaf. Behind the first byte 0 stands a
+/// Prefix and no node, since no key is empty.
+#[test]
+fn the_deepest_tree_of_edition_2_is_as_deep_as_allowed() {
+    let tree = deepest_of_edition_2();
+    let reading = read(Edition::Two, &tree.frame).expect("the lengths agree");
+    assert!(reading.good(), "{:?}", reading.broken);
+    let found = store::look_up(Edition::Two, &tree.frame, &tree.present);
+    assert_eq!((found.number, found.slots), (DONE, 511));
+    let mut frame = tree.frame.clone();
+    assert_eq!(store::put(Edition::Two, &mut frame, &tree.absent, b""), DONE);
+}
+
+/// The measured frames are good ones of edition 2, too, and its calls give the same.
+#[test]
+fn workloads_are_those_of_edition_2_but_for_the_number() {
+    for (f, n) in FRAMES {
+        for fill in Fill::ALL {
+            let workload = workload(f, n, fill);
+            let second = workload.in_edition_2();
+            assert_eq!(check(Edition::Two, &second.frame), DONE);
+            assert_eq!(store::records(&second.frame), store::records(&workload.frame));
+        }
     }
 }
 

@@ -1,7 +1,7 @@
 //! The exported C functions, behind the same calls.
 //!
-//! Believed here: the C declarations. The bindings link the archive that has
-//! them.
+//! Believed here: the C declarations; those of edition 2 are edition 1's under other
+//! names. The bindings link the archive that has them.
 
 use crate::compare::Calls;
 use crate::layout::number::{ABSENT, DONE};
@@ -10,11 +10,28 @@ use crate::names::{Asked, Page};
 use crate::store::Found;
 use frame_store as _;
 
+/// Declares a function of each edition, both alike.
+macro_rules! declared {
+    ($($one:ident, $two:ident: fn($($name:ident: $type:ty),* $(,)?) -> $given:ty;)*) => {
+        extern "C" {
+            $(
+                pub fn $one($($name: $type),*) -> $given;
+                pub fn $two($($name: $type),*) -> $given;
+            )*
+        }
+    };
+}
+
 mod c {
-    extern "C" {
-        pub fn frame_format(frame: *mut u8, frame_len: usize, f: usize, n: usize) -> u32;
-        pub fn frame_check(frame: *const u8, frame_len: usize) -> u32;
-        pub fn frame_look_up(
+    declared! {
+        frame_format, frame2_format: fn(
+            frame: *mut u8,
+            frame_len: usize,
+            f: usize,
+            n: usize,
+        ) -> u32;
+        frame_check, frame2_check: fn(frame: *const u8, frame_len: usize) -> u32;
+        frame_look_up, frame2_look_up: fn(
             frame: *const u8,
             frame_len: usize,
             key: *const u8,
@@ -22,7 +39,7 @@ mod c {
             place_len_and_slots: *mut u64,
             three: usize,
         ) -> u32;
-        pub fn frame_put(
+        frame_put, frame2_put: fn(
             frame: *mut u8,
             frame_len: usize,
             key: *const u8,
@@ -30,7 +47,7 @@ mod c {
             value: *const u8,
             value_len: usize,
         ) -> u32;
-        pub fn frame_replace(
+        frame_replace, frame2_replace: fn(
             frame: *mut u8,
             frame_len: usize,
             key: *const u8,
@@ -38,16 +55,19 @@ mod c {
             value: *const u8,
             value_len: usize,
         ) -> u32;
-        pub fn frame_erase(frame: *mut u8, frame_len: usize, key: *const u8, key_len: usize)
-            -> u32;
-        pub fn frame_pack(frame: *const u8, frame_len: usize, out: *mut u8, out_len: usize) -> u32;
-        pub fn frame_pack_before(
+        frame_erase, frame2_erase: fn(
+            frame: *mut u8,
+            frame_len: usize,
+            key: *const u8,
+            key_len: usize,
+        ) -> u32;
+        frame_pack, frame2_pack: fn(
             frame: *const u8,
             frame_len: usize,
             out: *mut u8,
             out_len: usize,
         ) -> u32;
-        pub fn frame_list(
+        frame_list, frame2_list: fn(
             frame: *const u8,
             frame_len: usize,
             prefix: *const u8,
@@ -61,7 +81,7 @@ mod c {
             count_and_more: *mut u64,
             two: usize,
         ) -> u32;
-        pub fn frame_batch(
+        frame_batch, frame2_batch: fn(
             frame: *mut u8,
             frame_len: usize,
             second: *mut u8,
@@ -71,79 +91,105 @@ mod c {
             answers: *mut u8,
             answers_len: usize,
         ) -> u64;
-        pub fn frame_info(
+        frame_info, frame2_info: fn(
             frame: *const u8,
             frame_len: usize,
             counts: *mut u64,
             fourteen: usize,
         ) -> u32;
     }
+
+    extern "C" {
+        pub fn frame_pack_before(
+            frame: *const u8,
+            frame_len: usize,
+            out: *mut u8,
+            out_len: usize,
+        ) -> u32;
+    }
 }
 
-pub struct Exported;
+/// Calls the function of the edition.
+macro_rules! call {
+    ($edition:expr, $one:ident, $two:ident, $($lent:expr),* $(,)?) => {
+        unsafe {
+            match $edition {
+                Edition::One => c::$one($($lent),*),
+                Edition::Two => c::$two($($lent),*),
+            }
+        }
+    };
+}
+
+pub struct Exported(pub Edition);
 
 // Every part is passed with its own length, and lives through the call.
 impl Calls for Exported {
     fn edition(&self) -> Edition {
-        Edition::One
+        self.0
     }
 
     fn format(&self, frame: &mut [u8], f: usize, n: usize) -> u32 {
-        unsafe { c::frame_format(frame.as_mut_ptr(), frame.len(), f, n) }
+        call!(self.0, frame_format, frame2_format, frame.as_mut_ptr(), frame.len(), f, n)
     }
 
     fn check(&self, frame: &[u8]) -> u32 {
-        unsafe { c::frame_check(frame.as_ptr(), frame.len()) }
+        call!(self.0, frame_check, frame2_check, frame.as_ptr(), frame.len())
     }
 
     fn look_up(&self, frame: &[u8], key: &[u8]) -> Found {
-        look_up_by_all_lengths(frame, key)
+        look_up_by_all_lengths(self.0, frame, key)
     }
 
     fn put(&self, frame: &mut [u8], key: &[u8], value: &[u8]) -> u32 {
-        unsafe {
-            c::frame_put(
-                frame.as_mut_ptr(),
-                frame.len(),
-                key.as_ptr(),
-                key.len(),
-                value.as_ptr(),
-                value.len(),
-            )
-        }
+        call!(
+            self.0,
+            frame_put,
+            frame2_put,
+            frame.as_mut_ptr(),
+            frame.len(),
+            key.as_ptr(),
+            key.len(),
+            value.as_ptr(),
+            value.len(),
+        )
     }
 
     fn replace(&self, frame: &mut [u8], key: &[u8], value: &[u8]) -> u32 {
-        unsafe {
-            c::frame_replace(
-                frame.as_mut_ptr(),
-                frame.len(),
-                key.as_ptr(),
-                key.len(),
-                value.as_ptr(),
-                value.len(),
-            )
-        }
+        call!(
+            self.0,
+            frame_replace,
+            frame2_replace,
+            frame.as_mut_ptr(),
+            frame.len(),
+            key.as_ptr(),
+            key.len(),
+            value.as_ptr(),
+            value.len(),
+        )
     }
 
     fn erase(&self, frame: &mut [u8], key: &[u8]) -> u32 {
-        unsafe { c::frame_erase(frame.as_mut_ptr(), frame.len(), key.as_ptr(), key.len()) }
+        let (frame, length) = (frame.as_mut_ptr(), frame.len());
+        call!(self.0, frame_erase, frame2_erase, frame, length, key.as_ptr(), key.len())
     }
 
     fn pack(&self, frame: &[u8], out: &mut [u8]) -> u32 {
-        unsafe { c::frame_pack(frame.as_ptr(), frame.len(), out.as_mut_ptr(), out.len()) }
+        let (frame, length) = (frame.as_ptr(), frame.len());
+        call!(self.0, frame_pack, frame2_pack, frame, length, out.as_mut_ptr(), out.len())
     }
 
     fn pack_before(&self, frame: &[u8], out: &mut [u8]) -> u32 {
+        assert_eq!(self.0, Edition::One, "the other edition has no such function");
         unsafe { c::frame_pack_before(frame.as_ptr(), frame.len(), out.as_mut_ptr(), out.len()) }
     }
 
     fn info(&self, frame: &[u8]) -> (u32, [u64; INFO_NUMBERS]) {
-        info_by_all_lengths(frame)
+        info_by_all_lengths(self.0, frame)
     }
 
     fn list(&self, frame: &[u8], asked: &Asked, buffer: &mut [u8]) -> Page {
-        list_by_all_lengths(frame, asked, buffer)
+        list_by_all_lengths(self.0, frame, asked, buffer)
     }
 
     /// One number: what is given, and 256 times the place.
@@ -155,18 +201,19 @@ impl Calls for Exported {
         answers: &mut [u8],
     ) -> (u32, u64) {
         const PLACES: u64 = 256;
-        let given = unsafe {
-            c::frame_batch(
-                frame.as_mut_ptr(),
-                frame.len(),
-                second.as_mut_ptr(),
-                second.len(),
-                batch.as_ptr(),
-                batch.len(),
-                answers.as_mut_ptr(),
-                answers.len(),
-            )
-        };
+        let given = call!(
+            self.0,
+            frame_batch,
+            frame2_batch,
+            frame.as_mut_ptr(),
+            frame.len(),
+            second.as_mut_ptr(),
+            second.len(),
+            batch.as_ptr(),
+            batch.len(),
+            answers.as_mut_ptr(),
+            answers.len(),
+        );
         ((given % PLACES) as u32, given / PLACES)
     }
 }
@@ -175,28 +222,29 @@ impl Calls for Exported {
 /// refused, and nowhere else; the buffer is written by each of these calls
 /// alike. Whatever says that there is a start key or no delimiter says so, and
 /// what stands for a start key that there is not is not looked at.
-fn list_by_all_lengths(frame: &[u8], asked: &Asked, buffer: &mut [u8]) -> Page {
+fn list_by_all_lengths(edition: Edition, frame: &[u8], asked: &Asked, buffer: &mut [u8]) -> Page {
     use std::hint::black_box;
     let (prefix, start) = (asked.prefix, asked.start);
     let call = |buffer: &mut [u8], none: (&[u8], usize), is: usize, two: usize| {
         let mut numbers = [KNOWN; 5];
         let key = start.unwrap_or(none.0);
-        let number = unsafe {
-            c::frame_list(
-                frame.as_ptr(),
-                frame.len(),
-                prefix.as_ptr(),
-                prefix.len(),
-                key.as_ptr(),
-                key.len(),
-                start.map_or(0, |_| is),
-                asked.delimiter.map_or(none.1, usize::from),
-                buffer.as_mut_ptr(),
-                buffer.len(),
-                numbers.as_mut_ptr().add(1),
-                two,
-            )
-        };
+        let number = call!(
+            edition,
+            frame_list,
+            frame2_list,
+            frame.as_ptr(),
+            frame.len(),
+            prefix.as_ptr(),
+            prefix.len(),
+            key.as_ptr(),
+            key.len(),
+            start.map_or(0, |_| is),
+            asked.delimiter.map_or(none.1, usize::from),
+            buffer.as_mut_ptr(),
+            buffer.len(),
+            numbers[1..].as_mut_ptr(),
+            two,
+        );
         (number, *black_box(&mut numbers))
     };
     let before = buffer.to_vec();
@@ -227,14 +275,13 @@ const KNOWN: u64 = 0xA5A5_A5A5_5A5A_5A5A;
 /// The fourteen numbers are written if fourteen are lent and the call is not
 /// refused, and nothing else. Told as the call's own result has them: all 0 of
 /// a refusal.
-fn info_by_all_lengths(frame: &[u8]) -> (u32, [u64; INFO_NUMBERS]) {
+fn info_by_all_lengths(edition: Edition, frame: &[u8]) -> (u32, [u64; INFO_NUMBERS]) {
     use std::hint::black_box;
     let call = |fourteen: usize| {
         let mut numbers = [KNOWN; INFO_NUMBERS + 2];
-        let given = unsafe {
-            let lent = numbers.as_mut_ptr().add(1);
-            c::frame_info(frame.as_ptr(), frame.len(), lent, fourteen)
-        };
+        let lent = numbers[1..].as_mut_ptr();
+        let given =
+            call!(edition, frame_info, frame2_info, frame.as_ptr(), frame.len(), lent, fourteen);
         (given, *black_box(&mut numbers))
     };
     let (given, [before, told @ .., after]) = call(INFO_NUMBERS);
@@ -254,14 +301,22 @@ fn info_by_all_lengths(frame: &[u8]) -> (u32, [u64; INFO_NUMBERS]) {
 /// Place, length and slots go into three numbers if three are lent and the call
 /// is not refused, and nowhere else. Told as the call's own result has them:
 /// all 0 of a refusal.
-fn look_up_by_all_lengths(frame: &[u8], key: &[u8]) -> Found {
+fn look_up_by_all_lengths(edition: Edition, frame: &[u8], key: &[u8]) -> Found {
     use std::hint::black_box;
     let call = |three: usize| {
         let mut numbers = [KNOWN; 6];
-        let given = unsafe {
-            let lent = numbers.as_mut_ptr().add(1);
-            c::frame_look_up(frame.as_ptr(), frame.len(), key.as_ptr(), key.len(), lent, three)
-        };
+        let lent = numbers[1..].as_mut_ptr();
+        let given = call!(
+            edition,
+            frame_look_up,
+            frame2_look_up,
+            frame.as_ptr(),
+            frame.len(),
+            key.as_ptr(),
+            key.len(),
+            lent,
+            three,
+        );
         (given, *black_box(&mut numbers))
     };
     let (number, [before, place, length, slots, after @ ..]) = call(3);

@@ -146,8 +146,9 @@ fn split_leaf(
 }
 
 /// A Prefix that does not match: a Node4 between the part before and the part
-/// after, which has the bytes of the Prefixes below as well. The old bodies are
-/// used from the first on, so the part before keeps the one that is cut.
+/// after, which has the bytes of the Prefixes below as well. The part before keeps
+/// the body that is cut; if there is none, and one body fewer is needed, that one
+/// is freed.
 fn cut_prefix(frame: &mut [u8], end: &Step, record: &NewRecord) -> Result<(), u32> {
     let Chain { slots, bytes, below } = chain(frame, end.slot);
     let q = shared(record.rest, &bytes);
@@ -156,13 +157,14 @@ fn cut_prefix(frame: &mut [u8], end: &Step, record: &NewRecord) -> Result<(), u3
     record.room_to_part(frame, now.saturating_sub(slots.len()))?;
     let leaf = record.add_leaf(frame);
     let node = take(frame, Kind::Node4);
-    let (bodies, freed) = resized(frame, slots, now);
+    let (freed, stay) = slots.split_at(slots.len().saturating_sub(now));
+    let bodies = with_new(frame, stay, now);
     let (upper, lower) = bodies.split_at(prefixes(before.len()));
     let lower = write_chain(frame, lower, after, below);
     write_inner(frame, node, &sorted([(bytes[q], lower), (record.rest[q], leaf)]));
     let top = write_chain(frame, upper, before, node);
     set_link(frame, end.link, top);
-    freed.into_iter().for_each(|slot| release(frame, slot, Kind::Prefix));
+    freed.iter().for_each(|slot| release(frame, *slot, Kind::Prefix));
     Ok(())
 }
 
@@ -271,10 +273,11 @@ fn collapse(
             upper.map(|upper| upper.slot).into_iter().chain(lower.slots).collect();
         let now = prefixes(bytes.len());
         room(frame, &vec![Kind::Prefix; now.saturating_sub(slots.len())], 0)?;
-        let (bodies, freed) = resized(frame, slots, now);
+        let (stay, freed) = slots.split_at(now.min(slots.len()));
+        let bodies = with_new(frame, stay, now);
         let top = write_chain(frame, &bodies, &bytes, lower.below);
         set_link(frame, upper.unwrap_or(node).link, top);
-        freed.into_iter().for_each(|slot| release(frame, slot, Kind::Prefix));
+        freed.iter().for_each(|slot| release(frame, *slot, Kind::Prefix));
     }
     release(frame, node.slot, Kind::Node4);
     Ok(())
@@ -646,14 +649,11 @@ pub(crate) fn chain(frame: &[u8], slot: usize) -> Chain {
     Chain { slots, bytes, below }
 }
 
-/// So many bodies of a chain: the old ones, and new ones if they are too few;
-/// and those that are too many.
-fn resized(frame: &mut [u8], mut slots: Vec<usize>, now: usize) -> (Vec<usize>, Vec<usize>) {
-    while slots.len() < now {
-        slots.push(take(frame, Kind::Prefix));
-    }
-    let freed = slots.split_off(now);
-    (slots, freed)
+/// So many bodies of a chain: these, and new ones behind them.
+fn with_new(frame: &mut [u8], stay: &[usize], now: usize) -> Vec<usize> {
+    let mut slots = stay.to_vec();
+    slots.extend((stay.len()..now).map(|_| take(frame, Kind::Prefix)));
+    slots
 }
 
 /// Writes a shared beginning into these bodies, each full but the last; gives the

@@ -7,13 +7,14 @@
 //! is taken, the places of fresh bodies and of the extent between the old B
 //! and the new, the links of a list that is touched, and what padding holds.
 //! Bytes that are freed change, and are zero after: a rule of the frame says so.
-//! Where a chain of Prefixes is cut or joined, those above stay as they are; it
-//! is free which of the others has which part, and which one goes if there are
-//! fewer then.
+//! Where a shared beginning is cut or joined, docs/FREEDOMS.md has it settled which
+//! body has which part: those that were there stand in the order in which they
+//! stood, and a new one below them; a cut frees the Prefix that is cut, a join the
+//! last one.
 
 use crate::check::Reading;
 use crate::layout::*;
-use crate::store::{self, Link, Step};
+use crate::store::{self, Chain, Link, Step};
 use std::collections::BTreeSet;
 use std::ops::Range;
 
@@ -22,11 +23,21 @@ use std::ops::Range;
 pub struct Touched {
     rewritten: Vec<usize>,
     freed: Vec<usize>,
-    /// So many of those that are rewritten are freed instead.
-    freed_of_chain: usize,
+    beginning: Option<Beginning>,
     needed: Vec<Kind>,
     relinked: Option<Link>,
     extents: Vec<Range<usize>>,
+}
+
+/// A shared beginning that is cut or joined.
+#[derive(Debug)]
+struct Beginning {
+    /// The way to it and through it.
+    path: Vec<u8>,
+    /// The bytes of it that lead to the first body.
+    from: usize,
+    /// The bodies that stay, from the first on.
+    stay: Vec<usize>,
 }
 
 /// For a put that is done: the key is new.
@@ -48,17 +59,22 @@ pub fn by_put(edition: Edition, before: &[u8], key: &[u8]) -> Touched {
             Touched { needed, relinked: Some(link), ..Touched::default() }
         }
         Kind::Prefix => {
-            let chain = store::chain(before, slot);
-            let matched = shared(rest, &chain.bytes);
-            let (had, after_part) = (chain.slots.len(), chain.bytes.len() - matched - 1);
+            let Chain { slots, bytes, .. } = store::chain(before, slot);
+            let matched = shared(rest, &bytes);
+            let (had, after_part) = (slots.len(), bytes.len() - matched - 1);
             let now = prefixes(matched) + prefixes(after_part);
-            // With only a part before, in one body, that stays where it hangs.
-            let stays = matched > 0 && (had, now) == (1, 1);
+            let (freed, stay) = slots.split_at(had.saturating_sub(now));
             Touched {
-                rewritten: chain.slots,
-                freed_of_chain: had.saturating_sub(now),
+                rewritten: stay.to_vec(),
+                freed: freed.to_vec(),
                 needed: parting(now.saturating_sub(had)),
-                relinked: if stays { None } else { Some(link) },
+                // The part before stays where it hangs.
+                relinked: if matched > 0 { None } else { Some(link) },
+                beginning: Some(Beginning {
+                    path: [&string[..depth], &bytes].concat(),
+                    from: depth,
+                    stay: stay.to_vec(),
+                }),
                 ..Touched::default()
             }
         }
@@ -99,7 +115,8 @@ pub fn by_replace(
 
 /// For an erase that is not refused, of a key that is present beside others.
 pub fn by_erase(edition: Edition, before: &[u8], reading: &Reading, key: &[u8]) -> Touched {
-    let steps = store::walk(before, &edition.walked(key));
+    let string = edition.walked(key);
+    let steps = store::walk(before, &string);
     let [above @ .., node, leaf] = &steps[..] else {
         panic!("a Leaf beside others stands under an inner node");
     };
@@ -120,7 +137,7 @@ pub fn by_erase(edition: Edition, before: &[u8], reading: &Reading, key: &[u8]) 
             touched.relinked = Some(chain_above.clone().last().unwrap_or(node).link);
             touched.freed.extend(chain_above.map(|step| step.slot));
         } else {
-            touched.join(edition, before, chain_above.clone().next(), node, child);
+            touched.join(before, chain_above.clone().next(), node, (&string, child));
         }
     } else if node.kind.shrink_mark() == Some(left.len()) {
         touched.freed.push(node.slot);
@@ -133,35 +150,29 @@ pub fn by_erase(edition: Edition, before: &[u8], reading: &Reading, key: &[u8]) 
 }
 
 impl Touched {
-    /// A byte joins the last Prefix above, if there is one, and those below.
+    /// The byte that leads to the child joins the last Prefix above, if there is
+    /// one, and those below.
     fn join(
         &mut self,
-        edition: Edition,
         before: &[u8],
         upper: Option<&Step>,
         node: &Step,
-        child: usize,
+        (string, child): (&[u8], usize),
     ) {
         let lower = store::chain(before, child);
-        let start = upper.map_or(0, |upper| store::prefix_bytes(before, upper.slot).len());
-        let had = usize::from(upper.is_some()) + lower.slots.len();
-        let now = prefixes(start + 1 + lower.bytes.len());
-        self.needed.extend(vec![Kind::Prefix; now.saturating_sub(had)]);
-        match (edition, upper) {
-            // "the lower body then freed": of two that become one, the upper stays.
-            (Edition::One, Some(upper)) => {
-                self.rewritten.push(upper.slot);
-                self.freed.extend(lower.slots);
-            }
-            (_, upper) => {
-                self.rewritten.extend(upper.map(|upper| upper.slot));
-                self.rewritten.extend(lower.slots);
-                self.freed_of_chain = had.saturating_sub(now);
-                // With an inner node below, the one Prefix above stays where it hangs.
-                let stays = upper.is_some() && (had, now) == (1, 1);
-                self.relinked = if stays { None } else { Some(upper.unwrap_or(node).link) };
-            }
-        }
+        let children = store::children(before, node.slot);
+        let byte = children.iter().find(|(_, slot)| *slot == child).expect("a child of it").0;
+        let from = upper.unwrap_or(node).depth;
+        let path = [&string[..node.depth], &[byte], &lower.bytes].concat();
+        let mut stay: Vec<usize> = upper.map(|upper| upper.slot).into_iter().collect();
+        stay.extend(lower.slots);
+        let now = prefixes(path.len() - from);
+        self.needed.extend(vec![Kind::Prefix; now.saturating_sub(stay.len())]);
+        self.freed.extend(stay.split_off(now.min(stay.len())));
+        self.rewritten.extend(&stay);
+        // A Prefix above stays where it hangs.
+        self.relinked = upper.is_none().then_some(node.link);
+        self.beginning = Some(Beginning { path, from, stay });
     }
 
     /// The first way in which the frame after breaks off from what the step
@@ -173,13 +184,14 @@ impl Touched {
     ) -> Option<String> {
         let freed: BTreeSet<usize> =
             was.live.keys().filter(|slot| !is.live.contains_key(slot)).copied().collect();
-        let certain: BTreeSet<usize> = self.freed.iter().copied().collect();
-        let of_chain: Vec<usize> = freed.difference(&certain).copied().collect();
-        let in_chain = of_chain.iter().all(|slot| self.rewritten.contains(slot));
-        if !freed.is_superset(&certain) || !in_chain || of_chain.len() != self.freed_of_chain {
-            let besides = format!("{} of {:?}", self.freed_of_chain, self.rewritten);
-            let should = format!("{certain:?} and {besides}");
-            return Some(format!("slots {freed:?} were freed instead of {should}"));
+        if freed != self.freed.iter().copied().collect() {
+            return Some(format!("slots {freed:?} were freed instead of {:?}", self.freed));
+        }
+        if let Some(Beginning { path, from, stay }) = &self.beginning {
+            let slots = prefixes_on(after, path, *from);
+            if !slots.starts_with(stay) {
+                return Some(format!("slots {slots:?} have what {stay:?} should have"));
+            }
         }
         if let Some(slot) = freed.iter().find(|s| !is.lists[was.live[s].number()].contains(s)) {
             return Some(format!("freed slot {slot} is not on the list of its kind"));
@@ -227,16 +239,25 @@ impl Touched {
             allow(body(*slot, *kind.expect("a taken slot was on a needed list")));
         }
         // A slot keeps its body: only the link or kind in the high bits differs.
-        let of_chain = if self.freed_of_chain > 0 { &self.rewritten[..] } else { &[] };
-        let kinds_freed = self.freed.iter().chain(of_chain).map(|slot| was.live[slot]);
+        let kinds_freed = self.freed.iter().map(|slot| was.live[slot]);
         let kinds: Vec<Kind> = kinds_freed.chain(self.needed.iter().copied()).collect();
         let listed = kinds.iter().flat_map(|kind| &was.lists[kind.number()]);
         let high_bits = (!OFFSET_MASK).to_le_bytes();
-        for slot in listed.chain(&self.freed).chain(of_chain) {
+        for slot in listed.chain(&self.freed) {
             for (place, bits) in (entry_at(*slot)..).zip(high_bits) {
                 may_change[place] |= bits;
             }
         }
         may_change
     }
+}
+
+/// The Prefixes that a way goes through from so many bytes on.
+fn prefixes_on(frame: &[u8], path: &[u8], from: usize) -> Vec<usize> {
+    // It goes on somewhere, and ends before these bytes do.
+    let behind = [END_BYTE; Edition::Two.longest_walked()];
+    let steps = store::walk(frame, &[path, &behind].concat());
+    let on_it = |step: &&Step| (from..path.len()).contains(&step.depth);
+    let prefixes = steps.iter().filter(on_it).filter(|step| step.kind == Kind::Prefix);
+    prefixes.map(|step| step.slot).collect()
 }

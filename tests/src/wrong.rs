@@ -12,7 +12,7 @@ use crate::image::image;
 use crate::layout::number::*;
 use crate::layout::*;
 use crate::names::{self, Asked, Page, LENGTH_BYTES};
-use crate::store::{self, body_at, children, release, set_link, take, Found, Link, Step};
+use crate::store::{self, body_at, children, release, set_link, take, Found, Step};
 use crate::trees::Change;
 use crate::unused;
 use std::ops::Range;
@@ -597,6 +597,17 @@ pub fn puts(edition: Edition) -> Vec<Altered> {
             given
         }),
         with.put(
+            "a put that gives the parts of a cut the other way round",
+            move |frame, key, value| {
+                let before = frame.to_vec();
+                let given = right.put(frame, key, value);
+                if given == DONE {
+                    turn_after_a_cut(edition, &before, frame, key);
+                }
+                given
+            },
+        ),
+        with.put(
             "a put that gives a grown Node48 places in byte order",
             move |frame, key, value| {
                 let grows =
@@ -951,7 +962,7 @@ fn highest_place(right: Second, frame: &mut [u8], key: &[u8], value: &[u8]) -> u
 
 pub fn erases(edition: Edition) -> Vec<Altered> {
     let (right, with) = (Second(edition), With(edition));
-    let mut all = vec![
+    vec![
         with.erase("an erase that only says 0", move |frame, key| {
             right.erase(&mut frame.to_vec(), key)
         }),
@@ -1021,6 +1032,14 @@ pub fn erases(edition: Edition) -> Vec<Altered> {
             }
             given
         }),
+        with.erase("an erase that joins Prefixes in the lower body", move |frame, key| {
+            let before = frame.to_vec();
+            let given = right.erase(frame, key);
+            if given == DONE && get32(frame, AT_R) > 0 {
+                join_in_the_lower(edition, &before, frame, key);
+            }
+            given
+        }),
         with.erase("an erase that wants room though it needs none", move |frame, key| {
             let full = check::check(edition, frame) == DONE && get32(frame, AT_B) == frame.len();
             match right.erase(&mut frame.to_vec(), key) {
@@ -1042,41 +1061,59 @@ pub fn erases(edition: Edition) -> Vec<Altered> {
             }
             given
         }),
-    ];
-    // In edition 2 it is free which Prefix goes.
-    if edition == Edition::One {
-        all.push(
-            with.erase("an erase that joins Prefixes in the lower body", move |frame, key| {
-                joins_in_the_lower(right, frame, key)
-            }),
-        );
-    }
-    all
+    ]
 }
 
-/// Exchanges the freed lower Prefix and the joined upper one.
-fn joins_in_the_lower(right: Second, frame: &mut [u8], key: &[u8]) -> u32 {
-    let edition = right.edition();
-    let was = check::read(edition, frame);
-    let given = right.erase(frame, key);
-    if given != DONE || get32(frame, AT_R) == 0 {
-        return given;
-    }
-    let (was, is) =
-        (was.expect("a good frame"), check::read(edition, frame).expect("a good frame"));
+/// After two Prefixes became one in the upper body, moves it to the lower, if that
+/// was freed.
+fn join_in_the_lower(edition: Edition, before: &[u8], frame: &mut [u8], key: &[u8]) {
+    let was = check::read(edition, before).expect("the lengths agree");
     let head = get16(frame, list_head_at(Kind::Prefix.number()));
     let Some(Step { kind: Kind::Prefix, slot: upper, link, .. }) = end_of_way(edition, frame, key)
     else {
-        return given;
+        return;
     };
-    if was.live.get(&head) == Some(&Kind::Prefix) && is.live.contains_key(&upper) {
+    if was.live.get(&head) == Some(&Kind::Prefix) && was.live.contains_key(&upper) {
         let lower = take(frame, Kind::Prefix);
         let (bytes, below) = (store::prefix_bytes(frame, upper), store::prefix_child(frame, upper));
         store::write_prefix(frame, lower, &bytes, below);
         set_link(frame, link, lower);
         release(frame, upper, Kind::Prefix);
     }
-    given
+}
+
+/// Lets the Prefixes of a shared beginning that was cut, old and new, have their
+/// parts the other way round.
+fn turn_after_a_cut(edition: Edition, before: &[u8], frame: &mut [u8], key: &[u8]) {
+    let Some(Step { kind: Kind::Prefix, slot, link, .. }) = end_of_way(edition, before, key) else {
+        return;
+    };
+    let there = store::chain(before, slot).slots;
+    let was = check::read(edition, before).expect("the lengths agree");
+    let is = check::read(edition, frame).expect("the lengths agree");
+    let prefixes = is.live.iter().filter(|(_, kind)| **kind == Kind::Prefix);
+    let slots: Vec<usize> = prefixes
+        .map(|(slot, _)| *slot)
+        .filter(|slot| there.contains(slot) || was.live.get(slot) != Some(&Kind::Prefix))
+        .collect();
+    let turned = |slot: usize| match slots.iter().position(|there| *there == slot) {
+        Some(at) => slots[slots.len() - 1 - at],
+        None => slot,
+    };
+    let held: Vec<(Vec<u8>, usize)> = slots
+        .iter()
+        .map(|slot| (store::prefix_bytes(frame, *slot), store::prefix_child(frame, *slot)))
+        .collect();
+    let steps = store::walk(frame, &edition.walked(key));
+    let node = steps[steps.len() - 2].slot;
+    for (slot, (bytes, child)) in slots.iter().zip(held) {
+        store::write_prefix(frame, turned(*slot), &bytes, turned(child));
+    }
+    let parts: Vec<(u8, usize)> =
+        children(frame, node).into_iter().map(|(byte, child)| (byte, turned(child))).collect();
+    store::write_inner(frame, node, &parts);
+    let first = store::linked(frame, link);
+    set_link(frame, link, turned(first));
 }
 
 pub fn infos(edition: Edition) -> Vec<Altered> {
@@ -1943,7 +1980,6 @@ pub fn right_but_different(edition: Edition) -> Altered {
             let before = frame.to_vec();
             let given = right.put(frame, key, value);
             if given == DONE {
-                after_a_cut(edition, &before, frame, key);
                 use_freedoms(edition, &before, frame);
             }
             given
@@ -1960,7 +1996,6 @@ pub fn right_but_different(edition: Edition) -> Altered {
             let before = frame.to_vec();
             let given = right.erase(frame, key);
             if given == DONE && get32(frame, AT_R) > 0 {
-                after_a_join(edition, &before, frame, key);
                 use_freedoms(edition, &before, frame);
             }
             given
@@ -2012,69 +2047,4 @@ fn use_freedoms(edition: Edition, before: &[u8], frame: &mut [u8]) {
             frame[end..extent.end].fill(GARBAGE);
         }
     }
-}
-
-/// Lets the Prefixes of a shared beginning that was cut have their parts the other
-/// way round.
-fn after_a_cut(edition: Edition, before: &[u8], frame: &mut [u8], key: &[u8]) {
-    let Some(Step { kind: Kind::Prefix, slot, link, .. }) = end_of_way(edition, before, key) else {
-        return;
-    };
-    let steps = store::walk(frame, &edition.walked(key));
-    let node = steps[steps.len() - 2].slot;
-    let bodies = turn_bodies(edition, before, frame, store::chain(before, slot).slots, link);
-    let turned =
-        |slot: usize| bodies.iter().find(|(was, _)| *was == slot).map_or(slot, |two| two.1);
-    let parts: Vec<(u8, usize)> =
-        children(frame, node).into_iter().map(|(byte, child)| (byte, turned(child))).collect();
-    store::write_inner(frame, node, &parts);
-}
-
-/// The same of those that were joined. In edition 1 the upper one stays.
-fn after_a_join(edition: Edition, before: &[u8], frame: &mut [u8], key: &[u8]) {
-    let steps = store::walk(before, &edition.walked(key));
-    let [above @ .., node, leaf] = &steps[..] else {
-        return;
-    };
-    let left: Vec<(u8, usize)> =
-        children(before, node.slot).into_iter().filter(|child| child.1 != leaf.slot).collect();
-    let upper = above.last().filter(|step| step.kind == Kind::Prefix);
-    if let ([(_, child)], Edition::Two) = (&left[..], edition) {
-        let lower = store::chain(before, *child).slots;
-        let bodies = upper.map(|step| step.slot).into_iter().chain(lower).collect();
-        turn_bodies(edition, before, frame, bodies, upper.unwrap_or(node).link);
-    }
-}
-
-/// Exchanges what the bodies of a shared beginning hold, those that were there and
-/// those that were taken: the first has what the last had. Gives each with the one
-/// that stands in its place; what names the first is set, the nodes between are not.
-fn turn_bodies(
-    edition: Edition,
-    before: &[u8],
-    frame: &mut [u8],
-    there: Vec<usize>,
-    link: Link,
-) -> Vec<(usize, usize)> {
-    let was = check::read(edition, before).expect("the lengths agree");
-    let is = check::read(edition, frame).expect("the lengths agree");
-    let prefixes = is.live.iter().filter(|(_, kind)| **kind == Kind::Prefix);
-    let slots: Vec<usize> = prefixes
-        .map(|(slot, _)| *slot)
-        .filter(|slot| there.contains(slot) || was.live.get(slot) != Some(&Kind::Prefix))
-        .collect();
-    let bodies: Vec<(usize, usize)> =
-        slots.iter().copied().zip(slots.iter().rev().copied()).collect();
-    let turned =
-        |slot: usize| bodies.iter().find(|(was, _)| *was == slot).map_or(slot, |two| two.1);
-    let held: Vec<(Vec<u8>, usize)> = slots
-        .iter()
-        .map(|slot| (store::prefix_bytes(frame, *slot), store::prefix_child(frame, *slot)))
-        .collect();
-    for (slot, (bytes, child)) in slots.iter().zip(held) {
-        store::write_prefix(frame, turned(*slot), &bytes, turned(child));
-    }
-    let first = store::linked(frame, link);
-    set_link(frame, link, turned(first));
-    bodies
 }

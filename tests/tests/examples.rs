@@ -60,12 +60,23 @@ fn scratch(name: &str) -> PathBuf {
     Path::new(env!("CARGO_TARGET_TMPDIR")).join(name)
 }
 
+/// An example, and the file beside it that has what it writes.
+fn writes_what_is_stored(example: &str, stored: &str) {
+    let ran = Command::new(built(example)).output().expect("the example starts");
+    assert!(ran.status.success(), "{}", told(&ran));
+    let stored = root().join("examples/c").join(stored);
+    let stored = fs::read_to_string(stored).expect("what it writes is stored");
+    assert_eq!(String::from_utf8_lossy(&ran.stdout), stored);
+}
+
 #[test]
 fn the_example_writes_what_is_stored() {
-    let ran = Command::new(built("example")).output().expect("the example starts");
-    assert!(ran.status.success(), "{}", told(&ran));
-    let stored = fs::read_to_string(root().join("examples/c/stdout")).expect("stdout is stored");
-    assert_eq!(String::from_utf8_lossy(&ran.stdout), stored);
+    writes_what_is_stored("example", "stdout");
+}
+
+#[test]
+fn the_example_of_edition_2_writes_what_is_stored() {
+    writes_what_is_stored("bridge", "bridge.stdout");
 }
 
 /// The words of a line of a pkg-config file, with the variables of the file

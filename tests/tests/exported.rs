@@ -5,6 +5,7 @@ use second_store::bindings::Bindings;
 use second_store::compare::{Calls, Comparer};
 use second_store::exported::Exported;
 use second_store::history;
+use second_store::layout::Edition;
 use second_store::run::{all_stages, Effort};
 
 fn all_stages_agree(calls: &dyn Calls) {
@@ -16,17 +17,30 @@ fn all_stages_agree(calls: &dyn Calls) {
 
 #[test]
 fn exported_calls_agree() {
-    all_stages_agree(&Exported);
+    all_stages_agree(&Exported(Edition::One));
+}
+
+#[test]
+fn exported_calls_of_edition_2_agree() {
+    all_stages_agree(&Exported(Edition::Two));
 }
 
 #[test]
 fn bindings_agree() {
-    all_stages_agree(&Bindings);
+    all_stages_agree(&Bindings(Edition::One));
+}
+
+#[test]
+fn bindings_of_edition_2_agree() {
+    all_stages_agree(&Bindings(Edition::Two));
 }
 
 #[test]
 fn exported_check_agrees_on_single_bytes() {
-    let frames = history::small_frames(Exported.edition());
-    let mut comparer = Comparer::new(&Exported);
-    history::single_bytes(&mut comparer, &frames).unwrap_or_else(|told| panic!("{told}"));
+    for edition in Edition::ALL {
+        let calls = Exported(edition);
+        let mut comparer = Comparer::new(&calls);
+        let frames = history::small_frames(edition);
+        history::single_bytes(&mut comparer, &frames).unwrap_or_else(|told| panic!("{told}"));
+    }
 }

@@ -13,6 +13,9 @@ use second_store::slotless::bodies;
 
 type Setting = (Vec<u8>, Vec<u8>);
 
+/// The figures are those of edition 1.
+const EDITION: Edition = Edition::One;
+const EXPORTED: Exported = Exported(EDITION);
 const SEED: u64 = 1;
 const LONGEST_VALUE: usize = 16;
 const NET: [&str; 10] = [
@@ -60,16 +63,16 @@ fn value(random: &mut Random) -> Vec<u8> {
 
 fn frame_of(f: usize, n: usize, settings: &[Setting]) -> Vec<u8> {
     let mut frame = vec![0; f];
-    assert_eq!(Exported.format(&mut frame, f, n), DONE);
+    assert_eq!(EXPORTED.format(&mut frame, f, n), DONE);
     for (key, value) in settings {
-        assert_eq!(Exported.put(&mut frame, key, value), DONE);
+        assert_eq!(EXPORTED.put(&mut frame, key, value), DONE);
     }
     frame
 }
 
 fn packed(frame: &[u8]) -> Vec<u8> {
     let mut image = vec![0; frame.len()];
-    assert_eq!(Exported.pack(frame, &mut image), DONE);
+    assert_eq!(EXPORTED.pack(frame, &mut image), DONE);
     image
 }
 
@@ -108,11 +111,11 @@ fn frames_for_dotted_settings() {
         for turn in 0..count * CHANGES {
             let (key, _) = &all[turn % count];
             let value = value(&mut random);
-            let mut given = Exported.replace(&mut frame, key, &value);
+            let mut given = EXPORTED.replace(&mut frame, key, &value);
             if given == NO_ROOM {
                 frame = packed(&frame);
                 packings += 1;
-                given = Exported.replace(&mut frame, key, &value);
+                given = EXPORTED.replace(&mut frame, key, &value);
             }
             assert_eq!(given, REPLACED, "{count} settings, change {turn}");
         }
@@ -124,8 +127,8 @@ fn frames_for_dotted_settings() {
 #[test]
 fn bodies_of_500_settings() {
     let image = packed(&frame_of(65_536, 1_500, &settings()));
-    let reading = read(Edition::One, &image).expect("the lengths agree");
-    let state = decode::state(Edition::One, &image, &reading);
+    let reading = read(EDITION, &image).expect("the lengths agree");
+    let state = decode::state(EDITION, &image, &reading);
     let counts = bodies(&state.tree);
     let of = |kind: Kind| (counts[kind.number()], counts[kind.number()] * kind.body_bytes());
     assert_eq!(of(Kind::Leaf), (500, 8_000));
@@ -173,7 +176,7 @@ fn the_check_does_not_notice_every_damage() {
         for bit in 0..8 {
             damaged[at] ^= 1 << bit;
             // Two good frames of one F and N pack alike only with the same records.
-            match Exported.check(&damaged) {
+            match EXPORTED.check(&damaged) {
                 DONE if packed(&damaged) == image => without_effect += 1,
                 DONE => other_records += 1,
                 _ => noticed += 1,
@@ -190,9 +193,9 @@ fn the_check_does_not_notice_every_damage() {
 #[test]
 fn blank_bytes_are_answered_1() {
     for blank in [0, 0xFF] {
-        assert_eq!(Exported.check(&[blank; 2_048]), number::LENGTHS);
+        assert_eq!(EXPORTED.check(&[blank; 2_048]), number::LENGTHS);
     }
     let mut frame = frame_of(2_048, 64, &settings()[..5]);
     frame[5] ^= 1;
-    assert_eq!(Exported.check(&frame), number::LENGTHS);
+    assert_eq!(EXPORTED.check(&frame), number::LENGTHS);
 }

@@ -22,6 +22,7 @@ const STORED: [(&str, &str); 2] = [
 const PROGRAM_VARIABLE: &str = "FRAME_SESSION";
 /// The program is one of edition 1.
 const SECOND: Second = Second(Edition::One);
+const EXPORTED: Exported = Exported(Edition::One);
 const SCRIPTS: u64 = 60;
 
 fn root() -> PathBuf {
@@ -55,7 +56,7 @@ fn assert_same(found: &[u8], expected: &[u8], of: &str) {
 fn the_printed_example_is_answered_as_printed() {
     let input = b"f 1024 8\np a 1\np b 2\ng a\ne c\nk\n";
     let printed = b"frame session 1\n0\n0\n0\n0 1\n8\n0 3 168 2\n";
-    for calls in [&SECOND as &dyn Calls, &Exported] {
+    for calls in [&SECOND as &dyn Calls, &EXPORTED] {
         assert_same(&output(calls, input), printed, "the example of document 01");
     }
     let (stdin, stdout) = STORED[0];
@@ -70,7 +71,7 @@ fn stored_scripts_are_answered_as_stored() {
     let mut random = Random::new(seed);
     for (stdin, stdout) in STORED {
         let (input, expected) = (stored(stdin), stored(stdout));
-        for calls in [&SECOND as &dyn Calls, &Exported] {
+        for calls in [&SECOND as &dyn Calls, &EXPORTED] {
             assert_same(&output(calls, &input), &expected, stdin);
         }
         assert_same(&run(&program, &input, &mut random), &expected, stdin);

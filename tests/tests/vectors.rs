@@ -1,13 +1,15 @@
 //! W1 to W11, the lengths and children that document 01 lists under "Run and
-//! compared", and puts, replacements, listings, batches and wiped bytes of
-//! document 02, told step by step: the number given and U, B, R and X after it,
+//! compared", and puts, replacements, listings, batches, wiped bytes, chains and
+//! bytes 0 of document 02, told step by step: the number given and U, B, R and X after it,
 //! or what is listed. The exported calls and the second store are held to the
 //! stored lines, and these to the figures that document 01 prints.
 
 use second_store::batch::laid;
 use second_store::compare::{Calls, Second};
 use second_store::exported::Exported;
-use second_store::layout::{get16, get32, get_entry, Edition, AT_B, AT_R, AT_ROOT, AT_U, AT_X};
+use second_store::layout::{
+    get16, get32, get_entry, Edition, Kind, AT_B, AT_R, AT_ROOT, AT_U, AT_X, LISTS,
+};
 use second_store::names::{Asked, Page};
 use second_store::store::Found;
 use second_store::trees::Change;
@@ -62,6 +64,24 @@ const TOLD_BY_Q3: [&str; 6] = [
     "  of hunter2! 0, of nobody 0",
     "Q-3 nothing left: check 0, pack 0, pack by the old rule 0",
     "Q-3 a byte left: check 2, pack 2, pack by the old rule 0",
+];
+
+/// And of chains, worked by hand.
+const TOLD_BY_Q7: [&str; 13] = [
+    "Q-7 put 199 k and 1: 0 U 2 B 360 R 1 X 0 ",
+    "Q-7 put 199 k and 2: 0 U 6 B 864 R 2 X 0 freed Prefixes 0",
+    "Q-7 erase 199 k and 1: 0 U 6 B 864 R 1 X 208 freed Prefixes 2",
+    "Q-7 put 112 k and x: 0 U 8 B 1024 R 3 X 0 freed Prefixes 0",
+    "Q-7 225 bytes, cut at 0: 0 ",
+    // EmptyRoot, two Leaves, a Node4 and three Prefixes; a Leaf and a Node4 more
+    "  put two: 0 U 7 ",
+    "  cut: 0 U 9 ",
+    "Q-7 put 255 bytes 0: 0 ",
+    "Q-7 put 256 bytes 0: 3 ",
+    "Q-1 list '\\x00' after none by \\x00 in 60: 0 ",
+    "Q-7 put 2 bytes 0: 0 ",
+    "Q-7 erase 255 bytes 0: 0 ",
+    "Q-7 put 1 bytes 0: 0 U 2 ",
 ];
 
 /// Children and the kind they are kept in, on the way up and down.
@@ -311,7 +331,81 @@ impl Told<'_> {
     }
 }
 
-fn told(calls: &dyn Calls) -> String {
+/// Q-7.
+impl Told<'_> {
+    /// The number of a put in edition 2, the counts, and the freed Prefixes.
+    fn chained(&mut self, step: &str, frame: &mut [u8], key: &[u8]) {
+        let given = self.calls.put(frame, key, b"v");
+        self.text += step;
+        self.counts(given, frame);
+        self.prefixes(frame);
+    }
+
+    fn unchained(&mut self, step: &str, frame: &mut [u8], key: &[u8]) {
+        let given = self.calls.erase(frame, key);
+        self.text += step;
+        self.counts(given, frame);
+        self.prefixes(frame);
+    }
+
+    fn prefixes(&mut self, frame: &[u8]) {
+        let (_, told) = self.calls.info(frame);
+        let freed = told[told.len() - LISTS + Kind::Prefix.number() - 1];
+        writeln!(self.text, " freed Prefixes {freed}").expect("a text takes more");
+    }
+
+    fn chains(&mut self) {
+        let with = |shared: usize, last: &[u8]| [&[b'k'; 254][..shared], last].concat();
+        let mut frame = self.format("Q-7 format", (4_096, 16));
+        self.chained("Q-7 put 199 k and 1", &mut frame, &with(199, b"1"));
+        self.chained("Q-7 put 199 k and 2", &mut frame, &with(199, b"2"));
+        let mut other = frame.clone();
+        self.unchained("Q-7 erase 199 k and 1", &mut other, &with(199, b"1"));
+        self.chained("Q-7 put 112 k and x", &mut frame, &with(112, b"x"));
+        let mut packed = vec![0; frame.len()];
+        let given = self.calls.pack(&frame, &mut packed);
+        self.line("Q-7 pack", given, &packed);
+        for (shared, at) in [(225, 0), (225, 111), (225, 112), (224, 100), (113, 112)] {
+            let mut frame = self.format(&format!("Q-7 {shared} bytes, cut at {at}"), (4_096, 16));
+            self.chained("  put one", &mut frame, &with(shared, b"1"));
+            self.chained("  put two", &mut frame, &with(shared, b"2"));
+            self.chained("  cut", &mut frame, &with(at, b"-"));
+            self.look_up(&frame, &with(shared, b"1"), b"v");
+            self.unchained("  joined again", &mut frame, &with(at, b"-"));
+        }
+    }
+
+    fn zeros(&mut self) {
+        let zeros = [0; 256];
+        let mut frame = self.format("Q-7 format for bytes 0", WIDE);
+        for length in [1, 2, 255, 254, 256, 56, 57, 112, 113] {
+            self.chained(&format!("Q-7 put {length} bytes 0"), &mut frame, &zeros[..length]);
+            self.look_up(&frame, &zeros[..length], b"v");
+        }
+        let asked: [Listing; 4] = [
+            (b"", None, None, 60),
+            (&zeros[..2], Some(&zeros[..2]), None, 300),
+            (b"\0", None, Some(0), 60),
+            (&zeros, None, None, 60),
+        ];
+        for (prefix, start, delimiter, room) in asked {
+            self.list(&frame, Asked { prefix, start, delimiter }, room);
+        }
+        for length in [2, 254, 56, 1, 255] {
+            self.unchained(&format!("Q-7 erase {length} bytes 0"), &mut frame, &zeros[..length]);
+        }
+    }
+}
+
+/// The calls of edition 1, and those of edition 2.
+fn told(calls: &dyn Calls, second: &dyn Calls) -> String {
+    let mut of_two = Told { calls: second, text: String::new() };
+    of_two.chains();
+    of_two.zeros();
+    told_of_one(calls) + &of_two.text
+}
+
+fn told_of_one(calls: &dyn Calls) -> String {
     let mut told = Told { calls, text: String::new() };
     told.worked();
     told.lengths();
@@ -326,7 +420,7 @@ fn told(calls: &dyn Calls) -> String {
 #[test]
 fn the_stored_lines_have_the_printed_figures() {
     let lines: Vec<&str> = STORED.lines().collect();
-    for printed in PRINTED.into_iter().chain(TOLD_BY_Q5).chain(TOLD_BY_Q3) {
+    for printed in PRINTED.into_iter().chain(TOLD_BY_Q5).chain(TOLD_BY_Q3).chain(TOLD_BY_Q7) {
         assert!(lines.iter().any(|line| line.starts_with(printed)), "no line {printed}");
     }
     let top = lines.iter().position(|line| line.starts_with("children 49: "));
@@ -346,10 +440,13 @@ fn the_stored_lines_have_the_printed_figures() {
 
 #[test]
 fn the_calls_give_the_stored_lines() {
-    let second = Second(Edition::One);
-    let stores: [(&str, &dyn Calls); 2] = [("the second store", &second), ("exported", &Exported)];
-    for (of, calls) in stores {
-        let told = told(calls);
+    let (second, exported) = (Edition::ALL.map(Second), Edition::ALL.map(Exported));
+    let stores: [(&str, [&dyn Calls; 2]); 2] = [
+        ("the second store", [&second[0], &second[1]]),
+        ("exported", [&exported[0], &exported[1]]),
+    ];
+    for (of, [one, two]) in stores {
+        let told = told(one, two);
         for (at, (told, stored)) in told.lines().zip(STORED.lines()).enumerate() {
             assert_eq!(told, stored, "{of}: line {at}");
         }

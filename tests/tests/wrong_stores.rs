@@ -47,7 +47,7 @@ fn wrong_look_ups_are_caught() {
 
 #[test]
 fn wrong_puts_are_caught() {
-    all_caught(wrong::puts, 25);
+    all_caught(wrong::puts, 26);
 }
 
 #[test]
@@ -57,7 +57,7 @@ fn wrong_replacements_are_caught() {
 
 #[test]
 fn wrong_erases_are_caught() {
-    all_caught(wrong::erases, 10);
+    all_caught(wrong::erases, 11);
 }
 
 #[test]

@@ -13,7 +13,7 @@ const REPLACE: u16 = 2;
 const ERASE: u16 = 3;
 
 /// A batch in lent bytes: the count and the offset of each change, then the changes. Made by [`Batch::new`], applied by
-/// [`Frame::apply`](crate::Frame::apply).
+/// [`FrameOf::apply`](crate::FrameOf::apply) to a frame of either edition.
 #[derive(Debug)]
 pub struct Batch<'b> {
     bytes: &'b mut [u8],

@@ -1,8 +1,9 @@
 //! A settings store in one lent frame of bytes: named records that are put, replaced, looked up, erased and packed by proved calls.
 //!
 //! A frame has F bytes, a multiple of 8 from 1,024 to 524,288, and N slots, an even number from 8 to 10,240; 64 + 4 N + 8 is at
-//! most F. A key has 1 to 112 bytes, none of them 0. A value has 0 to 65,535 bytes. Nothing is allocated, and everything that is
-//! kept stands in the frame: store its bytes anywhere, and [`Frame::open`] them again later.
+//! most F. A value has 0 to 65,535 bytes. A key has 1 to 112 bytes, none of them 0, in a [`Frame`], which is one of edition 1; in a
+//! [`Frame2`], of edition 2, it has 1 to 255 bytes of any kind. Nothing is allocated, and everything that is kept stands in the frame:
+//! store its bytes anywhere, and [`Frame::open`](FrameOf::open) them again later.
 //!
 //! ```
 //! use frame_store::{Erase, Frame, Put, Refusal, Replace};
@@ -18,6 +19,29 @@
 //! # Ok::<(), Refusal>(())
 //! ```
 //!
+//! Edition 2 is for keys that are no text, or long: the same calls, and frames that are not mixed up with those of edition 1, which
+//! refuse them ([`Refusal::Frame`]).
+//!
+//! ```
+//! use frame_store::{Frame, Frame2, Put, Refusal};
+//!
+//! let mut bridge = Frame2::format([0; 1024], 8)?;
+//! let address = [0x00, 0x1A, 0x2B, 0x00, 0x00, 0x01];
+//! assert_eq!(bridge.put(&address, b"port 3")?, Put::New);
+//! assert_eq!(bridge.look_up(&address)?, Some(&b"port 3"[..]));
+//! assert_eq!(Frame::open(bridge.into_bytes()).err(), Some(Refusal::Frame));
+//! # Ok::<(), Refusal>(())
+//! ```
+//!
+//! No call takes a frame of the other edition:
+//!
+//! ```compile_fail
+//! use frame_store::{Frame, Frame2};
+//!
+//! let mut settings: Frame<[u8; 1024]> = Frame::format([0; 1024], 8).unwrap();
+//! settings = Frame2::format([0; 1024], 8).unwrap();
+//! ```
+//!
 //! A frame stands in anything that lends bytes: an array, a `Vec`, a box, a slice borrowed from elsewhere. Any bytes may be lent:
 //! each call checks the whole frame first, and one that is not good is refused. A refused call has changed nothing. That lent
 //! bytes do not overlap, which the calls ask of a C program, follows here from Rust's borrows.
@@ -26,20 +50,36 @@
 //! frame with other records. Keep a checksum beside stored bytes; the example `settings_file` does.
 //!
 //! What is erased or replaced is overwritten with zero, and a good frame has zero wherever nothing is stored. A frame from before that
-//! was so is refused with [`Refusal::Frame`] by all but [`View::pack_before`], which packs it once.
+//! was so is refused with [`Refusal::Frame`] by all but [`View::pack_before`](ViewOf::pack_before), which packs it once.
 #![no_std]
 #![warn(missing_docs)]
 #![deny(unsafe_code)]
 
 mod batch;
 mod calls;
+mod edition;
 mod names;
 
 pub use batch::{Batch, Full, Stopped};
-pub use names::{Entries, Entry, Names, Page};
+pub use edition::{Edition, Edition1, Edition2};
+pub use names::{Entries, Entry, NamesOf, Page};
 
 use core::fmt;
+use core::marker::PhantomData;
 use core::ops::Range;
+
+/// A frame of edition 1, to read and to change: keys of 1 to 112 bytes, none of them 0.
+pub type Frame<B> = FrameOf<Edition1, B>;
+/// A frame of edition 2: keys of 1 to 255 bytes of any kind.
+pub type Frame2<B> = FrameOf<Edition2, B>;
+/// A frame of edition 1 in borrowed bytes, to read.
+pub type View<'a> = ViewOf<'a, Edition1>;
+/// A frame of edition 2 in borrowed bytes, to read.
+pub type View2<'a> = ViewOf<'a, Edition2>;
+/// The names of a frame of edition 1.
+pub type Names<'n> = NamesOf<'n, Edition1>;
+/// The names of a frame of edition 2.
+pub type Names2<'n> = NamesOf<'n, Edition2>;
 
 /// Why a call was refused; nothing was changed then. If several apply, it is the first in the order of this list.
 #[derive(Clone, Copy, PartialEq, Eq, Hash, Debug)]
@@ -48,9 +88,9 @@ pub enum Refusal {
     Length,
     /// 2: the bytes are not a good frame.
     Frame,
-    /// 3: the key has no byte, or more than 112; in a listing also: the prefix has more than 112.
+    /// 3: the key has no byte, or more than 112 (in edition 2: 255); in a listing also: the prefix has more than that.
     KeyLength,
-    /// 4: the key holds a byte 0.
+    /// 4: the key holds a byte 0. Edition 2 does not give it.
     KeyZero,
     /// 5: the value has more than 65,535 bytes.
     ValueLength,
@@ -106,7 +146,7 @@ impl fmt::Display for Refusal {
                  and an even number of slots from 8 to 10,240, for each of which 4 bytes are taken"
             }
             Refusal::Frame => "the bytes are not a good frame",
-            Refusal::KeyLength => "the key has no byte, or it or the prefix has more than 112",
+            Refusal::KeyLength => "the key has no byte, or it or the prefix has more than 112, or in edition 2 more than 255",
             Refusal::KeyZero => "the key holds a byte 0",
             Refusal::ValueLength => "the value has more than 65,535 bytes",
             Refusal::Output => "the output, or the second frame, is not as long as the frame",
@@ -190,18 +230,30 @@ impl Info {
         self.bytes - self.bytes_given
     }
 
-    /// The most slots that a call needs: a Leaf's, a node's and a Prefix's.
+    /// The most slots that a call of edition 1 needs: a Leaf's, a node's and a Prefix's.
     pub const MOST_SLOTS: usize = 3;
+    /// The most slots that a call of edition 2 needs: a Leaf's, a node's and those of five Prefixes.
+    pub const MOST_SLOTS_2: usize = 7;
 
-    /// What a call lacked that was refused for room in the frame of these counts. A put needs an extent for the `text` bytes of key and
-    /// value, an erase none (0); no call needs more than three slots, or more bytes than those of an extent, a Leaf, a Prefix and the
-    /// largest node.
+    /// What a call lacked that was refused for room in the frame of edition 1 of these counts. A put needs an extent for the `text` bytes
+    /// of key and value, an erase none (0); no call needs more than three slots, or more bytes than those of an extent, a Leaf, a Prefix
+    /// and the largest node.
     pub fn lacked(&self, text: usize) -> Lack {
+        self.lacked_of(Info::MOST_SLOTS, text)
+    }
+
+    /// The same in a frame of edition 2: no call needs more than seven slots, or more bytes than in edition 1, since five Prefixes have
+    /// fewer than the largest node.
+    pub fn lacked2(&self, text: usize) -> Lack {
+        self.lacked_of(Info::MOST_SLOTS_2, text)
+    }
+
+    fn lacked_of(&self, most_slots: usize, text: usize) -> Lack {
         let most_bytes = text.next_multiple_of(8)
             + Info::BODY_BYTES[LEAF]
             + Info::BODY_BYTES[PREFIX]
             + Info::BODY_BYTES[NODE256];
-        if self.free_slots() >= Info::MOST_SLOTS {
+        if self.free_slots() >= most_slots {
             Lack::Bytes
         } else if self.free_bytes() >= most_bytes {
             Lack::Slots
@@ -237,22 +289,23 @@ fn in_frame(number: u64) -> usize {
     usize::try_from(number).expect("a frame has at most 524,288 bytes")
 }
 
-/// A frame in borrowed bytes, to read.
+/// A frame in borrowed bytes, to read: [`View`] or [`View2`].
 #[derive(Clone, Copy)]
-pub struct View<'a> {
+pub struct ViewOf<'a, E: Edition> {
     bytes: &'a [u8],
+    edition: PhantomData<E>,
 }
 
-impl<'a> View<'a> {
-    /// Takes bytes that are a good frame.
-    pub fn open(bytes: &'a [u8]) -> Result<View<'a>, Refusal> {
-        check(bytes)?;
-        Ok(View::over(bytes))
+impl<'a, E: Edition> ViewOf<'a, E> {
+    /// Takes bytes that are a good frame of this edition.
+    pub fn open(bytes: &'a [u8]) -> Result<Self, Refusal> {
+        checked::<E>(bytes)?;
+        Ok(ViewOf::over(bytes))
     }
 
-    /// Takes any bytes without looking at them: if they are not a good frame, each call says so.
-    pub fn over(bytes: &'a [u8]) -> View<'a> {
-        View { bytes }
+    /// Takes any bytes without looking at them: if they are not a good frame of this edition, each call says so.
+    pub fn over(bytes: &'a [u8]) -> Self {
+        ViewOf { bytes, edition: PhantomData }
     }
 
     /// The value of a key, as a part of the lent bytes.
@@ -262,7 +315,7 @@ impl<'a> View<'a> {
 
     /// Where the value of a key stands, counted from the frame's start.
     pub fn place(self, key: &[u8]) -> Result<Option<Range<usize>>, Refusal> {
-        match calls::look_up(self.bytes, key) {
+        match E::CALLS.look_up(self.bytes, key) {
             (DONE, [place, length, _]) => Ok(Some(in_frame(place)..in_frame(place + length))),
             (ABSENT, _) => Ok(None),
             (refused, _) => Err(Refusal::of_number(refused)),
@@ -270,9 +323,9 @@ impl<'a> View<'a> {
     }
 
     /// How many slots a look-up of this key visits after the check of the frame, the last one included, whether the key is there or
-    /// not: at most the key's length and 2, in every good frame.
+    /// not: at most the key's length and 2, in every good frame of edition 1. In edition 2 it is 3 and each byte of the key, a byte 0 twice.
     pub fn visits(self, key: &[u8]) -> Result<usize, Refusal> {
-        match calls::look_up(self.bytes, key) {
+        match E::CALLS.look_up(self.bytes, key) {
             (DONE | ABSENT, [_, _, slots]) => Ok(in_frame(slots)),
             (refused, _) => Err(Refusal::of_number(refused)),
         }
@@ -280,35 +333,16 @@ impl<'a> View<'a> {
 
     /// Writes the packed image of the records to `out`, which is as long as the frame: one string of bytes for one set of records,
     /// F and N, and itself a good frame with all room that can be had given back.
-    pub fn pack<B: AsMut<[u8]>>(self, mut out: B) -> Result<Frame<B>, Refusal> {
-        match calls::pack(self.bytes, out.as_mut()) {
-            DONE => Ok(Frame { bytes: out }),
-            refused => Err(Refusal::of_number(refused)),
-        }
-    }
-
-    /// The same for a frame from before freed bytes were wiped: every other call refuses one that still holds what was erased. A frame
-    /// that is good now is packed as [`View::pack`] packs it.
-    ///
-    /// ```
-    /// # use frame_store::{check, Frame, Refusal, View};
-    /// # let mut stored = Frame::format([0; 1024], 8)?.into_bytes();
-    /// # stored[1023] = 7;
-    /// assert_eq!(check(&stored), Err(Refusal::Frame));
-    /// let settings = View::over(&stored).pack_before([0; 1024])?;
-    /// assert_eq!(check(settings.bytes()), Ok(()));
-    /// # Ok::<(), Refusal>(())
-    /// ```
-    pub fn pack_before<B: AsMut<[u8]>>(self, mut out: B) -> Result<Frame<B>, Refusal> {
-        match calls::pack_before(self.bytes, out.as_mut()) {
-            DONE => Ok(Frame { bytes: out }),
+    pub fn pack<B: AsMut<[u8]>>(self, mut out: B) -> Result<FrameOf<E, B>, Refusal> {
+        match E::CALLS.pack(self.bytes, out.as_mut()) {
+            DONE => Ok(FrameOf { bytes: out, edition: PhantomData }),
             refused => Err(Refusal::of_number(refused)),
         }
     }
 
     /// How full the frame is.
     pub fn info(self) -> Result<Info, Refusal> {
-        match calls::info(self.bytes) {
+        match E::CALLS.info(self.bytes) {
             (DONE, counts) => {
                 let [bytes, slots, slots_given, bytes_given, records, dead_bytes, freed @ ..] =
                     counts.map(in_frame);
@@ -318,8 +352,8 @@ impl<'a> View<'a> {
         }
     }
 
-    /// One page of names: those that begin with the prefix (0 to 112 bytes) and sort after the start key, in byte order, as many as fit
-    /// the buffer; [`Page::entries`] reads them there. With a delimiter all names that share the text up to and including the first
+    /// One page of names: those that begin with the prefix (of no byte, or as many as a key) and sort after the start key, in byte order, as
+    /// many as fit the buffer; [`Page::entries`] reads them there. With a delimiter all names that share the text up to and including the first
     /// delimiter after the prefix give that text as one entry. The last entry is the start key of the next page.
     pub fn list(
         self,
@@ -328,14 +362,15 @@ impl<'a> View<'a> {
         delimiter: Option<u8>,
         buffer: &mut [u8],
     ) -> Result<Page, Refusal> {
-        match calls::list(self.bytes, prefix, start, delimiter, buffer) {
+        match E::CALLS.list(self.bytes, prefix, start, delimiter, buffer) {
             (DONE, [count, more]) => Ok(Page { count: in_frame(count), more: more != 0 }),
             (refused, _) => Err(Refusal::of_number(refused)),
         }
     }
 
-    /// All names that begin with the prefix, in byte order, a page at a time through the buffer: [`Names::next_entry`] gives them one by
-    /// one. A buffer of 114 bytes is enough for any name; each page costs a check of the frame, so a larger one is quicker.
+    /// All names that begin with the prefix, in byte order, a page at a time through the buffer: [`NamesOf::next_entry`] gives them one by
+    /// one. A buffer of 114 bytes is enough for any name (in edition 2: of 257); each page costs a check of the frame, so a larger one is
+    /// quicker.
     ///
     /// ```
     /// # use frame_store::{Entry, Frame, Refusal};
@@ -355,11 +390,11 @@ impl<'a> View<'a> {
     /// assert_eq!(groups.next_entry()?, None);
     /// # Ok::<(), Refusal>(())
     /// ```
-    pub fn names<'n>(self, prefix: &'n [u8], buffer: &'n mut [u8]) -> Names<'n>
+    pub fn names<'n>(self, prefix: &'n [u8], buffer: &'n mut [u8]) -> NamesOf<'n, E>
     where
         'a: 'n,
     {
-        Names::new(self, prefix, buffer)
+        NamesOf::new(self, prefix, buffer)
     }
 
     /// The frame's bytes, to be stored.
@@ -368,44 +403,68 @@ impl<'a> View<'a> {
     }
 }
 
-impl fmt::Debug for View<'_> {
-    fn fmt(&self, to: &mut fmt::Formatter<'_>) -> fmt::Result {
-        write!(to, "View of {} bytes", self.bytes.len())
+/// What edition 1 alone has.
+impl View<'_> {
+    /// Packs a frame from before freed bytes were wiped: every other call refuses one that still holds what was erased. A frame
+    /// that is good now is packed as [`ViewOf::pack`] packs it. There are no such frames of edition 2.
+    ///
+    /// ```
+    /// # use frame_store::{check, Frame, Refusal, View};
+    /// # let mut stored = Frame::format([0; 1024], 8)?.into_bytes();
+    /// # stored[1023] = 7;
+    /// assert_eq!(check(&stored), Err(Refusal::Frame));
+    /// let settings = View::over(&stored).pack_before([0; 1024])?;
+    /// assert_eq!(check(settings.bytes()), Ok(()));
+    /// # Ok::<(), Refusal>(())
+    /// ```
+    pub fn pack_before<B: AsMut<[u8]>>(self, mut out: B) -> Result<Frame<B>, Refusal> {
+        match calls::pack_before(self.bytes, out.as_mut()) {
+            DONE => Ok(Frame { bytes: out, edition: PhantomData }),
+            refused => Err(Refusal::of_number(refused)),
+        }
     }
 }
 
-/// A frame to read and to change, in whatever lends its bytes: `[u8; F]`, `Vec<u8>`, `Box<[u8]>`, `&mut [u8]`. One that owns them
-/// can be kept and moved.
-#[derive(Clone, Copy)]
-pub struct Frame<B> {
-    bytes: B,
+impl<E: Edition> fmt::Debug for ViewOf<'_, E> {
+    fn fmt(&self, to: &mut fmt::Formatter<'_>) -> fmt::Result {
+        let [_, name] = E::NAMES;
+        write!(to, "{name} of {} bytes", self.bytes.len())
+    }
 }
 
-impl<B: AsRef<[u8]> + AsMut<[u8]>> Frame<B> {
+/// A frame to read and to change, [`Frame`] or [`Frame2`], in whatever lends its bytes: `[u8; F]`, `Vec<u8>`, `Box<[u8]>`, `&mut [u8]`.
+/// One that owns them can be kept and moved.
+#[derive(Clone, Copy)]
+pub struct FrameOf<E: Edition, B> {
+    bytes: B,
+    edition: PhantomData<E>,
+}
+
+impl<E: Edition, B: AsRef<[u8]> + AsMut<[u8]>> FrameOf<E, B> {
     /// Makes an empty frame with this many slots out of all the bytes that are lent.
-    pub fn format(mut bytes: B, slots: usize) -> Result<Frame<B>, Refusal> {
+    pub fn format(mut bytes: B, slots: usize) -> Result<Self, Refusal> {
         let lent = bytes.as_mut();
-        match calls::format(lent, lent.len(), slots) {
-            DONE => Ok(Frame { bytes }),
+        match E::CALLS.format(lent, lent.len(), slots) {
+            DONE => Ok(FrameOf::over(bytes)),
             refused => Err(Refusal::of_number(refused)),
         }
     }
 
-    /// Takes bytes that are a good frame. Others are dropped with a refusal: to keep them, [`check`] them and take them by
-    /// [`Frame::over`].
-    pub fn open(bytes: B) -> Result<Frame<B>, Refusal> {
-        check(bytes.as_ref())?;
-        Ok(Frame::over(bytes))
+    /// Takes bytes that are a good frame of this edition. Others are dropped with a refusal: to keep them, [`check`] them (or
+    /// [`check2`]) and take them by [`FrameOf::over`].
+    pub fn open(bytes: B) -> Result<Self, Refusal> {
+        checked::<E>(bytes.as_ref())?;
+        Ok(FrameOf::over(bytes))
     }
 
-    /// Takes any bytes without looking at them: if they are not a good frame, each call says so.
-    pub fn over(bytes: B) -> Frame<B> {
-        Frame { bytes }
+    /// Takes any bytes without looking at them: if they are not a good frame of this edition, each call says so.
+    pub fn over(bytes: B) -> Self {
+        FrameOf { bytes, edition: PhantomData }
     }
 
-    /// Puts a new record. If the key is there already, nothing is changed: [`Frame::replace`] gives it another value.
+    /// Puts a new record. If the key is there already, nothing is changed: [`FrameOf::replace`] gives it another value.
     pub fn put(&mut self, key: &[u8], value: &[u8]) -> Result<Put, Refusal> {
-        match calls::put(self.bytes.as_mut(), key, value) {
+        match E::CALLS.put(self.bytes.as_mut(), key, value) {
             DONE => Ok(Put::New),
             PRESENT => Ok(Put::Present),
             refused => Err(Refusal::of_number(refused)),
@@ -415,7 +474,7 @@ impl<B: AsRef<[u8]> + AsMut<[u8]>> Frame<B> {
     /// Gives the record with this key another value. If it is of another length, the old one's bytes are zero after it, and not free
     /// before the frame is packed. To set a value whether the key is there or not, put, and replace if it is [`Put::Present`].
     pub fn replace(&mut self, key: &[u8], value: &[u8]) -> Result<Replace, Refusal> {
-        match calls::replace(self.bytes.as_mut(), key, value) {
+        match E::CALLS.replace(self.bytes.as_mut(), key, value) {
             REPLACED => Ok(Replace::Done),
             ABSENT => Ok(Replace::Absent),
             refused => Err(Refusal::of_number(refused)),
@@ -425,7 +484,7 @@ impl<B: AsRef<[u8]> + AsMut<[u8]>> Frame<B> {
     /// Takes a record out, and overwrites with zero what it had. This can be refused for room: a smaller node or a longer prefix may be
     /// needed.
     pub fn erase(&mut self, key: &[u8]) -> Result<Erase, Refusal> {
-        match calls::erase(self.bytes.as_mut(), key) {
+        match E::CALLS.erase(self.bytes.as_mut(), key) {
             DONE => Ok(Erase::Done),
             ABSENT => Ok(Erase::Absent),
             refused => Err(Refusal::of_number(refused)),
@@ -453,7 +512,7 @@ impl<B: AsRef<[u8]> + AsMut<[u8]>> Frame<B> {
         second: &mut [u8],
         answers: &mut [u8],
     ) -> Result<(), Stopped> {
-        match calls::batch(self.bytes.as_mut(), second, batch.as_ref(), answers) {
+        match E::CALLS.batch(self.bytes.as_mut(), second, batch.as_ref(), answers) {
             (DONE, _) => Ok(()),
             (refused, place) => {
                 let change = usize::try_from(place).expect("a batch has at most 2^32 changes");
@@ -463,8 +522,8 @@ impl<B: AsRef<[u8]> + AsMut<[u8]>> Frame<B> {
     }
 
     /// The same frame, to read.
-    pub fn view(&self) -> View<'_> {
-        View::over(self.bytes.as_ref())
+    pub fn view(&self) -> ViewOf<'_, E> {
+        ViewOf::over(self.bytes.as_ref())
     }
 
     /// The value of a key, as a part of the frame.
@@ -477,23 +536,18 @@ impl<B: AsRef<[u8]> + AsMut<[u8]>> Frame<B> {
         self.view().place(key)
     }
 
-    /// How many slots a look-up of this key visits; see [`View::visits`].
+    /// How many slots a look-up of this key visits; see [`ViewOf::visits`].
     pub fn visits(&self, key: &[u8]) -> Result<usize, Refusal> {
         self.view().visits(key)
     }
 
-    /// Writes the packed image of the records to `out`; see [`View::pack`]. This frame stays as it is.
-    pub fn pack<O: AsMut<[u8]>>(&self, out: O) -> Result<Frame<O>, Refusal> {
+    /// Writes the packed image of the records to `out`; see [`ViewOf::pack`]. This frame stays as it is.
+    pub fn pack<O: AsMut<[u8]>>(&self, out: O) -> Result<FrameOf<E, O>, Refusal> {
         self.view().pack(out)
     }
 
-    /// The same for a frame from before freed bytes were wiped; see [`View::pack_before`].
-    pub fn pack_before<O: AsMut<[u8]>>(&self, out: O) -> Result<Frame<O>, Refusal> {
-        self.view().pack_before(out)
-    }
-
-    /// All names that begin with the prefix, in byte order, a page at a time through the buffer; see [`View::names`].
-    pub fn names<'n>(&'n self, prefix: &'n [u8], buffer: &'n mut [u8]) -> Names<'n> {
+    /// All names that begin with the prefix, in byte order, a page at a time through the buffer; see [`ViewOf::names`].
+    pub fn names<'n>(&'n self, prefix: &'n [u8], buffer: &'n mut [u8]) -> NamesOf<'n, E> {
         self.view().names(prefix, buffer)
     }
 
@@ -513,15 +567,33 @@ impl<B: AsRef<[u8]> + AsMut<[u8]>> Frame<B> {
     }
 }
 
-impl<B: AsRef<[u8]>> fmt::Debug for Frame<B> {
-    fn fmt(&self, to: &mut fmt::Formatter<'_>) -> fmt::Result {
-        write!(to, "Frame of {} bytes", self.bytes.as_ref().len())
+/// What edition 1 alone has.
+impl<B: AsRef<[u8]> + AsMut<[u8]>> Frame<B> {
+    /// Packs a frame from before freed bytes were wiped; see [`View::pack_before`](ViewOf::pack_before).
+    pub fn pack_before<O: AsMut<[u8]>>(&self, out: O) -> Result<Frame<O>, Refusal> {
+        self.view().pack_before(out)
     }
 }
 
-/// Whether the bytes are a good frame.
+impl<E: Edition, B: AsRef<[u8]>> fmt::Debug for FrameOf<E, B> {
+    fn fmt(&self, to: &mut fmt::Formatter<'_>) -> fmt::Result {
+        let [name, _] = E::NAMES;
+        write!(to, "{name} of {} bytes", self.bytes.as_ref().len())
+    }
+}
+
+/// Whether the bytes are a good frame of edition 1.
 pub fn check(bytes: &[u8]) -> Result<(), Refusal> {
-    match calls::check(bytes) {
+    checked::<Edition1>(bytes)
+}
+
+/// Whether the bytes are a good frame of edition 2.
+pub fn check2(bytes: &[u8]) -> Result<(), Refusal> {
+    checked::<Edition2>(bytes)
+}
+
+fn checked<E: Edition>(bytes: &[u8]) -> Result<(), Refusal> {
+    match E::CALLS.check(bytes) {
         DONE => Ok(()),
         refused => Err(Refusal::of_number(refused)),
     }

@@ -1,9 +1,9 @@
 //! Names in order: a page in a lent buffer read entry by entry, and all pages one after the other. Nothing is allocated.
 
-use crate::{Refusal, View};
+use crate::{Edition, Edition2, Refusal, ViewOf};
 
-/// The longest name, and the longest text of a group.
-const LONGEST: usize = 112;
+/// The longest name, and the longest text of a group, of the edition that has longer ones.
+const LONGEST: usize = Edition2::LONGEST_KEY;
 /// The length that stands before an entry.
 const LENGTH_BYTES: usize = 2;
 
@@ -83,10 +83,10 @@ impl<'b> Iterator for Entries<'b> {
 
 impl ExactSizeIterator for Entries<'_> {}
 
-/// All names of a frame with one prefix, in byte order, page after page through one buffer. Made by [`View::names`].
+/// All names of a frame with one prefix, in byte order, page after page through one buffer. Made by [`ViewOf::names`].
 #[derive(Debug)]
-pub struct Names<'n> {
-    view: View<'n>,
+pub struct NamesOf<'n, E: Edition> {
+    view: ViewOf<'n, E>,
     prefix: &'n [u8],
     start: Option<&'n [u8]>,
     delimiter: Option<u8>,
@@ -101,9 +101,13 @@ pub struct Names<'n> {
     last_length: Option<usize>,
 }
 
-impl<'n> Names<'n> {
-    pub(crate) fn new(view: View<'n>, prefix: &'n [u8], buffer: &'n mut [u8]) -> Names<'n> {
-        Names {
+impl<'n, E: Edition> NamesOf<'n, E> {
+    pub(crate) fn new(
+        view: ViewOf<'n, E>,
+        prefix: &'n [u8],
+        buffer: &'n mut [u8],
+    ) -> NamesOf<'n, E> {
+        NamesOf {
             view,
             prefix,
             start: None,
@@ -118,13 +122,13 @@ impl<'n> Names<'n> {
     }
 
     /// Only what sorts after this key, which need not be there.
-    pub fn after(mut self, start: &'n [u8]) -> Names<'n> {
+    pub fn after(mut self, start: &'n [u8]) -> NamesOf<'n, E> {
         self.start = Some(start);
         self
     }
 
     /// Names that share the text up to and including the first delimiter after the prefix are one entry.
-    pub fn grouped(mut self, delimiter: u8) -> Names<'n> {
+    pub fn grouped(mut self, delimiter: u8) -> NamesOf<'n, E> {
         self.delimiter = Some(delimiter);
         self
     }

@@ -2,7 +2,8 @@
 #![forbid(unsafe_code)]
 
 use frame_store::{
-    check, Batch, Entry, Erase, Frame, Full, Info, Lack, Page, Put, Refusal, Replace, Stopped, View,
+    check, check2, Batch, Edition, Edition1, Edition2, Entry, Erase, Frame, Frame2, Full, Info,
+    Lack, Page, Put, Refusal, Replace, Stopped, View, View2,
 };
 
 const F: usize = 1_024;
@@ -401,4 +402,102 @@ fn every_refusal_has_its_number_and_words() {
         assert_eq!(refusal.number(), number);
         assert!(!refusal.to_string().is_empty());
     }
+}
+
+/// Keys that edition 1 refuses: with bytes 0, and of more than 112 bytes.
+const ADDRESSES: [&[u8]; 4] = [b"\0", b"\0\0", b"\0\xff", b"\0\x1a\x2b\0\0\x01"];
+
+#[test]
+fn keys_of_edition_2() -> Result<(), Refusal> {
+    let mut frame = Frame2::format([0; 4 * F], 64)?;
+    for key in ADDRESSES.iter().rev() {
+        assert_eq!(frame.put(key, key)?, Put::New);
+        assert_eq!(frame.put(key, b"another")?, Put::Present);
+        assert_eq!(Frame::format([0; F], N)?.put(key, b""), Err(Refusal::KeyZero));
+    }
+    let long = [b'n'; Edition2::LONGEST_KEY + 1];
+    for length in [Edition1::LONGEST_KEY + 1, Edition2::LONGEST_KEY] {
+        assert_eq!(frame.put(&long[..length], b"long")?, Put::New);
+        assert_eq!(frame.look_up(&long[..length])?, Some(&b"long"[..]));
+        assert_eq!(Frame::format([0; F], N)?.put(&long[..length], b""), Err(Refusal::KeyLength));
+    }
+    assert_eq!(frame.put(&long, b""), Err(Refusal::KeyLength));
+    assert_eq!(frame.put(b"", b""), Err(Refusal::KeyLength));
+    assert_eq!(frame.view().list(&long, None, None, &mut []), Err(Refusal::KeyLength));
+    for key in ADDRESSES {
+        assert_eq!(frame.look_up(key)?, Some(key));
+    }
+    assert_eq!(frame.look_up(b"\0\0\0")?, None);
+    let mut buffer = [0; 2 + Edition2::LONGEST_KEY];
+    let mut names = frame.names(b"\0", &mut buffer);
+    for key in ADDRESSES {
+        if key != b"\0\xff" {
+            assert_eq!(names.next_entry()?, Some(Entry::Name(key)));
+        }
+    }
+    assert_eq!(names.next_entry()?, Some(Entry::Name(b"\0\xff")), "255 sorts last");
+    assert_eq!(names.next_entry()?, None);
+    let mut groups = frame.names(b"", &mut buffer).grouped(0);
+    assert_eq!(groups.next_entry()?, Some(Entry::Group(b"\0")));
+    assert_eq!(groups.next_entry()?, Some(Entry::Name(&long[..113])));
+    assert_eq!(groups.next_entry()?, Some(Entry::Name(&long[..255])), "over three pages");
+    assert_eq!(groups.next_entry()?, None);
+    for key in ADDRESSES {
+        assert_eq!(frame.replace(key, b"")?, Replace::Done);
+        assert_eq!(frame.erase(key)?, Erase::Done);
+        assert_eq!(frame.erase(key)?, Erase::Absent);
+    }
+    Ok(())
+}
+
+#[test]
+fn a_frame_of_one_edition_is_none_of_the_other() -> Result<(), Refusal> {
+    let one = Frame::format([0; F], N)?.into_bytes();
+    let two = Frame2::format([0; F], N)?.into_bytes();
+    assert_eq!((check(&one), check2(&two)), (Ok(()), Ok(())));
+    assert_eq!((check2(&one), check(&two)), (Err(Refusal::Frame), Err(Refusal::Frame)));
+    assert_eq!(View::open(&two).err(), Some(Refusal::Frame));
+    assert_eq!(View2::open(&one).err(), Some(Refusal::Frame));
+    assert_eq!(Frame2::open(one).err(), Some(Refusal::Frame));
+    assert_eq!(Frame2::over(one).put(b"a", b"1"), Err(Refusal::Frame));
+    assert_eq!(View2::over(&one).look_up(b"a"), Err(Refusal::Frame));
+    assert_eq!(View::over(&two).pack_before([0; F]).err(), Some(Refusal::Frame));
+    let frame = Frame2::open(two)?;
+    assert_eq!(
+        format!("{frame:?}, {:?}", frame.view()),
+        "Frame2 of 1024 bytes, View2 of 1024 bytes"
+    );
+    Ok(())
+}
+
+#[test]
+fn a_batch_is_applied_to_either_edition() -> Result<(), Full> {
+    let (mut lent, mut second, mut answers) = ([0; 64], [0; F], [0xEE; 2]);
+    let mut batch = Batch::new(&mut lent, 2)?;
+    batch.put(b"a", b"1")?;
+    batch.put(b"a\0", b"2")?;
+    let mut one = Frame::format([0; F], N).expect("F and N are within the limits");
+    let refused = Stopped { change: 2, refusal: Refusal::KeyZero };
+    assert_eq!(one.apply(&batch, &mut second, &mut answers), Err(refused));
+    let mut two = Frame2::format([0; F], N).expect("F and N are within the limits");
+    assert_eq!(two.apply(&batch, &mut second, &mut answers), Ok(()));
+    assert_eq!((answers, two.look_up(b"a\0")), ([0, 0], Ok(Some(&b"2"[..]))));
+    assert_eq!(two.apply(&batch, &mut second, &mut answers), Ok(()));
+    assert_eq!((answers, two.look_up(b"a")), ([11, 11], Ok(Some(&b"1"[..]))));
+    Ok(())
+}
+
+/// Two keys that share as many bytes as can be take seven slots at once.
+#[test]
+fn what_a_put_of_edition_2_lacks() -> Result<(), Refusal> {
+    let zeros = [0; Edition2::LONGEST_KEY];
+    // The EmptyRoot's slot is freed, and does not serve another kind.
+    for (slots, lacks) in [(8, Some(Lack::Slots)), (10, None)] {
+        let mut frame = Frame2::format([0; 4 * F], slots)?;
+        frame.put(&zeros, b"")?;
+        let given = frame.put(&zeros[1..], b"");
+        let lacked = given.is_err().then_some(frame.info()?.lacked2(zeros.len()));
+        assert_eq!((given.ok(), lacked), (lacks.is_none().then_some(Put::New), lacks));
+    }
+    Ok(())
 }

@@ -1,10 +1,10 @@
 -- A walked string written out in a lent slice, the bytes that a byte of the key becomes there in edition 2, and the string that a descent by
 -- a key reads.
-use Prim.Native.Nat.{ℕ, zero, suc}
+use Prim.Native.Nat.{ℕ, zero, suc, _+_, _<_}
 use mathlib.Core.Path.{_≡_}
 use mathlib.Core.List.{List, [], _∷_, _++_}
 use mathlib.Core.Logic.{_⊎_}
-use lib.ListN.{length, take}
+use lib.ListN.{length, take, getD}
 use Rattle.model.specs.Edition.{Edition}
 
 -- the first n bytes of g are the string w
@@ -16,6 +16,11 @@ pub record Spelt (w g : List ℕ) (n : ℕ) : Type 0 where
 abbrev pub weightOf : ℕ → ℕ
 weightOf zero = 2
 weightOf (suc b) = 1
+
+-- those bytes stand at n of a path, as far as it goes
+pub record ByteFits (b : ℕ) (path : List ℕ) (n : ℕ) : Type 0 where
+  pub first : getD path n 0 ≡ b
+  pub second : b ≡ 0 → n + 1 < length path → getD path (n + 1) 0 ≡ 255
 
 -- w is what a descent by the key k reads: its walked string, or all of that but a last byte 0, which is read behind it
 pub record Spells (E : Edition) (k w : List ℕ) : Type 0 where

@@ -1,12 +1,15 @@
-// Keys and their walked strings in both editions: the refusal that a key gets, its walked string written out, and what two keys share.
+// Keys and their walked strings in both editions: the refusal that a key gets, its walked string written out or compared with a path, and what
+// two keys share.
 use moves::fill;
 ghost use mathlib.Core.Path.{_≡_};
+ghost use mathlib.Core.List.{[]};
 ghost use Prim.Native.Nat.{_+_, _-_, _≤_, _<_};
 ghost use lib.ListN.{length, getD, take, drop};
 ghost use Rattle.pieces.specs.Decides.{Decides};
 ghost use Rattle.model.specs.Strings.{hasZero, shared};
 ghost use Rattle.model.specs.Edition.{edition1, editionOf, escaped};
-ghost use Rattle.keys.specs.Word.{Spelt, weightOf};
+ghost use Rattle.model.specs.Frame.{Begins};
+ghost use Rattle.keys.specs.Word.{Spelt, weightOf, ByteFits};
 
 // the number of edition 2
 pub const SECOND: usize = 2;
@@ -26,6 +29,9 @@ const HOLDS_ZERO: usize = 4;
 
 // what follows a byte 0 of a key in the walked strings of edition 2
 const ESCAPE: u8 = 255;
+
+// the bytes of the end of a walked string in edition 2
+const END: usize = 2;
 
 fn has_zero(key: &[u8]) -> bool
     ensures { λ r. ⌜ r ≡ hasZero (now (key .entry)) ⌝ }
@@ -142,6 +148,92 @@ pub fn matched(p: &[u8], word: &[u8], d: usize) -> usize
         q += 1;
     }
     q
+}
+
+// ---- a path, in edition 2
+
+// The walked bytes of a byte of the key stand at a place of the path, as far as the path goes.
+fn byte_fits(b: u8, path: &[u8], n: usize) -> bool
+    requires { ⌜ n < length (now path) ⌝ }
+    ensures { λ r. ⌜ Decides (ByteFits b (now (path .entry)) n) r ⌝ }
+{
+    if path[n] != b {
+        return false;
+    }
+    if b != 0 {
+        return true;
+    }
+    if n + 1 >= path.len() {
+        return true;
+    }
+    path[n + 1] == ESCAPE
+}
+
+// What is left of the path at a place is not more than the end of a walked string.
+fn ends(path: &[u8], n: usize) -> bool
+    ensures { λ r. ⌜ Decides (Begins (escaped []) (drop n (now (path .entry)))) r ⌝ }
+{
+    if n >= path.len() {
+        return true;
+    }
+    if path.len() - n > END {
+        return false;
+    }
+    pieces::all_zero(path, n, path.len())
+}
+
+// The walked string of a key begins with the path: byte by byte of the key, until the path is used up.
+fn begins_by_byte(key: &[u8], path: &[u8]) -> bool
+    ensures { λ r. ⌜ Decides (Begins (escaped (now (key .entry))) (now (path .entry))) r ⌝ }
+{
+    let mut i = 0;
+    let mut n = 0;
+    while i < key.len() {
+        if n >= path.len() {
+            return true;
+        }
+        let b = key[i];
+        if !byte_fits(b, path, n) {
+            return false;
+        }
+        n += weight(b);
+        i += 1;
+    }
+    ends(path, n)
+}
+
+// How many bytes a string has but for a last byte 0.
+fn but_last_zero(path: &[u8]) -> usize
+    ensures { λ r. ⌜ r ≤ length (now (path .entry)) ⌝ }
+{
+    let n = path.len();
+    if n == 0 {
+        return 0;
+    }
+    if path[n - 1] == 0 {
+        return n - 1;
+    }
+    n
+}
+
+// The walked string of a key begins with the path, whose bytes are compared together if none of them is 0, or only the last.
+pub fn escaped_begins(key: &[u8], path: &[u8]) -> bool
+    ensures { λ r. ⌜ Decides (Begins (escaped (now (key .entry))) (now (path .entry))) r ⌝ }
+{
+    let n = but_last_zero(path);
+    if !pieces::no_zero(path, 0, n) {
+        return begins_by_byte(key, path);
+    }
+    if n > key.len() {
+        return false;
+    }
+    if !pieces::same(key, 0, path, 0, n) {
+        return false;
+    }
+    if n == path.len() {
+        return true;
+    }
+    begins_by_byte(&key[n..], &path[n..])
 }
 
 // ---- two keys

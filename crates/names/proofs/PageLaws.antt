@@ -1,10 +1,11 @@
 -- The first entry of a listing by where its start key stands to the prefix, and a page as it fills: one law for each exit of the code. Assumes nothing.
 use Prim.Native.Nat.{ℕ, _+_, _-_, _<_, _≤_}
 use native.Mathlib.Omega.{arith}
-use mathlib.Core.Path.{_≡_, sym, ap, subst, _∙_}
+use mathlib.Core.Path.{_≡_, refl, sym, ap, subst, _∙_}
 use mathlib.Core.List.{List, [], _∷_, _++_}
 use mathlib.Core.Bool.{Bool, true, false}
 use mathlib.Core.Option.{Option, none, some}
+use mathlib.Core.Logic.{inl, inr}
 use lib.ListN.{length, take, drop, length-append, length-take, length-drop}
 use lib.Seq.{take-all}
 use lib.Dec.{eqb, lit≤}
@@ -20,6 +21,7 @@ use Rattle.listing.specs.Seek.{weigh}
 use Rattle.listing.specs.Bound.{tailUp, tailFor, above}
 use Rattle.listing.proofs.PageLaws.{above-prefix, above-start, below-prefix, above-none, start-all, start-none, Filled, fill-start, fill-long, fill-end, fill-more, fill-ten, fill-one}
 use Rattle.seek.specs.Sub.{Sub}
+use Rattle.seek.specs.Seek.{Tail}
 use Rattle.names.specs.declared.entry.Cut.{Cut}
 use Rattle.names.specs.declared.entry.Entry.{Entry}
 use Rattle.names.specs.Entry.{CutAt, Heads, Next, EntryFrom, StartGood, FirstEntry, PageAt}
@@ -77,19 +79,19 @@ start-short {E} N given s e h = let k : E .keyFault s ≡ 0 = rw e at h in N .mo
 
 -- ---- a page
 
--- the tail of a bound is at most one past a byte
-up-most : (d : Option ℕ) (k : List ℕ) → tailUp d k ≤ 256
-up-most none k = lit≤ tt
-up-most (some c) [] = lit≤ tt
-up-most (some c) (x ∷ k) = bool-cases (eqb x c) (λ t. rw t (lit≤ tt)) (λ t. rw t (up-most (some c) k))
+-- the tail of an entry's bound
+up-tail : (d : Option ℕ) (k : List ℕ) → Tail (tailUp d k)
+up-tail none k = inl (lit≤ tt)
+up-tail (some c) [] = inl (lit≤ tt)
+up-tail (some c) (x ∷ k) = bool-cases (eqb x c) (λ t. rw t (inr refl)) (λ t. rw t (up-tail (some c) k))
 
-pub cut-most : {k : List ℕ} {from : ℕ} {d : Option ℕ} {r : Cut} → CutAt k from d r → r .tail ≤ 256
-cut-most {k} {from} {d} C = rw (C .tail) (up-most d (drop from k))
+pub cut-tail : {k : List ℕ} {from : ℕ} {d : Option ℕ} {r : Cut} → CutAt k from d r → Tail (r .tail)
+cut-tail {k} {from} {d} C = rw (C .tail) (up-tail d (drop from k))
 
-tail-most : (d : Option ℕ) (p k : List ℕ) → tailFor d p k ≤ 256
-tail-most d [] k = up-most d k
-tail-most d (a ∷ p) [] = lit≤ tt
-tail-most d (a ∷ p) (x ∷ k) = tail-most d p k
+own-tail : (d : Option ℕ) (p k : List ℕ) → Tail (tailFor d p k)
+own-tail d [] k = up-tail d k
+own-tail d (a ∷ p) [] = inl (lit≤ tt)
+own-tail d (a ∷ p) (x ∷ k) = own-tail d p k
 
 -- an entry takes more than one byte
 count-laid : (xs : List (List ℕ)) → length xs ≤ length (laid xs)
@@ -141,8 +143,8 @@ module _ {E : Edition} {f : List ℕ} {root : ℕ} {p : List ℕ} {s : Option (L
     pub head-short : e .long ≤ 255
     head-short = let k = P .of .most (head .text) (head .legal .passes) in let l = head-long in omega arith
 
-    pub head-tail : e .tail ≤ 256
-    head-tail = rw (head .tail) (tail-most d p (head .text))
+    pub head-tail : Tail (e .tail)
+    head-tail = rw (head .tail) (own-tail d p (head .text))
 
     pub head-part : (m : ℕ) → m ≡ e .long → take m (drop (e .at) f) ≡ head .text
     head-part m q = ap (λ (n : ℕ). take n (drop (e .at) f)) q ∙ head .is

@@ -12,7 +12,7 @@ ghost use Rattle.model.specs.Image.{digits};
 ghost use Rattle.model.specs.Body.{LeafAt};
 ghost use Rattle.listing.specs.Listing.{begins, delimiterOf};
 ghost use Rattle.seek.specs.Sub.{Sub};
-ghost use Rattle.seek.specs.Seek.{LeafSome};
+ghost use Rattle.seek.specs.Seek.{LeafSome, Tail};
 ghost use Rattle.names.specs.Entry.{CutAt, OfKey, EntryFrom, wordRoom, SpeltBound, chosenOf};
 
 // behind the text of a bound: past the key that is the text, and past all keys that begin with it
@@ -151,7 +151,7 @@ pub fn from_bound(
     word: &mut [u8],
     edition: usize,
 ) -> Entry
-    requires { ⌜ Sub (editionOf edition) (now f) root 0 × (tail ≤ 256) × (length (now text) ≤ 255) × (wordRoom (editionOf edition) ≤ length (now word)) × (length (now word) < 65536) ⌝ }
+    requires { ⌜ Sub (editionOf edition) (now f) root 0 × Tail tail × (length (now text) ≤ 255) × (wordRoom (editionOf edition) ≤ length (now word)) × (length (now word) < 65536) ⌝ }
     ensures { λ r. ⌜ EntryFrom (editionOf edition) (now (f .entry)) root (now (prefix .entry)) (delimiterOf delimiter) (now (text .entry)) tail r ⌝ }
 {
     let n = spelt(text, tail, word, edition);

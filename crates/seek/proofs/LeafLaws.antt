@@ -1,9 +1,10 @@
 -- A Leaf's key against a bound: its bytes decide, or where it ends. Assumes nothing.
-use Prim.Native.Nat.{ℕ, _+_, _<_, _≤_}
+use Prim.Native.Nat.{ℕ, _+_, _*_, _/_, _<_, _≤_}
 use native.Mathlib.Omega.{arith}
 use mathlib.Core.Path.{_≡_, refl, sym, ap, _∙_}
 use mathlib.Core.List.{List, [], _∷_}
 use mathlib.Core.Bool.{true, false}
+use mathlib.Core.Logic.{inl, inr}
 use lib.ListN.{length, take, drop, length-append, List·getD-append}
 use lib.Dec.{leb, ltb, eqb, lit≤}
 use borrow.Author.Tests.{le-leb}
@@ -14,7 +15,7 @@ use Rattle.model.specs.Body.{Text, LeafAt}
 use Rattle.model.proofs.StringLaws.{bool-cases, eqb-cases}
 use Rattle.keys.proofs.KeyLaws.{text-part}
 use Rattle.listing.specs.Seek.{weigh, reach}
-use Rattle.seek.specs.Seek.{behindText}
+use Rattle.seek.specs.Seek.{Tail, behindText}
 
 -- a Leaf's key in its extent
 pub key-there : {f : List ℕ} {o e : ℕ} {k : List ℕ} {v : Value} → LeafAt f o e k v → Text f e k
@@ -29,6 +30,17 @@ pub weigh-most : (g : List ℕ) (t : ℕ) (p : List ℕ) → weigh g t p ≤ 2
 weigh-most g t [] = lit≤ tt
 weigh-most [] t (x ∷ p) = bool-cases (leb t x) (λ e. rw e (lit≤ tt)) (λ e. rw e (lit≤ tt))
 weigh-most (b ∷ g) t (x ∷ p) = let on = weigh-most g t p in bool-cases (ltb b x) (λ e. rw e (lit≤ tt)) (λ e. bool-cases (eqb b x) (λ u. rw (e, u) on) (λ u. rw (e, u) (lit≤ tt)))
+
+-- what stands behind the text, without a test
+pub behind-is : (t : ℕ) → Tail t → t / 256 * 256 ≡ behindText t
+behind-is t (inl h) = eqb-cases t 1
+    (λ e q. rw e (omega arith))
+    (λ e q. rw e (omega arith))
+behind-is t (inr h) = rw h
+
+pub tail-most : (t : ℕ) → Tail t → t ≤ 256
+tail-most t (inl h) = omega arith
+tail-most t (inr h) = omega arith
 
 -- where the bytes of a key decide
 key-decided : (g : List ℕ) (t : ℕ) (k : List ℕ) → (weigh g (behindText t) k ≡ 1 → ⊥) → eqb (weigh g (behindText t) k) 2 ≡ reach g t k

@@ -4,6 +4,7 @@ use mathlib.Core.Path.{_≡_}
 use mathlib.Core.List.{List}
 use mathlib.Core.Bool.{true, false}
 use mathlib.Core.Option.{Option, none}
+use mathlib.Core.Logic.{_⊎_}
 use lib.ListN.{length}
 use lib.Dec.{eqb}
 use Rattle.model.specs.Strings.{pick}
@@ -34,6 +35,10 @@ SoughtAt E f g t s r = (path : List ℕ) (l : Lay) → Tree E f path l → slotO
 pub record Guided (E : Edition) (f g w : List ℕ) (t s : ℕ) : Type 0 where
   pub sub : Sub E f s 0
   pub guides : Guides E g t w
+
+-- what may stand behind the text of a bound that is sought: 0, 1 or 256
+abbrev pub Tail : ℕ → Type 0
+Tail t = (t ≤ 1) ⊎ (t ≡ 256)
 
 -- what a byte behind the text is weighed against in a key
 abbrev pub behindText : ℕ → ℕ

@@ -16,7 +16,7 @@ ghost use mathlib.Core.Option.{Option};
 ghost use Rattle.model.specs.Edition.{Edition, SomeEdition, Value};
 ghost use Rattle.model.specs.Body.{LeafAt};
 ghost use Rattle.listing.specs.Seek.{Leafy, weigh, reach};
-ghost use Rattle.seek.specs.Seek.{SoughtAt, Guided, Nearer, Fallback, Falls, LeafSome, Is, behindText};
+ghost use Rattle.seek.specs.Seek.{SoughtAt, Guided, Nearer, Fallback, Falls, LeafSome, Is, Tail, behindText};
 
 // A tree that lies above the bound, and how many bytes lead to it; slot 0 where there is none.
 pub struct Spare {
@@ -37,8 +37,8 @@ const OPEN: usize = 1;
 
 pub const ABOVE: usize = 2;
 
-// the tail of a bound past the key that is its text
-const PAST_KEY: usize = 1;
+// the tail of a bound past all keys that begin with its text
+const PAST_ALL: usize = 256;
 
 // what `next_child` gives for a byte where there is no child
 const NO_BYTE: usize = 256;
@@ -137,17 +137,15 @@ fn fall_back(f: &[u8], spare: Spare) -> Sought
 
 // What stands behind the text for the byte that a longer key has there: past the key that is the text every byte reaches.
 fn behind(tail: usize) -> usize
+    requires { ⌜ Tail tail ⌝ }
     ensures { λ r. ⌜ r ≡ behindText tail ⌝ }
 {
-    if tail == PAST_KEY {
-        return 0;
-    }
-    tail
+    tail / PAST_ALL * PAST_ALL
 }
 
 // The key of the Leaf at a place is at or above the bound.
 fn leaf_reaches(f: &[u8], place: usize, text: &[u8], tail: usize) -> bool
-    requires { ⌜ SomeEdition (λ E. LeafSome E (now f) place) ⌝ }
+    requires { ⌜ SomeEdition (λ E. LeafSome E (now f) place) × Tail tail ⌝ }
     ensures { λ r. ⌜ ((e : ℕ) (k : List ℕ) (v : Value) → LeafAt (now (f .entry)) place e k v → r ≡ reach (now (text .entry)) tail k) ⌝ }
 {
     let from = Leaf::extent(f, place);
@@ -165,7 +163,7 @@ fn leaf_reaches(f: &[u8], place: usize, text: &[u8], tail: usize) -> bool
 // The first Leaf, in byte order, whose key is at or above the bound of `text` and `tail`, of the tree at slot `root`. The way down is weighed against
 // `word`, which guides to that bound in the bytes of walked strings.
 pub fn seek(f: &[u8], root: usize, text: &[u8], word: &[u8], tail: usize) -> Sought
-    requires { ⌜ SomeEdition (λ E. Guided E (now f) (now text) (now word) tail root) × (tail ≤ 256) ⌝ }
+    requires { ⌜ SomeEdition (λ E. Guided E (now f) (now text) (now word) tail root) × Tail tail ⌝ }
     ensures { λ r. ⌜ ((E : Edition) → Guided E (now (f .entry)) (now (text .entry)) (now (word .entry)) tail root → SoughtAt E (now (f .entry)) (now (text .entry)) tail root r) ⌝ }
 {
     let mut s = root;

@@ -10,16 +10,17 @@ use lib.Seq.{getD-take, getD-drop, length-take-le}
 use Rattle.layout.specs.Number.{byteAt, le, Bytes}
 use Rattle.layout.specs.Place.{leafExtent, leafKey, leafValue, leafStamp}
 use Rattle.layout.proofs.NumberLaws.{lt-or-le, le-lt}
-use Rattle.model.specs.Edition.{Edition, edition1, editionOf, Value, textOf}
+use Rattle.model.specs.Edition.{Edition, edition1, edition2, editionOf, Value, textOf}
 use Rattle.model.specs.Tree.{up8}
 use Rattle.model.specs.Body.{LeafAt}
+use Rattle.model.specs.Frame.{Begins}
 use Rattle.model.proofs.Edition1.{positive-at, at-positive, Key1, key-passes, key-taken, walked-at}
 use Rattle.model.proofs.Edition2.{lawfulOf, edition-two}
 use Rattle.model.proofs.StandsGood.{bytes-text}
 use Rattle.pieces.specs.Decides.{Decides}
 use Rattle.pieces.specs.Range.{Clean, Alike}
 use Rattle.keys.specs.Word.{Spelt}
-use Rattle.keys.proofs.KeyLaws.{text-part, of-other}
+use Rattle.keys.proofs.KeyLaws.{text-part, of-two, of-other}
 use Rattle.shape.specs.Shape.{ExtentFits, Ends, Under, LeafHere, LeafTold}
 use Rattle.pieces.proofs.DecideLaws.{clash, handed}
 use Rattle.shape.proofs.BytesLaws as here
@@ -97,36 +98,15 @@ module _ (f : List ℕ) (e k : ℕ) (path : List ℕ) (depth : ℕ) where
         } in
         record { legal = key-taken key K'; begins = at-begins (edition1 .walked key) (take depth path) B }
 
--- ---- the key's walked string, written out
+-- ---- a legal key of edition 2
 
--- it has room
-pub word-fits : (n : ℕ) (key : List ℕ) → Bytes key → editionOf n .keyFault key ≡ 0 → length (editionOf n .walked key) ≤ 512
-word-fits n key B e =
-    let L = lawfulOf n in
-    let o = L .short key (record { passes = e; bytes = bytes-text key 0 key B (λ i l. let z : 0 + i ≡ i = omega arith in rw z) }) in
-    omega (arith, L .fields .words)
+-- the number that it is tested with
+pub fault-two : (key : List ℕ) {r : ℕ} → r ≡ editionOf 2 .keyFault key → r ≡ edition2 .keyFault key
+fault-two key e = rw edition-two at e
 
-module _ {E : Edition} (key word path : List ℕ) (depth n : ℕ) (deep : depth ≤ length path) (S : Spelt (E .walked key) word n) where
-  pub spelt-short : n < depth → Under E (take depth path) key → ⊥
-  spelt-short h U = let B = begins-at (E .walked key) (take depth path) (U .begins) in omega (arith, B .short, S .long, length-take-le depth path deep)
-
-  pub spelt-last : {r : Bool} → depth ≤ n → E .keyFault key ≡ 0 → Decides (Alike word 0 path 0 depth) r → Decides (Under E (take depth path) key) r
-  spelt-last h e D =
-      let w = E .walked key in
-      let long = length-take-le depth path deep in
-      let s = S .long in
-      let W : (i : ℕ) → i < n → getD w i 0 ≡ getD word i 0
-      = λ i l. ap (λ (x : List ℕ). getD x i 0) (sym (S .text)) ∙ getD-take n word i 0 l in
-      handed D
-      (λ A. record {
-        legal = e;
-        begins = at-begins w (take depth path)
-            (record { short = omega arith; same = λ i l. let z : 0 + i ≡ i = omega arith in W i (omega arith) ∙ rw z at (A i (omega arith)) ∙ sym (getD-take depth path i 0 (omega arith)) });
-      })
-      (λ U i l.
-      let z : 0 + i ≡ i = omega arith in
-      let B = begins-at w (take depth path) (U .begins) in
-      rw z (sym (W i (omega arith)) ∙ B .same i (omega arith) ∙ getD-take depth path i 0 l))
+-- its walked string, tested against the path as it is lent
+pub under-legal : {E : Edition} {key : List ℕ} (path : List ℕ) (depth : ℕ) {r : Bool} → E .keyFault key ≡ 0 → Decides (Begins (E .walked key) (take (depth - 0) path)) r → Decides (Under E (take depth path) key) r
+under-legal path depth e D = let z : depth - 0 ≡ depth = omega arith in handed (rw z at D) (λ B. record { legal = e; begins = B }) (λ U. U .begins)
 
 -- a part of a slice is lent from its start on, as many bytes as there are to its end
 pub part-is : (E : Edition) (f : List ℕ) (e k : ℕ) → E .keyFault (take (e + k - e) (drop e f)) ≡ E .keyFault (take k (drop e f))
@@ -135,6 +115,9 @@ part-is E f e k = let z : e + k - e ≡ k = omega arith in rw z
 -- by the edition
 pub under-part : {E : Edition} (f : List ℕ) {path : List ℕ} (e k : ℕ) {r : Bool} → Decides (Under E path (take (e + k - e) (drop e f))) r → Decides (Under E path (take k (drop e f))) r
 under-part f e k D = let z : e + k - e ≡ k = omega arith in rw z at D
+
+pub under-two : (n : ℕ) {path key : List ℕ} {r : Bool} → n ≡ 2 → Decides (Under edition2 path key) r → Decides (Under (editionOf n) path key) r
+under-two n h D = rw (of-two n h) D
 
 pub under-other : (n : ℕ) {path key : List ℕ} {r : Bool} → (n ≡ 2 → ⊥) → Decides (Under edition1 path key) r → Decides (Under (editionOf n) path key) r
 under-other n h D = rw (of-other n h) D
@@ -192,7 +175,7 @@ module _ {E : Edition} (f path : List ℕ) (o d b e k v size : ℕ) (R : LeafRea
       let m = bytes-long f e k in
       let w = bytes-long f (e + k) v in
       let is : take k (drop e f) ≡ key
-      = ap (λ (x : ℕ). take x (drop e f)) (sym m) ∙ text-part f e key (omega (arith, leaf-room R room X)) (here.bytes-text f e k) in
+      = ap (λ (x : ℕ). take x (drop e f)) (sym m) ∙ text-part f e key (omega (arith, leaf-room R room X)) (bytes-text f e k) in
       let at : LeafAt f o e key value
       = record {
         room = let r = R .rounded in let h = X .high in omega arith;

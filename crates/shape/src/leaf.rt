@@ -6,14 +6,11 @@ ghost use lib.ListN.{length, take, drop};
 ghost use Rattle.layout.specs.Number.{le};
 ghost use Rattle.layout.specs.Place.{leafStamp};
 ghost use Rattle.pieces.specs.Decides.{Decides};
-ghost use Rattle.model.specs.Edition.{edition1, editionOf};
+ghost use Rattle.model.specs.Edition.{edition1, edition2, editionOf};
 ghost use Rattle.shape.specs.Shape.{ExtentFits, Ends, Under, LeafTold};
 
 // the most bytes that a key of edition 1 has
 const KEY_MOST: usize = 112;
-
-// the most bytes that a walked string has
-const WORD_MOST: usize = 512;
 
 // The answer, and of a good Leaf where its extent lies and how many bytes it has, rounded up.
 pub struct LeafFound {
@@ -76,20 +73,15 @@ fn plain_good(f: &[u8], e: usize, k: usize, path: &[u8], depth: usize) -> bool
     pieces::no_zero(f, e, e + k)
 }
 
-// The key is a legal one of the edition, and its walked string, written out, begins with the path.
-fn spelt_good(key: &[u8], path: &[u8], depth: usize, edition: usize) -> bool
+// The key is a legal one of edition 2, and its walked string begins with the path.
+fn escaped_good(key: &[u8], path: &[u8], depth: usize) -> bool
     requires { ⌜ depth ≤ length (now path) ⌝ }
-    ensures { λ r. ⌜ Decides (Under (editionOf edition) (take depth (now (path .entry))) (now (key .entry))) r ⌝ }
+    ensures { λ r. ⌜ Decides (Under edition2 (take depth (now (path .entry))) (now (key .entry))) r ⌝ }
 {
-    if keys::fault(key, edition) != 0 {
+    if keys::fault(key, keys::SECOND) != 0 {
         return false;
     }
-    let mut word: [u8; WORD_MOST] = [0; WORD_MOST];
-    let n = keys::walk(key, &mut word, edition);
-    if n < depth {
-        return false;
-    }
-    pieces::same(&word, 0, path, 0, depth)
+    keys::escaped_begins(key, &path[0..depth])
 }
 
 // The k bytes at e are a legal key, and its walked string begins with the path.
@@ -98,7 +90,7 @@ fn key_good(f: &[u8], e: usize, k: usize, path: &[u8], depth: usize, edition: us
     ensures { λ r. ⌜ Decides (Under (editionOf edition) (take depth (now (path .entry))) (take k (drop e (now (f .entry))))) r ⌝ }
 {
     if edition == keys::SECOND {
-        return spelt_good(&f[e..e + k], path, depth, edition);
+        return escaped_good(&f[e..e + k], path, depth);
     }
     plain_good(f, e, k, path, depth)
 }

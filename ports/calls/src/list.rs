@@ -12,7 +12,6 @@ pub struct Bytes {
 
 pub const LONGEST_FRAME: usize = 524_288;
 pub const LONGEST_VALUE: usize = 65_535;
-pub const LONGEST_KEY: usize = 112;
 /// The longest batch of a list.
 pub const LONGEST_BATCH: usize = 4_096;
 /// As many bytes as one line sets.
@@ -41,6 +40,30 @@ const NUMBERS_AT: usize = (END + BESIDE) / 8 * 8;
 
 const DIRT: u8 = 0xA5;
 
+/// Whose calls are made.
+#[derive(Clone, Copy, PartialEq, Eq)]
+pub enum Edition {
+    One = 1,
+    Two = 2,
+}
+
+impl Edition {
+    pub const fn longest_key(self) -> usize {
+        match self {
+            Edition::One => 112,
+            Edition::Two => 255,
+        }
+    }
+
+    /// What the names of its calls begin with.
+    fn prefix(self) -> &'static str {
+        match self {
+            Edition::One => "frame",
+            Edition::Two => "frame2",
+        }
+    }
+}
+
 /// A value by its length and by what its bytes are made from.
 #[derive(Clone, Copy)]
 pub struct Value {
@@ -59,6 +82,7 @@ pub struct Names<'a> {
 /// The list, and the frame that its calls are about.
 pub struct List {
     text: String,
+    edition: Edition,
     frame: Bytes,
     /// How far from a multiple of 8 each lent buffer stands: frame, output, key, value.
     odd: [usize; 4],
@@ -66,7 +90,23 @@ pub struct List {
 
 impl List {
     pub fn new() -> List {
-        List { text: String::new(), frame: Bytes { at: FRAME_AT, length: 0 }, odd: [0; 4] }
+        let frame = Bytes { at: FRAME_AT, length: 0 };
+        List { text: String::new(), edition: Edition::One, frame, odd: [0; 4] }
+    }
+
+    pub fn edition(&self) -> Edition {
+        self.edition
+    }
+
+    /// The calls from here on are those of an edition.
+    pub fn begin(&mut self, edition: Edition) {
+        self.edition = edition;
+    }
+
+    /// A call of the edition, with what is lent to it.
+    fn call(&mut self, call: &str, lent: impl Display) {
+        let prefix = self.edition.prefix();
+        self.line(format_args!("call {prefix}_{call} {lent}"));
     }
 
     pub fn text(self) -> String {
@@ -149,26 +189,26 @@ impl List {
     // One function for each exported call, over any bytes.
 
     pub fn format_of(&mut self, frame: Bytes, f: u64, n: u64) {
-        self.line(format_args!("call frame_format {} ={f} ={n}", List::lent(frame)));
+        self.call("format", format_args!("{} ={f} ={n}", List::lent(frame)));
     }
 
     pub fn check_of(&mut self, frame: Bytes) {
-        self.line(format_args!("call frame_check {}", List::lent(frame)));
+        self.call("check", List::lent(frame));
     }
 
     pub fn look_up_of(&mut self, frame: Bytes, key: &[u8], numbers: usize) {
         let key = self.key(key);
         self.dirty(numbers);
         let (frame, key) = (List::lent(frame), List::lent(key));
-        self.line(format_args!("call frame_look_up {frame} {key} {NUMBERS_AT}*{numbers}"));
+        self.call("look_up", format_args!("{frame} {key} {NUMBERS_AT}*{numbers}"));
     }
 
     pub fn put_of(&mut self, frame: Bytes, key: &[u8], value: Value) {
-        self.write_of("frame_put", frame, key, value);
+        self.write_of("put", frame, key, value);
     }
 
     pub fn replace_of(&mut self, frame: Bytes, key: &[u8], value: Value) {
-        self.write_of("frame_replace", frame, key, value);
+        self.write_of("replace", frame, key, value);
     }
 
     fn write_of(&mut self, call: &str, frame: Bytes, key: &[u8], value: Value) {
@@ -176,25 +216,28 @@ impl List {
         let lent = Bytes { at: VALUE_AT + self.odd[3], length: value.length };
         self.random(lent, value.seed);
         let (frame, key, value) = (List::lent(frame), List::lent(key), List::lent(lent));
-        self.line(format_args!("call {call} {frame} {key} {value}"));
+        self.call(call, format_args!("{frame} {key} {value}"));
     }
 
     pub fn erase_of(&mut self, frame: Bytes, key: &[u8]) {
         let key = self.key(key);
-        self.line(format_args!("call frame_erase {} {}", List::lent(frame), List::lent(key)));
+        self.call("erase", format_args!("{} {}", List::lent(frame), List::lent(key)));
     }
 
     pub fn pack_of(&mut self, frame: Bytes, out: Bytes) {
-        self.line(format_args!("call frame_pack {} {}", List::lent(frame), List::lent(out)));
+        self.call("pack", format_args!("{} {}", List::lent(frame), List::lent(out)));
     }
 
+    /// Of edition 1 alone; in edition 2 nothing.
     pub fn pack_before_of(&mut self, frame: Bytes, out: Bytes) {
-        self.line(format_args!("call frame_pack_before {} {}", List::lent(frame), List::lent(out)));
+        if self.edition == Edition::One {
+            self.call("pack_before", format_args!("{} {}", List::lent(frame), List::lent(out)));
+        }
     }
 
     pub fn info_of(&mut self, frame: Bytes, numbers: usize) {
         self.dirty(numbers);
-        self.line(format_args!("call frame_info {} {NUMBERS_AT}*{numbers}", List::lent(frame)));
+        self.call("info", format_args!("{} {NUMBERS_AT}*{numbers}", List::lent(frame)));
     }
 
     pub fn list_of(&mut self, frame: Bytes, names: Names, buffer: usize, numbers: usize) {
@@ -206,9 +249,8 @@ impl List {
         let (given, delimiter) = (u64::from(names.start.is_some()), names.delimiter);
         let (frame, prefix, start) = (List::lent(frame), List::lent(prefix), List::lent(lent));
         let buffer = List::lent(self.out(buffer));
-        self.line(format_args!(
-            "call frame_list {frame} {prefix} {start} ={given} ={delimiter} {buffer} {NUMBERS_AT}*{numbers}"
-        ));
+        let lent = format_args!("{frame} {prefix} {start} ={given} ={delimiter} {buffer}");
+        self.call("list", format_args!("{lent} {NUMBERS_AT}*{numbers}"));
     }
 
     /// The second frame is what is lent as output.
@@ -221,7 +263,7 @@ impl List {
         self.line(format_args!("fill {} {} {DIRT}", answers.at, answers.length.max(1)));
         let (frame, second) = (List::lent(frame), List::lent(self.out(second)));
         let (batch, answers) = (List::lent(lent), List::lent(answers));
-        self.line(format_args!("call frame_batch {frame} {second} {batch} {answers}"));
+        self.call("batch", format_args!("{frame} {second} {batch} {answers}"));
     }
 
     /// Known bytes where so many numbers are lent, and one beside them.

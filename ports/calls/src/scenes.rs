@@ -4,8 +4,8 @@
 //! runs out. Which answers a run must have met stands in `ports/answers.txt`.
 
 use crate::list::{
-    Bytes, List, Names, Value, INFO_NUMBERS, LIST_NUMBERS, LONGEST_FRAME, LONGEST_KEY,
-    LONGEST_VALUE, LOOK_UP_NUMBERS, NO_DELIMITER,
+    Bytes, Edition, List, Names, Value, INFO_NUMBERS, LIST_NUMBERS, LONGEST_FRAME, LONGEST_VALUE,
+    LOOK_UP_NUMBERS, NO_DELIMITER,
 };
 use crate::random::Random;
 
@@ -17,8 +17,8 @@ const NONE: Value = Value { length: 0, seed: 1 };
 enum Keys {
     /// Any bytes of these, up to a length.
     Few { letters: &'static [u8], longest: usize },
-    /// A long common beginning, cut anywhere, and a few bytes more.
-    LongBeginning,
+    /// A long common beginning of one byte, cut anywhere, and a few bytes more.
+    LongBeginning(u8),
     /// One or two bytes of all.
     Wide,
     /// As settings are called.
@@ -26,17 +26,22 @@ enum Keys {
 }
 
 impl Keys {
-    fn key(&self, random: &mut Random) -> Vec<u8> {
+    fn key(&self, edition: Edition, random: &mut Random) -> Vec<u8> {
         match self {
             Keys::Few { letters, longest } => {
                 let length = random.between(1, *longest);
                 (0..length).map(|_| letters[random.below(letters.len())]).collect()
             }
-            Keys::LongBeginning => {
-                let start = [0, 1, 20, 50, 51, 52, 100, 110, 111][random.below(9)];
-                let mut key = vec![b'p'; start];
-                let more = random.between(1, 4).min(LONGEST_KEY - start);
-                key.extend((0..more).map(|_| b"pqr"[random.below(3)]));
+            Keys::LongBeginning(byte) => {
+                // In edition 2 about the ends of full Prefixes; a walked string has two bytes for a 0.
+                let starts = match edition {
+                    Edition::One => [0, 1, 20, 50, 51, 52, 100, 110, 111],
+                    Edition::Two => [0, 1, 56, 57, 112, 113, 168, 224, 252],
+                };
+                let start = starts[random.below(9)];
+                let mut key = vec![*byte; start];
+                let more = random.between(1, 4).min(edition.longest_key() - start);
+                key.extend((0..more).map(|_| byte + random.below(3) as u8));
                 key
             }
             Keys::Wide => match random.below(8) {
@@ -60,12 +65,14 @@ fn small_value(random: &mut Random) -> Value {
 
 /// Puts, replacements and erases at random, more to put or more to erase in turn, with look-ups, checks and packings between them.
 fn history(list: &mut List, random: &mut Random, keys: &Keys, steps: usize) {
+    let edition = list.edition();
+    let too_long = vec![b'p'; edition.longest_key() + 1];
     let wide = matches!(keys, Keys::Wide);
     for step in 0..steps {
         let shrinking = step * 4 / steps % 2 == 1;
         let key = match random.below(60) {
-            0 => random.pick::<[u8]>(&[b"", b"a\0b", &[b'p'; 113], &[0; 200]]).to_vec(),
-            _ => keys.key(random),
+            0 => random.pick::<[u8]>(&[b"", b"a\0b", &too_long, &[0; 200]]).to_vec(),
+            _ => keys.key(edition, random),
         };
         if random.below(10) < if shrinking { 2 } else { 8 } {
             let value = if wide { NONE } else { small_value(random) };
@@ -99,7 +106,7 @@ fn listing(list: &mut List, random: &mut Random, key: &[u8]) {
     let cut = random.below(key.len() + 1);
     let start = random.pick::<[u8]>(&[b"a", b"line.1", b"m\x40", b"pppp", b"\xff"]);
     let names = Names {
-        prefix: if random.one_in(2) { b"" } else { &key[..cut.min(LONGEST_KEY)] },
+        prefix: if random.one_in(2) { b"" } else { &key[..cut.min(list.edition().longest_key())] },
         start: (!random.one_in(3)).then_some(start),
         delimiter: [b'.'.into(), b'p'.into(), b'b'.into(), 0, NO_DELIMITER, u64::MAX]
             [random.below(6)],
@@ -114,6 +121,8 @@ fn odd(random: &mut Random) -> [usize; 4] {
 /// Every refusal, alone and with others behind it in the order.
 fn refusals(list: &mut List) {
     const F: usize = SHORTEST_FRAME;
+    let long_key = list.edition().longest_key() + 1;
+    let (too_long, zeros) = (vec![b'k'; long_key], vec![0; long_key]);
     list.scene("refusals", [0; 4], F);
     let frame = list.frame();
     let long = |length: usize| Bytes { at: frame.at, length };
@@ -145,7 +154,7 @@ fn refusals(list: &mut List) {
         list.check_of(long(length));
         list.info_of(long(length), INFO_NUMBERS);
         list.look_up_of(long(length), b"", LOOK_UP_NUMBERS);
-        let names = Names { prefix: &[b'k'; 113], start: Some(b""), delimiter: NO_DELIMITER };
+        let names = Names { prefix: &too_long, start: Some(b""), delimiter: NO_DELIMITER };
         list.list_of(long(length), names, 0, LIST_NUMBERS);
         list.put_of(long(length), b"", Value { length: LONGEST_VALUE + 1, seed: 5 });
         list.replace_of(long(length), b"", Value { length: LONGEST_VALUE + 1, seed: 5 });
@@ -157,7 +166,7 @@ fn refusals(list: &mut List) {
     list.format(8);
     list.put(b"a", Value { length: 3, seed: 7 });
     list.keep();
-    let refused: [&[u8]; 6] = [b"", &[b'k'; 113], &[0; 113], b"\0", b"a\0", b"\0a"];
+    let refused: [&[u8]; 6] = [b"", &too_long, &zeros, b"\0", b"a\0", b"\0a"];
     for key in refused {
         list.every_call(key, Value { length: LONGEST_VALUE + 1, seed: 9 });
     }
@@ -195,7 +204,7 @@ fn histories(list: &mut List) {
     for (name, keys, f, n, steps) in [
         ("history, two letters", Keys::Few { letters: b"ab", longest: 6 }, 4_096, 100, 1_500),
         ("history, three letters", Keys::Few { letters: b"abc", longest: 40 }, 8_192, 64, 400),
-        ("history, long beginnings", Keys::LongBeginning, 8_192, 100, 1_000),
+        ("history, long beginnings", Keys::LongBeginning(b'p'), 8_192, 100, 1_000),
         ("history, wide nodes", Keys::Wide, 16_384, 700, 3_000),
         (
             "history, low and high bytes",
@@ -221,7 +230,7 @@ fn tight(list: &mut List) {
         let n = [8, 10, 12, 16, 20, 40, 200, 230][round / 4];
         let keys = match round % 4 {
             0 => Keys::Few { letters: b"ab", longest: 4 },
-            1 => Keys::LongBeginning,
+            1 => Keys::LongBeginning(b'p'),
             2 => Keys::Few { letters: b"abcdefghijklmnopqrstuvwxyz", longest: 1 },
             _ => Keys::Few { letters: b"xyz", longest: 12 },
         };
@@ -253,11 +262,12 @@ fn kinds(list: &mut List) {
 /// Values of 32,767, 32,768 and 65,535 bytes and beside, in frames that hold several, one or none; the longest keys.
 fn long_values(list: &mut List) {
     const LENGTHS: [usize; 7] = [32_766, 32_767, 32_768, 32_769, 65_534, 65_535, 65_536];
+    let longest = list.edition().longest_key();
     for (f, at) in [(LONGEST_FRAME, 0), (32_896, 3), (65_664, 5)] {
         list.scene("long values", [at, at / 2, at + 1, at + 2], f);
         list.format(16);
         for (place, length) in LENGTHS.into_iter().enumerate() {
-            let key = vec![b'k'; if place % 2 == 0 { 1 } else { LONGEST_KEY }];
+            let key = vec![b'k'; if place % 2 == 0 { 1 } else { longest }];
             list.put_or_replace(&key, Value { length, seed: 17 + length as u32 });
             list.look_up(&key);
         }
@@ -265,7 +275,7 @@ fn long_values(list: &mut List) {
         list.pack();
         list.take_packed();
         list.put_or_replace(b"k", Value { length: 32_768, seed: 19 });
-        list.erase(&[b'k'; LONGEST_KEY]);
+        list.erase(&vec![b'k'; longest]);
         list.put_or_replace(b"k", Value { length: 32_768, seed: 23 });
         list.look_up(b"k");
         list.erase(b"k");
@@ -316,7 +326,10 @@ fn batches(list: &mut List) {
         let count = random.below(12);
         let changes: Vec<Change> = (0..count)
             .map(|_| {
-                let key = if random.one_in(40) { Vec::new() } else { keys.key(&mut random) };
+                let key = match random.one_in(40) {
+                    true => Vec::new(),
+                    false => keys.key(list.edition(), &mut random),
+                };
                 let longest = if random.one_in(8) { 200 } else { 12 };
                 Change { kind: random.between(1, 3) as u16, key, value: random.below(longest) }
             })
@@ -417,9 +430,9 @@ fn any_bytes(list: &mut List) {
         let length = if round % 3 == 0 { random.below(200) } else { random.between(128, 400) * 8 };
         list.scene("any bytes", odd(&mut random), length);
         if round % 3 == 2 {
-            // A header that could be one: edition 1 and F.
+            // A header that could be one: the edition and F.
             let at = list.frame().at;
-            list.set(at, &1_u32.to_le_bytes());
+            list.set(at, &(list.edition() as u32).to_le_bytes());
             list.set(at + 4, &(length as u32).to_le_bytes());
         }
         list.keep();
@@ -429,22 +442,49 @@ fn any_bytes(list: &mut List) {
 
 /// What the machines are compared by.
 pub fn all(list: &mut List) {
-    refusals(list);
-    histories(list);
-    tight(list);
-    kinds(list);
-    long_values(list);
-    longest(list);
-    batches(list);
-    before(list);
-    damaged(list);
-    any_bytes(list);
+    for edition in [Edition::One, Edition::Two] {
+        list.begin(edition);
+        refusals(list);
+        histories(list);
+        tight(list);
+        kinds(list);
+        long_values(list);
+        longest(list);
+        batches(list);
+        damaged(list);
+        any_bytes(list);
+        match edition {
+            Edition::One => before(list),
+            Edition::Two => chains(list),
+        }
+    }
     list.scene("the end", [0; 4], 8);
+}
+
+/// Shared beginnings of edition 2 that take several Prefixes: of bytes 0, and of a letter; with room, and without. Then calls of edition 1 on what
+/// they left.
+fn chains(list: &mut List) {
+    let mut random = Random::new(8);
+    for (f, n, steps) in [(32_768, 300, 1_200), (4_096, 60, 300), (2_048, 24, 200)] {
+        for byte in [0, b'q'] {
+            let odd = odd(&mut random);
+            list.scene("chains", odd, f);
+            list.format(n);
+            history(list, &mut random, &Keys::LongBeginning(byte), steps);
+        }
+    }
+    list.keep();
+    list.begin(Edition::One);
+    list.every_call(b"q", NONE);
+    list.pack_before();
+    list.begin(Edition::Two);
 }
 
 /// Trees as deep as a key is long: other keys leave the longest one after each byte, so that there is a node at each of its bytes.
 pub fn deepest(list: &mut List) {
+    const LONGEST_KEY: usize = Edition::One.longest_key();
     const DOWN: u8 = b'z';
+    list.begin(Edition::One);
     // Children of each node, how many bytes from one to the next, and how many nodes are so wide; all after them have two.
     for (children, distance, wide) in
         [(2, 1, 112), (2, 2, 56), (5, 1, 112), (17, 1, 112), (49, 1, 30)]
@@ -460,52 +500,78 @@ pub fn deepest(list: &mut List) {
                 list.put(&key, NONE);
             }
         }
-        list.command("write stack");
-        list.check();
-        list.info();
-        list.look_up(&[DOWN; LONGEST_KEY]);
-        list.look_up(&[DOWN; LONGEST_KEY - 1]);
-        list.list(Names { prefix: b"", start: None, delimiter: NO_DELIMITER }, 4_096);
-        list.list(Names { prefix: b"z", start: Some(&[DOWN; 100]), delimiter: 1 }, 4_096);
-        list.pack();
-        list.pack_before();
         let mut aside = vec![DOWN; LONGEST_KEY - 1];
         aside.push(children);
-        list.put(&aside, NONE);
-        list.replace(&[DOWN; LONGEST_KEY], Value { length: 1, seed: 47 });
-        list.erase(&aside);
-        list.erase(&[DOWN; LONGEST_KEY]);
-        list.erase(&[DOWN; LONGEST_KEY]);
+        calls_on_the_deepest(list, &[DOWN; LONGEST_KEY], &aside);
     }
+    deepest_of_edition_2(list);
+}
+
+/// In edition 2 the walked string of bytes 0 is twice as long: keys of bytes 0 leave it at every second byte, and others between them.
+fn deepest_of_edition_2(list: &mut List) {
+    const LONGEST_KEY: usize = Edition::Two.longest_key();
+    list.begin(Edition::Two);
+    list.scene("deepest, edition 2", [0; 4], LONGEST_FRAME);
+    list.command("write answers");
+    list.format(MOST_SLOTS);
+    for length in 1..=LONGEST_KEY {
+        list.put(&vec![0; length], NONE);
+        let mut other = vec![0; length - 1];
+        other.push(1);
+        list.put(&other, NONE);
+    }
+    let mut aside = vec![0; LONGEST_KEY - 1];
+    aside.push(2);
+    calls_on_the_deepest(list, &[0; LONGEST_KEY], &aside);
+}
+
+fn calls_on_the_deepest(list: &mut List, key: &[u8], aside: &[u8]) {
+    list.command("write stack");
+    list.check();
+    list.info();
+    list.look_up(key);
+    list.look_up(&key[1..]);
+    list.list(Names { prefix: b"", start: None, delimiter: NO_DELIMITER }, 4_096);
+    list.list(Names { prefix: &key[..1], start: Some(&key[..100]), delimiter: 1 }, 4_096);
+    list.pack();
+    list.pack_before();
+    list.put(aside, NONE);
+    list.replace(key, Value { length: 1, seed: 47 });
+    list.erase(aside);
+    list.erase(key);
+    list.erase(key);
 }
 
 /// Each call many times over on one frame of settings, for its time.
 pub fn times(list: &mut List) {
-    let mut random = Random::new(6);
-    list.scene("times", [0; 4], 16_384);
-    list.command("write answers");
-    list.format(600);
-    for _ in 0..200 {
-        list.put(&Keys::Text.key(&mut random), Value { length: 8, seed: 53 });
-    }
-    list.pack();
-    list.take_packed();
-    list.put(b"line.rate", Value { length: 8, seed: 59 });
-    list.keep();
-    list.command("write time");
-    for _ in 0..200 {
-        list.check();
-        list.info();
-        list.look_up(b"line.rate");
-        list.list(Names { prefix: b"", start: None, delimiter: NO_DELIMITER }, 1_000);
-        list.put(b"line.rates", Value { length: 8, seed: 61 });
-        list.replace(b"line.rate", Value { length: 8, seed: 61 });
-        list.erase(b"line.rate");
-        list.restore();
-        list.pack();
-        list.pack_before();
-    }
-    for _ in 0..200 {
+    for edition in [Edition::One, Edition::Two] {
+        list.begin(edition);
+        let mut random = Random::new(6);
+        list.scene("times", [0; 4], 16_384);
+        list.command("write answers");
         list.format(600);
+        for _ in 0..200 {
+            list.put(&Keys::Text.key(edition, &mut random), Value { length: 8, seed: 53 });
+        }
+        list.pack();
+        list.take_packed();
+        list.put(b"line.rate", Value { length: 8, seed: 59 });
+        list.keep();
+        list.command("write time");
+        for _ in 0..200 {
+            list.check();
+            list.info();
+            list.look_up(b"line.rate");
+            list.list(Names { prefix: b"", start: None, delimiter: NO_DELIMITER }, 1_000);
+            list.put(b"line.rates", Value { length: 8, seed: 61 });
+            list.replace(b"line.rate", Value { length: 8, seed: 61 });
+            list.erase(b"line.rate");
+            list.restore();
+            list.pack();
+            list.pack_before();
+        }
+        for _ in 0..200 {
+            list.format(600);
+        }
     }
 }

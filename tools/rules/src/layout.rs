@@ -100,7 +100,7 @@ impl Edition {
     }
 
     /// Of a key, and of a listing's prefix.
-    pub fn longest_key(self) -> usize {
+    pub const fn longest_key(self) -> usize {
         match self {
             Edition::One => 112,
             Edition::Two => 255,
@@ -108,7 +108,7 @@ impl Edition {
     }
 
     /// Of all keys, that of the longest with as many bytes 0 as it can have.
-    pub fn longest_walked(self) -> usize {
+    pub const fn longest_walked(self) -> usize {
         match self {
             Edition::One => self.longest_key() + 1,
             Edition::Two => 2 * self.longest_key() + 2,

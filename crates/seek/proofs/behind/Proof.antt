@@ -1,13 +1,14 @@
 -- 0 past the key that is the text. Assumes nothing.
-use borrow.Author.Tests.{eq-eqb, ne-eqb}
+use borrow.Author.Needs.{needs}
+use Rattle.seek.proofs.LeafLaws.{behind-is}
 use Rattle.seek.proofs.behind.Statement.{statement}
 use Rattle.seek.proofs.behind.Tie as tie
 
-returns : tie.Need-returns
-returns c = rw (eq-eqb (c .before .args .tail) 1 (c .if1 .taken))
+mul-result : tie.Need-mul-result
+mul-result c = search needs
 
-returns-2 : tie.Need-returns-2
-returns-2 c = rw (ne-eqb (c .before .args .tail) 1 (c .if1 .left))
+returns : tie.Need-returns
+returns c = behind-is (c .args .tail) (c .pre)
 
 pub behind-spec : {M : Type 1} → statement M
-behind-spec = tie.close (tie.spec returns returns-2)
+behind-spec = tie.close (tie.spec mul-result returns)

@@ -8,6 +8,7 @@ use Rattle.model.specs.Edition.{Edition}
 use Rattle.model.specs.Frame.{pairs}
 use Rattle.seek.specs.Seek.{Guided, Seeking, Nearer}
 use Rattle.seek.proofs.DownLaws.{sub-slot}
+use Rattle.seek.proofs.LeafLaws.{tail-most}
 use Rattle.seek.proofs.WayLaws.{start, spare-falls, this-falls, leaf-some, leaf-hit, leaf-miss, prefix-room, prefix-fits, prefix-some, prefix-above, prefix-below, prefix-on, at-node, nearer-falls, node-end, node-miss, node-on}
 use Rattle.seek.proofs.seek.Statement.{statement}
 use Rattle.seek.proofs.seek.Tie as tie
@@ -32,7 +33,7 @@ leaf-reaches-requires c κs =
     let K = l .inv (P .edition) (P .holds) in
     let q = sym (r .read .ensures .1) in
     let h = sym (r .read .ensures .0) ∙ c .if1 .taken in
-    record { edition = _; holds = leaf-some K h q }
+    (record { edition = _; holds = leaf-some K h q }, r .before .before .before .before .before .pre .1)
 
 returns : tie.Need-returns Inv-loop μ-loop
 returns c = λ E H.
@@ -178,7 +179,7 @@ nearer-requires c κs =
     let x = c .before .before .before .if1 .left in
     let y = c .before .if3 .left in
     let k = r .read .ensures .0 in
-    let m = K .sub .short in let w = K .sub .lawful .fields .words in (record { kids = pairs (at-node K k x y q .kids); node = at-node K k x y q .inner }, r .before .before .before .before .before .pre .1, omega arith)
+    let m = K .sub .short in let w = K .sub .lawful .fields .words in (record { kids = pairs (at-node K k x y q .kids); node = at-node K k x y q .inner }, tail-most _ (r .before .before .before .before .before .pre .1), omega arith)
 
 fall-back-requires-4 : tie.Need-fall-back-requires-4 Inv-loop μ-loop
 fall-back-requires-4 c κs =

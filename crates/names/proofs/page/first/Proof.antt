@@ -1,19 +1,20 @@
 -- By where the start key stands to the prefix. Assumes nothing.
 use Prim.Native.Nat.{ℕ, _-_}
 use mathlib.Core.Path.{_≡_, sym, ap, _∙_}
+use mathlib.Core.Logic.{inl}
 use native.Mathlib.Omega.{arith}
 use lib.ListN.{take, length-take}
 use borrow.Author.Tests.{not-true, not-false}
 use Rattle.listing.specs.Listing.{delimiterOf}
 use Rattle.names.proofs.EditionLaws.{naming}
 use Rattle.names.proofs.CutLaws.{begins-long}
-use Rattle.names.proofs.PageLaws.{first-free, first-begins, first-above, first-below, start-short, cut-most}
+use Rattle.names.proofs.PageLaws.{first-free, first-begins, first-above, first-below, start-short, cut-tail}
 use borrow.Author.Needs.{needs}
 use Rattle.names.proofs.page.first.Statement.{statement}
 use Rattle.names.proofs.page.first.Tie as tie
 
 from-bound-requires : tie.Need-from-bound-requires
-from-bound-requires c κs = let z = c .before .before .before .before .before .before .pre in (z .0, omega arith, z .2, z .3, z .4)
+from-bound-requires c κs = let z = c .before .before .before .before .before .before .pre in (z .0, inl (omega arith), z .2, z .3, z .4)
 
 same-length : tie.Need-same-length
 same-length c = search needs
@@ -41,7 +42,7 @@ part-from-bound-end c = let h = c .ending .ensures .high in omega arith
 from-bound-requires-2 : tie.Need-from-bound-requires-2
 from-bound-requires-2 c κs = let z = c .before .before .before .before .before .before .before .before .before .before .args in
     let l = start-short (naming (z .edition)) (z .given) (z .start .now) (not-false _ (c .before .before .before .before .before .if1 .left)) (c .before .before .before .before .before .before .before .before .before .before .pre .1) in
-    (c .before .before .before .before .before .before .before .before .before .before .pre .0, cut-most (c .before .before .ending .ensures), omega (arith, c .before .before .ending .ensures .high, length-take (c .before .before .ending .result .long - 0) (z .start .now)), c .before .before .before .before .before .before .before .before .before .before .pre .3, c .before .before .before .before .before .before .before .before .before .before .pre .4)
+    (c .before .before .before .before .before .before .before .before .before .before .pre .0, cut-tail (c .before .before .ending .ensures), omega (arith, c .before .before .ending .ensures .high, length-take (c .before .before .ending .result .long - 0) (z .start .now)), c .before .before .before .before .before .before .before .before .before .before .pre .3, c .before .before .before .before .before .before .before .before .before .before .pre .4)
 
 same-length-2 : tie.Need-same-length-2
 same-length-2 c = search needs
@@ -67,7 +68,7 @@ returns-3 c = let z = c .before .before .before .before .before .before .before 
     (c .before .before .weigh-bytes .ensures) (c .before .if3 .taken) (c .none .ensures)
 
 from-bound-requires-3 : tie.Need-from-bound-requires-3
-from-bound-requires-3 c κs = let z = c .before .before .before .before .before .before .before .before .before .before .pre in (z .0, omega arith, z .2, z .3, z .4)
+from-bound-requires-3 c κs = let z = c .before .before .before .before .before .before .before .before .before .before .pre in (z .0, inl (omega arith), z .2, z .3, z .4)
 
 same-length-3 : tie.Need-same-length-3
 same-length-3 c = search needs

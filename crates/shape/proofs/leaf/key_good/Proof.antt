@@ -1,26 +1,29 @@
 -- `key_good` is the test of the edition. Assumes nothing.
-use Rattle.shape.proofs.LeafLaws.{under-other, under-part}
+use Rattle.shape.proofs.LeafLaws.{under-two, under-other, under-part}
 use borrow.Author.Needs.{needs}
 use Rattle.shape.proofs.leaf.key_good.Statement.{statement}
 use Rattle.shape.proofs.leaf.key_good.Tie as tie
 
-add-spelt-good : tie.Need-add-spelt-good
-add-spelt-good c = search needs
+add-escaped-good : tie.Need-add-escaped-good
+add-escaped-good c = search needs
 
-sub-spelt-good : tie.Need-sub-spelt-good
-sub-spelt-good c = search needs
+sub-escaped-good : tie.Need-sub-escaped-good
+sub-escaped-good c = search needs
 
-part-spelt-good-start : tie.Need-part-spelt-good-start
-part-spelt-good-start c = search needs
+part-escaped-good-start : tie.Need-part-escaped-good-start
+part-escaped-good-start c = search needs
 
-part-spelt-good-end : tie.Need-part-spelt-good-end
-part-spelt-good-end c = search needs
+part-escaped-good-end : tie.Need-part-escaped-good-end
+part-escaped-good-end c = search needs
 
-spelt-good-requires : tie.Need-spelt-good-requires
-spelt-good-requires c κs = search needs
+escaped-good-requires : tie.Need-escaped-good-requires
+escaped-good-requires c κs = search needs
 
 returns : tie.Need-returns
-returns c = under-part (c .before .before .before .before .before .args .f .now) (c .before .before .before .before .before .args .e) (c .before .before .before .before .before .args .k) (c .spelt-good .ensures)
+returns c =
+    let m = c .before .before in
+    let a = m .before .before .before .args in
+    under-two (a .edition) (m .if1 .taken) (under-part (a .f .now) (a .e) (a .k) (c .escaped-good .ensures))
 
 plain-good-requires : tie.Need-plain-good-requires
 plain-good-requires c κs = search needs
@@ -32,11 +35,11 @@ pub key-good-spec : {M : Type 1} → statement M
 key-good-spec =
     tie.close
     (tie.spec
-    add-spelt-good
-    sub-spelt-good
-    part-spelt-good-start
-    part-spelt-good-end
-    spelt-good-requires
+    add-escaped-good
+    sub-escaped-good
+    part-escaped-good-start
+    part-escaped-good-end
+    escaped-good-requires
     returns
     plain-good-requires
     returns-2)
