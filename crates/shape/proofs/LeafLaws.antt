@@ -16,7 +16,6 @@ use Rattle.model.specs.Body.{LeafAt}
 use Rattle.model.specs.Frame.{Begins}
 use Rattle.model.proofs.Edition1.{positive-at, at-positive, Key1, key-passes, key-taken, walked-at}
 use Rattle.model.proofs.Edition2.{lawfulOf, edition-two}
-use Rattle.model.proofs.StandsGood.{bytes-text}
 use Rattle.pieces.specs.Decides.{Decides}
 use Rattle.pieces.specs.Range.{Clean, Alike}
 use Rattle.keys.specs.Word.{Spelt}
@@ -175,7 +174,7 @@ module _ {E : Edition} (f path : List ℕ) (o d b e k v size : ℕ) (R : LeafRea
       let m = bytes-long f e k in
       let w = bytes-long f (e + k) v in
       let is : take k (drop e f) ≡ key
-      = ap (λ (x : ℕ). take x (drop e f)) (sym m) ∙ text-part f e key (omega (arith, leaf-room R room X)) (bytes-text f e k) in
+      = ap (λ (x : ℕ). take x (drop e f)) (sym m) ∙ text-part f e key (omega (arith, leaf-room R room X)) (here.bytes-text f e k) in
       let at : LeafAt f o e key value
       = record {
         room = let r = R .rounded in let h = X .high in omega arith;
