@@ -20,7 +20,7 @@ use Rattle.model.specs.Promise.{CheckPromise}
 use Rattle.model.proofs.StringLaws.{clash}
 use Rattle.model.proofs.ItemLaws.{in-under, sum-app, sum-as}
 use Rattle.model.proofs.FormatLaws.{data-eight}
-use Rattle.model.proofs.CleanLaws.{stands-clean}
+use Rattle.model.proofs.CleanLaws.{stands-clean, root-as}
 use Rattle.model.proofs.UniqueLaws.{lists-same}
 use Rattle.model.proofs.StandsGood.{bodied, leafy-other, sound-bodies}
 use Rattle.claims.specs.Units.{Each, Eighth, Eighths, Within, Slotted, Seen}
@@ -34,7 +34,7 @@ use Rattle.census.specs.Freed.{ListOf, ListsOf, FreedItems}
 use Rattle.census.proofs.ToldLaws.{tidy-same, tidy-part, each-app, grown-on, book-on}
 use Rattle.audit.specs.Audit.{ruled, HeaderFits, RootItems, Unmarked, Closed, Closes}
 use Rattle.audit.proofs.RootLaws.{root-unique}
-use Rattle.audit.proofs.RuleLaws.{root-as, rule-of, of-rule, rule-good}
+use Rattle.audit.proofs.RuleLaws.{rule-of, of-rule, rule-good}
 
 -- ---- sums over items
 

@@ -43,7 +43,7 @@ lawful-before = record {
 }
 
 -- two editions of one number that take the same keys and walk them alike
-record SameKeys (E G : Edition) : Type 0 where
+pub record SameKeys (E G : Edition) : Type 0 where
   pub number : E .number ≡ G .number
   pub faults : (k : List ℕ) → G .keyFault k ≡ E .keyFault k
   pub walks : (k : List ℕ) → G .walked k ≡ E .walked k
@@ -64,12 +64,12 @@ module _ {E G : Edition} (same : SameKeys E G) (f : List ℕ) where
     trees-as path nil T = tt
     trees-as path (kid b j l ks) T = (tree-as (path ++ b ∷ []) l (T .0), trees-as path ks (T .1))
 
-  root-as : (r : Root) → RootAt E f r → RootAt G f r
+  pub root-as : (r : Root) → RootAt E f r → RootAt G f r
   unfolding RootAt
   root-as (bare s o) T = T
   root-as (tree l) T = tree-as [] l T
 
-  stands-as : {s : State} (w : Stands E f s) → (G .wiped ≡ true → Clean f (le 4 f atD) (rootItems (w .root))) → Stands G f s
+  pub stands-as : {s : State} (w : Stands E f s) → (G .wiped ≡ true → Clean f (le 4 f atD) (rootItems (w .root))) → Stands G f s
   stands-as w clean =
       let n = w .nums in
       let H = w .heap .header in
@@ -113,12 +113,6 @@ to-before = record { number = refl; faults = λ k. refl; walks = λ k. refl }
 
 from-before : SameKeys before1 edition1
 from-before = record { number = refl; faults = λ k. refl; walks = λ k. refl }
-
-pub root-before : (f : List ℕ) (r : Root) → RootAt edition1 f r → RootAt before1 f r
-root-before f = root-as to-before f
-
-pub root-now : (f : List ℕ) (r : Root) → RootAt before1 f r → RootAt edition1 f r
-root-now f = root-as from-before f
 
 -- what is good by the new rule is good by the old one, and stands for the same; and back, where it is clean
 pub stands-before : {f : List ℕ} {s : State} → Stands edition1 f s → Stands before1 f s

@@ -16,10 +16,11 @@ use Rattle.model.specs.Frame.{Root, RootAt, Good}
 use Rattle.model.specs.Promise.{Told, CheckPromise, PackingPromise, PackPromise}
 use Rattle.model.proofs.Edition2.{lawfulOf}
 use Rattle.model.proofs.StringLaws.{clash}
+use Rattle.model.proofs.CleanLaws.{root-as}
 use Rattle.model.proofs.UniqueLaws.{stands-unique}
 use Rattle.model.proofs.StandsGood.{stands-heads}
 use Rattle.audit.specs.Audit.{ruled, byRule}
-use Rattle.audit.proofs.RuleLaws.{root-as, of-rule, rule-now}
+use Rattle.audit.proofs.RuleLaws.{of-rule, rule-now}
 use Rattle.pack.specs.Image.{Known, Imaged}
 
 -- G is a rule by which a frame of edition E is good: the same number and the same trees
