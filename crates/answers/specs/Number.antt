@@ -45,26 +45,32 @@ checkNumber check.Good = 0
 checkNumber (check.Refused r) = refusalNumber r
 
 abbrev pub lookUpNumber : LookUp → ℕ
-lookUpNumber (look.Found p n v) = 0
+lookUpNumber (look.Found p n v t) = 0
 lookUpNumber (look.Absent v) = 8
 lookUpNumber (look.Refused r) = refusalNumber r
 
 -- "both 0 with any number but 0"
 abbrev pub lookUpPlace : LookUp → ℕ
-lookUpPlace (look.Found p n v) = p
+lookUpPlace (look.Found p n v t) = p
 lookUpPlace (look.Absent v) = 0
 lookUpPlace (look.Refused r) = 0
 
 abbrev pub lookUpLong : LookUp → ℕ
-lookUpLong (look.Found p n v) = n
+lookUpLong (look.Found p n v t) = n
 lookUpLong (look.Absent v) = 0
 lookUpLong (look.Refused r) = 0
 
 -- "Refused look-ups report 0."
 abbrev pub lookUpSlots : LookUp → ℕ
-lookUpSlots (look.Found p n v) = v
+lookUpSlots (look.Found p n v t) = v
 lookUpSlots (look.Absent v) = v
 lookUpSlots (look.Refused r) = 0
+
+-- (02) "look-up gives it back": 0 with any number but 0
+abbrev pub lookUpStamp : LookUp → ℕ
+lookUpStamp (look.Found p n v t) = t
+lookUpStamp (look.Absent v) = 0
+lookUpStamp (look.Refused r) = 0
 
 abbrev pub putNumber : Put → ℕ
 putNumber put.New = 0

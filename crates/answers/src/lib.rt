@@ -33,8 +33,8 @@ pub enum Check {
 }
 
 pub enum LookUp {
-    // place, counted from the frame's start, and length of the value; the slots visited
-    Found(usize, usize, usize),
+    // place, counted from the frame's start, and length of the value; the slots visited; the stamp
+    Found(usize, usize, usize, usize),
     // the slots visited
     Absent(usize),
     Refused(Refusal),
@@ -144,7 +144,7 @@ pub fn look_up_number(a: LookUp) -> u32
     ensures { λ n. ⌜ n ≡ lookUpNumber a ⌝ }
 {
     match a {
-        LookUp::Found(_, _, _) => 0,
+        LookUp::Found(_, _, _, _) => 0,
         LookUp::Absent(_) => 8,
         LookUp::Refused(r) => refusal_number(r),
     }

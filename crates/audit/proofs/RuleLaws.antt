@@ -15,13 +15,13 @@ use Rattle.keys.proofs.KeyLaws.{of-two, of-other}
 use Rattle.audit.specs.Audit.{ruled, byRule}
 
 pub rule-of : (wiped : Bool) (E : Edition) → SameKeys E (ruled wiped E)
-rule-of wiped E = record { number = refl; faults = λ k. refl; walks = λ k. refl }
+rule-of wiped E = record { number = refl; faults = λ k. refl; walks = λ k. refl; stamps = refl }
 
 pub of-rule : (wiped : Bool) (E : Edition) → SameKeys (ruled wiped E) E
-of-rule wiped E = record { number = refl; faults = λ k. refl; walks = λ k. refl }
+of-rule wiped E = record { number = refl; faults = λ k. refl; walks = λ k. refl; stamps = refl }
 
 between : (wiped other : Bool) (E : Edition) → SameKeys (ruled wiped E) (ruled other E)
-between wiped other E = record { number = refl; faults = λ k. refl; walks = λ k. refl }
+between wiped other E = record { number = refl; faults = λ k. refl; walks = λ k. refl; stamps = refl }
 
 pub rule-before : (wiped : Bool) (E : Edition) {f : List ℕ} → Good (ruled wiped E) f → Good (ruled false E) f
 rule-before wiped E {f} G = (G .0, stands-as (between wiped false E) f (G .1) (λ e. clash (cc)))

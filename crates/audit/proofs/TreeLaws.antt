@@ -6,7 +6,7 @@ use native.Mathlib.Omega.{arith}
 use lib.ListN.{length}
 use Rattle.layout.specs.Number.{Bytes}
 use Rattle.layout.specs.Entry.{placeOf, highOf}
-use Rattle.model.specs.Edition.{Edition, Lawful}
+use Rattle.model.specs.Edition.{Edition, Lawful, Value}
 use Rattle.model.specs.Tree.{extentOf}
 use Rattle.model.specs.Item.{Item, body, extent}
 use Rattle.model.specs.Body.{PrefixAt}
@@ -45,7 +45,7 @@ tree-first {Ed} {f} {path} {s} {xs} T = go (T .lay) (T .tree) (T .slot) (T .are)
 pub record LeafBelow (Ed : Edition) (f path : List ℕ) (o : ℕ) (ys : List Item) : Type 0 where
   pub at : ℕ
   pub key : List ℕ
-  pub value : List ℕ
+  pub value : Value
   pub of : LeafOf Ed f path o at key value
   pub are : ys ≡ extent at (extentOf key value) ∷ []
 
@@ -58,7 +58,7 @@ leaf-of {Ed} {f} {path} {s} {o} {ys} T = go (T .lay) (T .tree) (T .are)
     go (prefix s' o' p l) t z = absurd (omega (arith, body-same z .1))
     go (node s' o' kind ks) t z = let r = t .1 .inner .range in absurd (omega (arith, body-same z .1))
 
-pub leaf-is : {Ed : Edition} {f path : List ℕ} {s o e : ℕ} {k v : List ℕ} → Entry f s 1 o → LeafOf Ed f path o e k v → Below Ed f path s 1 o (extent e (extentOf k v) ∷ [])
+pub leaf-is : {Ed : Edition} {f path : List ℕ} {s o e : ℕ} {k : List ℕ} {v : Value} → Entry f s 1 o → LeafOf Ed f path o e k v → Below Ed f path s 1 o (extent e (extentOf k v) ∷ [])
 unfolding Tree items
 leaf-is {Ed} {f} {path} {s} {o} {e} {k} {v} E L = record { lay = leaf s o e k v; tree = (E, L); slot = refl; are = refl }
 

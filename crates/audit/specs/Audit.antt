@@ -18,7 +18,7 @@ use Rattle.census.specs.Told.{Told}
 
 -- an edition by the rule that what is freed is zero, or by the one from before
 abbrev pub ruled : Bool → Edition → Edition
-ruled wiped E = record { number = E .number; keyFault = E .keyFault; walked = E .walked; longest = E .longest; wiped = wiped }
+ruled wiped E = record { number = E .number; keyFault = E .keyFault; walked = E .walked; longest = E .longest; stamps = E .stamps; wiped = wiped }
 
 -- the same of an edition's number: by the rule in force it is the edition itself, and edition 1 by the one from before is `before1`
 abbrev pub byRule : ℕ → Bool → Edition

@@ -31,22 +31,22 @@ pasted-all f g p P e =
     let n : length g ≡ length p = P .only .size ∙ e in
     ext-getD 0 g p n (λ i l. P .text i i (omega arith) (omega arith))
 
-pub ready : {E : Edition} {f b : List ℕ} → Standing E f → laid (changesOf b) ≡ true → Ready E f b
+pub ready : {E : Edition} {f b : List ℕ} → Standing E f → laid (changesOf E b) ≡ true → Ready E f b
 ready S e = record { good = S; whole = e }
 
 -- the second frame, pasted over with the first
-pub ready-second : {E : Edition} {f b : List ℕ} (g : List ℕ) → g ≡ f → Standing E f → laid (changesOf b) ≡ true → Ready E g b
+pub ready-second : {E : Edition} {f b : List ℕ} (g : List ℕ) → g ≡ f → Standing E f → laid (changesOf E b) ≡ true → Ready E g b
 ready-second g e S w = rw e (ready S w)
 
 pub tried-as : {E : Edition} {x f b : List ℕ} {r : Ended} {g' : List ℕ} → x ≡ f → Tried E x b r g' → Tried E f b r g'
 tried-as e T = rw e at T
 
 -- the test of the batch, by what it gave
-pub is-laid : (b : List ℕ) (r : Bool) → r ≡ laid (changesOf b) → not r ≡ false → laid (changesOf b) ≡ true
-is-laid b r e t = sym e ∙ not-false r t
+pub is-laid : (E : Edition) (b : List ℕ) (r : Bool) → r ≡ laid (changesOf E b) → not r ≡ false → laid (changesOf E b) ≡ true
+is-laid E b r e t = sym e ∙ not-false r t
 
-pub not-laid : (b : List ℕ) (r : Bool) → r ≡ laid (changesOf b) → not r ≡ true → laid (changesOf b) ≡ false
-not-laid b r e t = sym e ∙ not-true r t
+pub not-laid : (E : Edition) (b : List ℕ) (r : Bool) → r ≡ laid (changesOf E b) → not r ≡ true → laid (changesOf E b) ≡ false
+not-laid E b r e t = sym e ∙ not-true r t
 
 unchanged : (f g lent : List ℕ) → Refused f g lent 0 f g lent
 unchanged f g lent = record { place = refl; first = refl; second = refl; tells = refl }
@@ -99,14 +99,14 @@ module _ (E : Edition) (f g b lent : List ℕ) where
 
     module _ (equal : length g ≡ length f) where
       -- 12
-      pub no-batch : laid (changesOf b) ≡ false → BatchPromise E f g b lent 12 0 f g lent × (12 < 256) × (0 ≤ 4294967295)
-      no-batch e = let z = none-laid (changesOf b) e in (
+      pub no-batch : laid (changesOf E b) ≡ false → BatchPromise E f g b lent 12 0 f g lent × (12 < 256) × (0 ≤ 4294967295)
+      no-batch e = let z = none-laid (changesOf E b) e in (
         record {
           told = told-good E f 12 good;
           length7 = λ G n. absurd (n equal);
           layout12 = λ G n q. refl;
-          done = λ G n cs q t. not-both (changesOf b) z q;
-          stopped = λ G n cs q t. not-both (changesOf b) z q;
+          done = λ G n cs q t. not-both (changesOf E b) z q;
+          stopped = λ G n cs q t. not-both (changesOf E b) z q;
           bad = λ y. absurd (y good);
           other = λ n. absurd (n equal);
           unlaid = λ q. unchanged f g lent;
@@ -115,8 +115,8 @@ module _ (E : Edition) (f g b lent : List ℕ) where
         omega arith,
       )
 
-      module _ (whole : laid (changesOf b) ≡ true) where
-        none-not : {A : Type 0} → changesOf b ≡ none → A
+      module _ (whole : laid (changesOf E b) ≡ true) where
+        none-not : {A : Type 0} → changesOf E b ≡ none → A
         none-not q = let z : false ≡ true = rw q at whole in clash (cc)
 
         -- a change was refused
@@ -149,7 +149,7 @@ module _ (E : Edition) (f g b lent : List ℕ) where
         carried r g1 T e ns f' A lent' g' l d =
             let U = T .through e in
             let M = U .1 .1 in
-            let c : M .calls ≡ A .calls = same-calls (changesOf b) (M .whole) (A .whole) in
+            let c : M .calls ≡ A .calls = same-calls (changesOf E b) (M .whole) (A .whole) in
             let x = made-told E f (M .calls) (U .1 .0) g1 (S .st) (S .stands) (M .made) in
             let y = made-told E f (A .calls) ns f' (S .st) (S .stands) (A .made) in
             let q : U .1 .0 ≡ ns = x ∙ rw c (sym y) in
@@ -159,7 +159,7 @@ module _ (E : Edition) (f g b lent : List ℕ) where
                 length7 = λ G n. absurd (n equal);
                 layout12 = λ G n z. none-not z;
                 done = λ G n cs z t.
-                    let k : A .calls ≡ cs = same-calls (changesOf b) (A .whole) z in
+                    let k : A .calls ≡ cs = same-calls (changesOf E b) (A .whole) z in
                     record { number = U .0; place = e; answers = ns; made = rw k at (A .made); unrefused = u; second = d; tells = l };
                 stopped = λ G n cs z t. let v : false ≡ true = rw (U .0) at t in clash (cc);
                 bad = λ z. absurd (z good);

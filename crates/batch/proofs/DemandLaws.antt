@@ -9,7 +9,7 @@ use mathlib.Core.Logic.{_⊎_, inl, inr, ⊎-elim}
 use lib.ListN.{length}
 use lib.Dec.{ltb, eqb}
 use Rattle.model.specs.Strings.{hasZero}
-use Rattle.model.specs.Edition.{Edition, edition1, edition2, editionOf, valueFault}
+use Rattle.model.specs.Edition.{Edition, edition1, edition2, editionOf, Value, textOf, valueFault}
 use Rattle.model.specs.Tree.{Art, Change, Left, findTree}
 use Rattle.model.specs.Records.{absent}
 use Rattle.model.specs.State.{State, Done, unless, room, findIn, putChange, callPut, Write, new, replacing, either, callWrite, eraseChange, eraseDone, eraseFound, eraseIn, callErase}
@@ -38,8 +38,8 @@ key-range1 k = bool-cases (eqb (length k) 0)
 key-range2 : (k : List ℕ) → OneOf (edition2 .keyFault k) (0 ∷ 3 ∷ 4 ∷ 5 ∷ [])
 key-range2 k = bool-cases (eqb (length k) 0) (λ t. inr (inl (rw t))) (λ t. bool-cases (ltb 255 (length k)) (λ u. inr (inl (rw (t, u)))) (λ u. inl (rw (t, u))))
 
-value-range : (v : List ℕ) → OneOf (valueFault v) (0 ∷ 3 ∷ 4 ∷ 5 ∷ [])
-value-range v = bool-cases (ltb 65535 (length v)) (λ t. inr (inr (inr (inl (rw t))))) (λ t. inl (rw t))
+value-range : (v : Value) → OneOf (valueFault v) (0 ∷ 3 ∷ 4 ∷ 5 ∷ [])
+value-range v = bool-cases (ltb 65535 (length (textOf v))) (λ t. inr (inr (inr (inl (rw t))))) (λ t. inl (rw t))
 
 fault-answer : (m : ℕ) → OneOf m (0 ∷ 3 ∷ 4 ∷ 5 ∷ []) → Answer m
 fault-answer m (inl e) = inl e
@@ -53,12 +53,12 @@ unless-range m s d h g = eqb-cases m 0 (λ t q. rw t g) (λ t q. rw t (fault-ans
 
 -- of an edition whose keys get 0, 3 or 4
 module _ (E : Edition) (key-range : (k : List ℕ) → OneOf (E .keyFault k) (0 ∷ 3 ∷ 4 ∷ 5 ∷ [])) where
-  put-range : (s : State) (k v : List ℕ) → Answer (callPut E s k v .answer)
+  put-range : (s : State) (k : List ℕ) (v : Value) → Answer (callPut E s k v .answer)
   put-range s k v = let c = putChange E s k v in bool-cases (room s c)
       (λ t. bool-cases (c .fresh) (λ u. inl (rw (t, u))) (λ u. inr (inr (inr (inr (inr (inr (inl (rw (t, u))))))))))
       (λ t. inr (inr (inr (inr (inl (rw t))))))
 
-  write-range : (a : Write) (s : State) (k v : List ℕ) → Answer (callWrite E a s k v .answer)
+  write-range : (a : Write) (s : State) (k : List ℕ) (v : Value) → Answer (callWrite E a s k v .answer)
   write-range new s k v = bool-cases (absent (findIn E (s .tree) k)) (λ t. rw t (put-range s k v)) (λ t. inr (inr (inr (inr (inr (inr (inr (inl (rw t)))))))))
   write-range replacing s k v = bool-cases (absent (findIn E (s .tree) k)) (λ t. inr (inr (inr (inr (inr (inl (rw t))))))) (λ t. rw t (put-range s k v))
   write-range either s k v = put-range s k v
@@ -66,7 +66,7 @@ module _ (E : Edition) (key-range : (k : List ℕ) → OneOf (E .keyFault k) (0 
   erase-done : (s : State) (c : Change Left) → Answer (eraseDone s c .answer)
   erase-done s c = bool-cases (eqb (s .R) 1) (λ t. inl (rw t)) (λ t. bool-cases (room s c) (λ u. inl (rw (t, u))) (λ u. inr (inr (inr (inr (inl (rw (t, u))))))))
 
-  erase-found : (s : State) (k : List ℕ) (a : Art) (o : Option (List ℕ)) → Answer (eraseFound E s k a o .answer)
+  erase-found : (s : State) (k : List ℕ) (a : Art) (o : Option Value) → Answer (eraseFound E s k a o .answer)
   erase-found s k a none = inr (inr (inr (inr (inr (inl refl)))))
   erase-found s k a (some v) = erase-done s (eraseChange E a k)
 
@@ -101,7 +101,7 @@ made-stands E f (c ∷ cs) (n ∷ ns) g G m =
     made-stands E (m .0) cs ns g (onCall E (G .0) c .state, w .1) (m .2)
 
 module _ (E : Edition) (key-range : (k : List ℕ) → OneOf (E .keyFault k) (0 ∷ 3 ∷ 4 ∷ 5 ∷ [])) (f g b lent : List ℕ) (n at : ℕ) (f' g' lent' : List ℕ) (P : BatchPromise E f g b lent n at f' g' lent') where
-  carried-given : Good E f → length g ≡ length f → (cs : List Call) → changesOf b ≡ some cs → OneOf n (0 ∷ 3 ∷ 4 ∷ 5 ∷ 6 ∷ [])
+  carried-given : Good E f → length g ≡ length f → (cs : List Call) → changesOf E b ≡ some cs → OneOf n (0 ∷ 3 ∷ 4 ∷ 5 ∷ 6 ∷ [])
   carried-given G l cs e = bool-cases (isRefusal n)
       (λ t.
       let S = P .stopped G l cs e t in
@@ -110,13 +110,13 @@ module _ (E : Edition) (key-range : (k : List ℕ) → OneOf (E .keyFault k) (0 
       refused-range n t (rw (sym q) at (call-range E key-range (H .0) (S .change))))
       (λ t. inl (P .done G l cs e t .number))
 
-  laid-given : Good E f → length g ≡ length f → (o : Option (List Call)) → changesOf b ≡ o → Given (notLaid b ∷ []) (0 ∷ 3 ∷ 4 ∷ 5 ∷ 6 ∷ []) n
+  laid-given : Good E f → length g ≡ length f → (o : Option (List Call)) → changesOf E b ≡ o → Given (notLaid E b ∷ []) (0 ∷ 3 ∷ 4 ∷ 5 ∷ 6 ∷ []) n
   laid-given G l none e = inl (e, P .layout12 G l e)
   laid-given G l (some cs) e = inr (λ x. clash (cc), carried-given G l cs e)
 
-  batch-given : Good E f → Given (secondLength f g ∷ notLaid b ∷ []) (0 ∷ 3 ∷ 4 ∷ 5 ∷ 6 ∷ []) n
+  batch-given : Good E f → Given (secondLength f g ∷ notLaid E b ∷ []) (0 ∷ 3 ∷ 4 ∷ 5 ∷ 6 ∷ []) n
   batch-given G = eqb-cases (length g) (length f)
-      (λ t q. inr (λ x. x q, laid-given G q (changesOf b) refl))
+      (λ t q. inr (λ x. x q, laid-given G q (changesOf E b) refl))
       (λ t q. inl (q, P .length7 G q))
 
   -- a good frame's batch is not refused for the frame
@@ -126,7 +126,7 @@ module _ (E : Edition) (key-range : (k : List ℕ) → OneOf (E .keyFault k) (0 
       other : (x : ℕ) → n ≡ x → (x ≡ 1 → ⊥) → (x ≡ 2 → ⊥) → ⊥
       other x q a b = ⊎-elim (λ t. a (sym q ∙ e ∙ t)) (λ t. b (sym q ∙ e ∙ t)) h
 
-      go : Given (secondLength f g ∷ notLaid b ∷ []) (0 ∷ 3 ∷ 4 ∷ 5 ∷ 6 ∷ []) n → ⊥
+      go : Given (secondLength f g ∷ notLaid E b ∷ []) (0 ∷ 3 ∷ 4 ∷ 5 ∷ 6 ∷ []) n → ⊥
       go (inl x) = other 7 (x .1) (λ t. omega arith) (λ t. omega arith)
       go (inr (x, inl y)) = other 12 (y .1) (λ t. omega arith) (λ t. omega arith)
       go (inr (x, inr (y, inl q))) = other 0 q (λ t. omega arith) (λ t. omega arith)
@@ -136,7 +136,7 @@ module _ (E : Edition) (key-range : (k : List ℕ) → OneOf (E .keyFault k) (0 
       go (inr (x, inr (y, inr (inr (inr (inr (inl q))))))) = other 6 q (λ t. omega arith) (λ t. omega arith)
       go (inr (x, inr (y, inr (inr (inr (inr (inr q))))))) = q
 
-  laid-kept : Good E f → length g ≡ length f → Refusal n → (o : Option (List Call)) → changesOf b ≡ o → (f' ≡ f) × (lent' ≡ lent)
+  laid-kept : Good E f → length g ≡ length f → Refusal n → (o : Option (List Call)) → changesOf E b ≡ o → (f' ≡ f) × (lent' ≡ lent)
   laid-kept G l r none e = let R = P .unlaid e in (R .first, R .tells)
   laid-kept G l r (some cs) e = let S = P .stopped G l cs e r in (S .first, S .tells)
 
@@ -151,7 +151,7 @@ module _ (E : Edition) (key-range : (k : List ℕ) → OneOf (E .keyFault k) (0 
       (λ u p.
       let G = P .told .good q p in
       eqb-cases (length g) (length f)
-      (λ v l. laid-kept G l r (changesOf b) refl)
+      (λ v l. laid-kept G l r (changesOf E b) refl)
       (λ v l. let R = P .other l in (R .first, R .tells))))
 
 -- of both editions
@@ -159,7 +159,7 @@ of-edition : (E : Edition) → ((k : List ℕ) → OneOf (E .keyFault k) (0 ∷ 
 of-edition E key-range =
     record {
       batch = λ f g b lent n at f' g' lent' P. (
-        frame-first E f (secondLength f g ∷ notLaid b ∷ []) (0 ∷ 3 ∷ 4 ∷ 5 ∷ 6 ∷ []) n refl refl (P .told) (batch-given E key-range f g b lent n at f' g' lent' P),
+        frame-first E f (secondLength f g ∷ notLaid E b ∷ []) (0 ∷ 3 ∷ 4 ∷ 5 ∷ 6 ∷ []) n refl refl (P .told) (batch-given E key-range f g b lent n at f' g' lent' P),
         kept E key-range f g b lent n at f' g' lent' P,
       );
     }

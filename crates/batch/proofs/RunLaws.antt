@@ -37,35 +37,35 @@ some-same {xs} {ys} e = ap (λ (o : Option (List Call)). orNone o) e
     orNone (some cs) = cs
 
 -- a batch has its header
-pub record Headed (b : List ℕ) : Type 0 where
+pub record Headed (E : Edition) (b : List ℕ) : Type 0 where
   pub count : countSize ≤ length b
   pub offsets : offsetAt (countIn b) ≤ length b
   pub calls : List Call
-  pub is : changesOf b ≡ some calls
-  pub from : changesFrom b (countIn b) 0 (offsetAt (countIn b)) ≡ some calls
+  pub is : changesOf E b ≡ some calls
+  pub from : changesFrom E b (countIn b) 0 (offsetAt (countIn b)) ≡ some calls
 
 -- what is left begins with the change at its offset
-record Next (b : List ℕ) (n i low : ℕ) (rest : List Call) : Type 0 where
+record Next (E : Edition) (b : List ℕ) (n i low : ℕ) (rest : List Call) : Type 0 where
   calls : List Call
-  is : rest ≡ callAt b (offsetOf b i) ∷ calls
-  fits : sound b low (offsetOf b i) ≡ true
-  left : changesFrom b n (i + 1) (endOf b (offsetOf b i)) ≡ some calls
+  is : rest ≡ callAt E b (offsetOf b i) ∷ calls
+  fits : sound E b low (offsetOf b i) ≡ true
+  left : changesFrom E b n (i + 1) (endOf E b (offsetOf b i)) ≡ some calls
 
-pub headed-of : (b : List ℕ) → laid (changesOf b) ≡ true → Headed b
-headed-of b e = leb-cases countSize (length b)
+pub headed-of : (E : Edition) (b : List ℕ) → laid (changesOf E b) ≡ true → Headed E b
+headed-of E b e = leb-cases countSize (length b)
     (λ t h. leb-cases (offsetAt (countIn b)) (length b)
-    (λ u g. let q = headed-is b h g in
-    let L = laid-some (changesFrom b (countIn b) 0 (offsetAt (countIn b))) (sym (ap laid q) ∙ e) in
+    (λ u g. let q = headed-is E b h g in
+    let L = laid-some (changesFrom E b (countIn b) 0 (offsetAt (countIn b))) (sym (ap laid q) ∙ e) in
     record { count = h; offsets = g; calls = L .0; is = q ∙ L .1; from = L .1 })
-    (λ u g. let z : false ≡ true = offsetless b h (omega arith) ∙ e in clash (cc)))
-    (λ t h. let z : false ≡ true = countless b (omega arith) ∙ e in clash (cc))
+    (λ u g. let z : false ≡ true = offsetless E b h (omega arith) ∙ e in clash (cc)))
+    (λ t h. let z : false ≡ true = countless E b (omega arith) ∙ e in clash (cc))
 
-next : (b : List ℕ) (n i low : ℕ) (rest : List Call) → changesFrom b (suc n) i low ≡ some rest → Next b n i low rest
-next b n i low rest e = bool-cases (sound b low (offsetOf b i))
-    (λ t. go t (changesFrom b n (i + 1) (endOf b (offsetOf b i))) refl (rw t at e))
+next : (E : Edition) (b : List ℕ) (n i low : ℕ) (rest : List Call) → changesFrom E b (suc n) i low ≡ some rest → Next E b n i low rest
+next E b n i low rest e = bool-cases (sound E b low (offsetOf b i))
+    (λ t. go t (changesFrom E b n (i + 1) (endOf E b (offsetOf b i))) refl (rw t at e))
     (λ t. let z : none ≡ some rest = rw t at e in clash (cc))
   where
-    go : sound b low (offsetOf b i) ≡ true → (x : Option (List Call)) → changesFrom b n (i + 1) (endOf b (offsetOf b i)) ≡ x → also (callAt b (offsetOf b i)) x ≡ some rest → Next b n i low rest
+    go : sound E b low (offsetOf b i) ≡ true → (x : Option (List Call)) → changesFrom E b n (i + 1) (endOf E b (offsetOf b i)) ≡ x → also (callAt E b (offsetOf b i)) x ≡ some rest → Next E b n i low rest
     go t none q z = clash (cc)
     go t (some cs) q z = record { calls = cs; is = some-same (sym z); fits = t; left = q }
 
@@ -139,7 +139,7 @@ one-told ns lent l l' n i e d T =
 module _ {E : Edition} (f b : List ℕ) (R : Ready E f b) where
   start : Far E f b 0 f
   start =
-      let H = headed-of b (R .whole) in
+      let H = headed-of E b (R .whole) in
       let z : countIn b - 0 ≡ countIn b = omega arith in
       record { before = []; rest = H .calls; low = offsetAt (countIn b); split = H .is; left = rw z (H .from); long = refl; few = omega arith; numbers = []; made = refl; good = R .good }
 
@@ -152,29 +152,29 @@ module _ {E : Edition} (f b : List ℕ) (R : Ready E f b) where
   carry-start lent = (start, refl)
 
 module _ {E : Edition} {f b : List ℕ} {i : ℕ} {f' : List ℕ} (F : Far E f b i f') where
-  coming : i < countIn b → Next b (countIn b - (i + 1)) i (F .low) (F .rest)
+  coming : i < countIn b → Next E b (countIn b - (i + 1)) i (F .low) (F .rest)
   coming h =
       let z : countIn b - i ≡ suc (countIn b - (i + 1)) = omega arith in
-      next b (countIn b - (i + 1)) i (F .low) (F .rest) (rw z at (F .left))
+      next E b (countIn b - (i + 1)) i (F .low) (F .rest) (rw z at (F .left))
 
-  pub far-at : i < countIn b → (o : ℕ) → o ≡ offsetOf b i → o < 4294967296 → Standing E f' × At b o
+  pub far-at : i < countIn b → (o : ℕ) → o ≡ offsetOf b i → o < 4294967296 → Standing E f' × At E b o
   far-at h o e n =
-      let S = sound-has b (F .low) (offsetOf b i) (coming h .fits) in
+      let S = sound-has E b (F .low) (offsetOf b i) (coming h .fits) in
       (F .good, rw e record { near = rw e at n; head = S .head; ends = S .ends })
 
   pub far-long : length (F .numbers) ≡ i
   far-long = made-long E f (F .before) (F .numbers) f' (F .made) ∙ F .long
 
-  pub far-more : i < countIn b → (o : ℕ) → o ≡ offsetOf b i → (m : ℕ) (f'' : List ℕ) → Called E f' (callAt b o) m f'' → (G : Far E f b (i + 1) f'') × (G .numbers ≡ F .numbers ++ m ∷ [])
+  pub far-more : i < countIn b → (o : ℕ) → o ≡ offsetOf b i → (m : ℕ) (f'' : List ℕ) → Called E f' (callAt E b o) m f'' → (G : Far E f b (i + 1) f'') × (G .numbers ≡ F .numbers ++ m ∷ [])
   far-more h o e m f'' C0 =
       let N = coming h in
-      let c = callAt b (offsetOf b i) in
+      let c = callAt E b (offsetOf b i) in
       let C : Called E f' c m f'' = rw e at C0 in
       let w = called-stands E f' c m f'' (F .good .st) (F .good .stands) C in (
         record {
           before = F .before ++ c ∷ [];
           rest = N .calls;
-          low = endOf b (offsetOf b i);
+          low = endOf E b (offsetOf b i);
           split = F .split ∙ ap some (ap (λ (x : List Call). F .before ++ x) (N .is) ∙ sym (append-assoc (F .before) (c ∷ []) (N .calls)));
           left = N .left;
           long = omega (arith, length-append (F .before) (c ∷ []), F .long);
@@ -186,11 +186,11 @@ module _ {E : Edition} {f b : List ℕ} {i : ℕ} {f' : List ℕ} (F : Far E f b
         refl,
       )
 
-  pub trial-more : Unrefused (F .numbers) → i < countIn b → (o : ℕ) → o ≡ offsetOf b i → (m : ℕ) (f'' : List ℕ) → Called E f' (callAt b o) m f'' × (m < 256) → isRefusal m ≡ false
+  pub trial-more : Unrefused (F .numbers) → i < countIn b → (o : ℕ) → o ≡ offsetOf b i → (m : ℕ) (f'' : List ℕ) → Called E f' (callAt E b o) m f'' × (m < 256) → isRefusal m ≡ false
       → (G : Far E f b (i + 1) f'') × Unrefused (G .numbers)
   trial-more U h o e m f'' D t = let G = far-more h o e m f'' (D .0) in (G .0, rw (G .1) (unrefused-more (F .numbers) m U t))
 
-  pub carry-more : (lent l l' : List ℕ) → l ≡ told (F .numbers) lent → i < countIn b → (o : ℕ) → o ≡ offsetOf b i → (m : ℕ) (f'' : List ℕ) → Called E f' (callAt b o) m f'' × (m < 256) → ToldAt l i m l'
+  pub carry-more : (lent l l' : List ℕ) → l ≡ told (F .numbers) lent → i < countIn b → (o : ℕ) → o ≡ offsetOf b i → (m : ℕ) (f'' : List ℕ) → Called E f' (callAt E b o) m f'' × (m < 256) → ToldAt l i m l'
       → (G : Far E f b (i + 1) f'') × (l' ≡ told (G .numbers) lent)
   carry-more lent l l' e0 h o e m f'' D T = let G = far-more h o e m f'' (D .0) in (G .0, rw (G .1) (one-told (F .numbers) lent l l' m i e0 far-long T))
 
@@ -211,11 +211,11 @@ module _ {E : Edition} {f b : List ℕ} {i : ℕ} {f' : List ℕ} (F : Far E f b
 
   -- ---- the first that is refused
 
-  pub tried-halted : Unrefused (F .numbers) → i < countIn b → i < 4294967295 → (o : ℕ) → o ≡ offsetOf b i → (m : ℕ) (f'' : List ℕ) → Called E f' (callAt b o) m f'' × (m < 256) → isRefusal m ≡ true
+  pub tried-halted : Unrefused (F .numbers) → i < countIn b → i < 4294967295 → (o : ℕ) → o ≡ offsetOf b i → (m : ℕ) (f'' : List ℕ) → Called E f' (callAt E b o) m f'' × (m < 256) → isRefusal m ≡ true
       → Tried E f b (record { number = m; place = i + 1 }) f''
   tried-halted U h small o e m f'' D t =
       let N = coming h in
-      let c = callAt b (offsetOf b i) in
+      let c = callAt E b (offsetOf b i) in
       let C : Called E f' c m f'' = rw e at (D .0) in
       let k = kept-by E f' c m f'' C t in
       record {

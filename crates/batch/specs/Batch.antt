@@ -64,10 +64,10 @@ pub record BatchPromise (E : Edition) (f g b lent : List ℕ) (n at : ℕ) (f' g
   pub told : Told E f n
   -- "a second frame of another length gets 7 likewise, before 12"
   pub length7 : Good E f → length g ≢ length f → n ≡ 7
-  pub layout12 : Good E f → length g ≡ length f → changesOf b ≡ none → n ≡ 12
-  pub done : Good E f → length g ≡ length f → (cs : List Call) → changesOf b ≡ some cs → isRefusal n ≡ false → Carried E f cs lent n at f' g' lent'
-  pub stopped : Good E f → length g ≡ length f → (cs : List Call) → changesOf b ≡ some cs → isRefusal n ≡ true → Stopped E f cs lent n at f' g' lent'
+  pub layout12 : Good E f → length g ≡ length f → changesOf E b ≡ none → n ≡ 12
+  pub done : Good E f → length g ≡ length f → (cs : List Call) → changesOf E b ≡ some cs → isRefusal n ≡ false → Carried E f cs lent n at f' g' lent'
+  pub stopped : Good E f → length g ≡ length f → (cs : List Call) → changesOf E b ≡ some cs → isRefusal n ≡ true → Stopped E f cs lent n at f' g' lent'
   -- 1, 2, 7 and 12
   pub bad : (Good E f → ⊥) → Refused f g lent at f' g' lent'
   pub other : length g ≢ length f → Refused f g lent at f' g' lent'
-  pub unlaid : changesOf b ≡ none → Refused f g lent at f' g' lent'
+  pub unlaid : changesOf E b ≡ none → Refused f g lent at f' g' lent'

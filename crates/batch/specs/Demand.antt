@@ -17,9 +17,9 @@ abbrev pub secondLength : List ℕ → List ℕ → Ground
 secondLength f g = record { number = 7; applies = length g ≢ length f }
 
 -- "offsets run back, overlap or point outside, or .. a change of unknown kind, gets 12"
-abbrev pub notLaid : List ℕ → Ground
-notLaid b = record { number = 12; applies = changesOf b ≡ none }
+abbrev pub notLaid : Edition → List ℕ → Ground
+notLaid E b = record { number = 12; applies = changesOf E b ≡ none }
 
 pub record BatchDemand1 (E : Edition) : Type 0 where
   pub batch : (f g b lent : List ℕ) (n at : ℕ) (f' g' lent' : List ℕ) → BatchPromise E f g b lent n at f' g' lent'
-      → FirstOf (wrongLength f ∷ notGood E f ∷ secondLength f g ∷ notLaid b ∷ []) (0 ∷ 3 ∷ 4 ∷ 5 ∷ 6 ∷ []) n × (Refusal n → (f' ≡ f) × (lent' ≡ lent))
+      → FirstOf (wrongLength f ∷ notGood E f ∷ secondLength f g ∷ notLaid E b ∷ []) (0 ∷ 3 ∷ 4 ∷ 5 ∷ 6 ∷ []) n × (Refusal n → (f' ≡ f) × (lent' ≡ lent))

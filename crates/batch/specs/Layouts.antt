@@ -3,6 +3,7 @@ use Prim.Native.Nat.{ℕ}
 use mathlib.Core.Path.{_≡_}
 use mathlib.Core.List.{List, [], _∷_}
 use mathlib.Core.Option.{none, some}
+use Rattle.model.specs.Edition.{edition1, edition2, unstamped}
 use Rattle.model.specs.Call.{put, erase}
 use Rattle.batch.specs.Layout.{changesOf}
 
@@ -17,18 +18,28 @@ two =
 abbrev pub one : ℕ → ℕ → ℕ → List ℕ
 one offset kind keyLength = 1 ∷ 0 ∷ 0 ∷ 0 ∷ offset ∷ 0 ∷ 0 ∷ 0 ∷ kind ∷ 0 ∷ keyLength ∷ 0 ∷ 0 ∷ 0 ∷ 0 ∷ 0 ∷ []
 
+-- edition 2: put a=1 with stamp 258 (18 bytes from 12), erase a with a stamp that is not used (17 bytes from 30)
+abbrev pub stamped : List ℕ
+stamped =
+    2 ∷ 0 ∷ 0 ∷ 0 ∷ 12 ∷ 0 ∷ 0 ∷ 0 ∷ 30 ∷ 0 ∷ 0 ∷ 0
+    ∷ 1 ∷ 0 ∷ 1 ∷ 0 ∷ 1 ∷ 0 ∷ 0 ∷ 0 ∷ 2 ∷ 1 ∷ 0 ∷ 0 ∷ 0 ∷ 0 ∷ 0 ∷ 0 ∷ 97 ∷ 49
+    ∷ 3 ∷ 0 ∷ 1 ∷ 0 ∷ 0 ∷ 0 ∷ 0 ∷ 0 ∷ 7 ∷ 0 ∷ 0 ∷ 0 ∷ 0 ∷ 0 ∷ 0 ∷ 0 ∷ 97 ∷ []
+
 pub record Layouts : Type 0 where
-  pub plain : changesOf two ≡ some (put (97 ∷ []) (49 ∷ []) ∷ erase (97 ∷ []) ∷ [])
+  pub stamps : changesOf edition2 stamped ≡ some (put (97 ∷ []) (record { bytes = 49 ∷ []; stamp = 258 }) ∷ erase (97 ∷ []) ∷ [])
+  -- no room for a stamp
+  pub stampless : changesOf edition2 (one 8 3 0) ≡ none
+  pub plain : changesOf edition1 two ≡ some (put (97 ∷ []) (unstamped (49 ∷ [])) ∷ erase (97 ∷ []) ∷ [])
   -- no change at all
-  pub empty : changesOf (0 ∷ 0 ∷ 0 ∷ 0 ∷ []) ≡ some []
+  pub empty : changesOf edition1 (0 ∷ 0 ∷ 0 ∷ 0 ∷ []) ≡ some []
   -- shorter than its count; an offset that is not there; a count that is too large
-  pub short : changesOf (0 ∷ 0 ∷ 0 ∷ []) ≡ none
-  pub outside : changesOf (1 ∷ 0 ∷ 0 ∷ 0 ∷ []) ≡ none
-  pub large : changesOf (255 ∷ 255 ∷ 255 ∷ 255 ∷ []) ≡ none
+  pub short : changesOf edition1 (0 ∷ 0 ∷ 0 ∷ []) ≡ none
+  pub outside : changesOf edition1 (1 ∷ 0 ∷ 0 ∷ 0 ∷ []) ≡ none
+  pub large : changesOf edition1 (255 ∷ 255 ∷ 255 ∷ 255 ∷ []) ≡ none
   -- the offset lies in the header, or past the end; an unknown kind; a key that runs past the end
-  pub inHeader : changesOf (one 7 3 0) ≡ none
-  pub past : changesOf (one 9 3 0) ≡ none
-  pub kind4 : changesOf (one 8 4 0) ≡ none
-  pub keyPast : changesOf (one 8 3 1) ≡ none
+  pub inHeader : changesOf edition1 (one 7 3 0) ≡ none
+  pub past : changesOf edition1 (one 9 3 0) ≡ none
+  pub kind4 : changesOf edition1 (one 8 4 0) ≡ none
+  pub keyPast : changesOf edition1 (one 8 3 1) ≡ none
   -- an empty key is no fault of the layout: the change gets its own 3
-  pub emptyKey : changesOf (one 8 3 0) ≡ some (erase [] ∷ [])
+  pub emptyKey : changesOf edition1 (one 8 3 0) ≡ some (erase [] ∷ [])

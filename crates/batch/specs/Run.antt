@@ -15,23 +15,23 @@ use Rattle.batch.specs.Batch.{Unrefused, told, Stopped}
 use Rattle.batch.specs.declared.run.Ended.{Ended}
 
 -- a change at o that lies within the batch
-pub record At (b : List ℕ) (o : ℕ) : Type 0 where
+pub record At (E : Edition) (b : List ℕ) (o : ℕ) : Type 0 where
   pub near : o < 4294967296
-  pub head : o + atKey ≤ length b
-  pub ends : endOf b o ≤ length b
+  pub head : o + atKey E ≤ length b
+  pub ends : endOf E b o ≤ length b
 
 -- a good frame, and a batch
 pub record Ready (E : Edition) (f b : List ℕ) : Type 0 where
   pub good : Standing E f
-  pub whole : laid (changesOf b) ≡ true
+  pub whole : laid (changesOf E b) ≡ true
 
 -- from f the first i changes are made, which gave these numbers and left f'
 pub record Far (E : Edition) (f b : List ℕ) (i : ℕ) (f' : List ℕ) : Type 0 where
   pub before : List Call
   pub rest : List Call
   pub low : ℕ
-  pub split : changesOf b ≡ some (before ++ rest)
-  pub left : changesFrom b (countIn b - i) i low ≡ some rest
+  pub split : changesOf E b ≡ some (before ++ rest)
+  pub left : changesFrom E b (countIn b - i) i low ≡ some rest
   pub long : length before ≡ i
   pub few : i ≤ countIn b
   pub numbers : List ℕ
@@ -41,7 +41,7 @@ pub record Far (E : Edition) (f b : List ℕ) (i : ℕ) (f' : List ℕ) : Type 0
 -- all changes are made
 pub record All (E : Edition) (f b : List ℕ) (numbers f' : List ℕ) : Type 0 where
   pub calls : List Call
-  pub whole : changesOf b ≡ some calls
+  pub whole : changesOf E b ≡ some calls
   pub made : Made E f calls numbers f'
 
 -- the answer n to change i is told, if there is room
@@ -59,4 +59,4 @@ pub record CarriedOut (E : Edition) (f b lent f' lent' : List ℕ) : Type 0 wher
 pub record Tried (E : Edition) (f b : List ℕ) (r : Ended) (f' : List ℕ) : Type 0 where
   pub bounded : (r .number < 256) × (r .place ≤ 4294967295)
   pub through : r .place ≡ 0 → (r .number ≡ 0) × ((numbers : List ℕ) × All E f b numbers f' × Unrefused numbers)
-  pub halted : (r .place ≡ 0 → ⊥) → (isRefusal (r .number) ≡ true) × ((cs : List Call) (lent : List ℕ) → changesOf b ≡ some cs → Stopped E f cs lent (r .number) (r .place) f f' lent)
+  pub halted : (r .place ≡ 0 → ⊥) → (isRefusal (r .number) ≡ true) × ((cs : List Call) (lent : List ℕ) → changesOf E b ≡ some cs → Stopped E f cs lent (r .number) (r .place) f f' lent)

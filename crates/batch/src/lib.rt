@@ -37,7 +37,7 @@ pub fn apply(
             place: 0,
         };
     }
-    if !laid::well_laid(batch) {
+    if !laid::well_laid(batch, edition) {
         return Ended {
             number: NOT_LAID,
             place: 0,

@@ -11,7 +11,7 @@ use lib.Dec.{eqb}
 use borrow.Author.Tests.{eq-eqb, ne-eqb}
 use Rattle.layout.specs.Kind.{Leaf, shrinkMark, kindDown}
 use Rattle.model.specs.Strings.{pick, same, shared}
-use Rattle.model.specs.Edition.{Edition}
+use Rattle.model.specs.Edition.{Edition, Value}
 use Rattle.model.specs.Tree.{Art, Kids, isInner, count, has, carried, findTree, extentOf, Change, over, Left, LeftKids, lessOne, loneChild, underPrefix, close, closeUnder, afterKids, consKid, fromChild, eraseTree, eraseKids}
 use Rattle.model.specs.Tree.Left.{gone, one, kept}
 use Rattle.model.specs.Tree.LeftKids.{fewer, still}
@@ -78,7 +78,7 @@ lost-shrinks u s kind g (kid b j l (kid b' j' l' ks)) h n = rw (eq-eqb (size (ki
 done-kept : (st : State) (c : Change Left) (a : Art) → (st .R ≡ 1 → ⊥) → c .now ≡ kept a → eraseDone st c ≡ pick (room st c) (done 0 (after st c (st .R - 1) (some a))) (done 6 st)
 done-kept st c a n e = rw (ne-eqb (st .R) 1 n, e) refl
 
-pub erase-is : (E : Edition) (st : State) (k v : List ℕ) (a a' : Art) (c : Change Left) → st .tree ≡ some a → findTree E a 0 k ≡ some v → eraseChange E a k ≡ c → c .now ≡ kept a' → (st .R ≡ 1 → ⊥)
+pub erase-is : (E : Edition) (st : State) (k : List ℕ) (v : Value) (a a' : Art) (c : Change Left) → st .tree ≡ some a → findTree E a 0 k ≡ some v → eraseChange E a k ≡ c → c .now ≡ kept a' → (st .R ≡ 1 → ⊥)
     → callErase E st k ≡ pick (room st c) (done 0 (after st c (st .R - 1) (some a'))) (done 6 st)
 erase-is E st k v a a' c et ef ec en n = ap (eraseIn E st k) et ∙ ap (eraseFound E st k a) ef ∙ ap (eraseDone st) ec ∙ done-kept st c a' n en
 
@@ -93,13 +93,13 @@ module _ (E : Edition) (k : List ℕ) (d b j : ℕ) (e : getD (E .walked k) d 0 
   kids-kept a a' c (Kids.kid x i y ls) rs q n h = rw (other-byte E k d b j e x (has b ls) h) (ap (over (λ xs. consKid x i y xs)) (kids-kept a a' c ls rs q n (not-byte b x (has b ls) h .1)))
 
   -- the child is the key's Leaf, and goes
-  kids-gone : (k' v' : List ℕ) (ls rs : Kids) → same k k' ≡ true → has b ls ≡ false → eraseKids E (appKids ls (Kids.kid b j (Art.leaf k' v') rs)) d k
+  kids-gone : (k' : List ℕ) (v' : Value) (ls rs : Kids) → same k k' ≡ true → has b ls ≡ false → eraseKids E (appKids ls (Kids.kid b j (Art.leaf k' v') rs)) d k
       ≡ record { now = fewer (appKids ls rs); takes = []; frees = Leaf ∷ []; extent = 0; dead = extentOf k' v'; fresh = false }
   unfolding appKids
   kids-gone k' v' Kids.nil rs q h = rw (eq-eqb b (getD (E .walked k) d 0) (sym e), q) refl
   kids-gone k' v' (Kids.kid x i y ls) rs q h = rw (other-byte E k d b j e x (has b ls) h) (ap (over (λ xs. consKid x i y xs)) (kids-gone k' v' ls rs q (not-byte b x (has b ls) h .1)))
 
-  pub node-erase : (kind : ℕ) (k' v' : List ℕ) (ls rs : LayKids) → same k k' ≡ true → hasByte b ls ≡ false
+  pub node-erase : (kind : ℕ) (k' : List ℕ) (v' : Value) (ls rs : LayKids) → same k k' ≡ true → hasByte b ls ≡ false
       → eraseTree E (Art.node kind (appKids (artKids ls) (Kids.kid b j (Art.leaf k' v') (artKids rs)))) d k
       ≡ lessOne kind (appKids (artKids ls) (artKids rs)) (record { now = gone; takes = []; frees = Leaf ∷ []; extent = 0; dead = extentOf k' v'; fresh = false })
   node-erase kind k' v' ls rs q h = ap (λ (c : Change LeftKids). afterKids kind (c .now) c) (kids-gone k' v' (artKids ls) (artKids rs) q (has-is b ls ∙ h))
@@ -198,7 +198,7 @@ module _ (E : Edition) (k : List ℕ) where
       all-touch xs (plug1 x t) (not-leaf x t) (h .1) ∙ step-touch x t xs (length (pathOf xs)) n (h .0) ∙ ap (λ m. touchErase E t (aboveOf (x ∷ xs)) m k) (sym (path-length x xs))
 
   -- at the node that loses the Leaf
-  pub node-touch : (d b j : ℕ) (g o' e' : ℕ) (k' v' : List ℕ) (ls rs : LayKids) (u : Above) (s o kind : ℕ) → getD (E .walked k) d 0 ≡ b → hasByte b ls ≡ false
+  pub node-touch : (d b j : ℕ) (g o' e' : ℕ) (k' : List ℕ) (v' : Value) (ls rs : LayKids) (u : Above) (s o kind : ℕ) → getD (E .walked k) d 0 ≡ b → hasByte b ls ≡ false
       → touchErase E (node s o kind (app ls (kid b j (leaf g o' e' k' v') rs))) u d k ≡ touchLost u s kind g (app ls rs)
   node-touch d b j g o' e' k' v' ls rs u s o kind e h =
       touch-app d b j (leaf g o' e' k' v') ls rs u s kind (app ls (kid b j (leaf g o' e' k' v') rs)) e h ∙ ap (touchLost u s kind g) (app-without b j (leaf g o' e' k' v') ls rs h)

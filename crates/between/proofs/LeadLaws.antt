@@ -12,7 +12,7 @@ use lib.Dec.{ltb, eqb}
 use borrow.Author.Tests.{eq-eqb, ne-eqb, lt-ltb, le-ltb}
 use Rattle.layout.specs.Kind.{most, kindUp}
 use Rattle.model.specs.Strings.{pick, shared}
-use Rattle.model.specs.Edition.{Edition}
+use Rattle.model.specs.Edition.{Edition, Value, textOf}
 use Rattle.model.specs.Item.{extent}
 use Rattle.model.specs.Tree.{Art, Kids, extentOf, count, has, join, placeIn, carried, over, newKey, findTree, findKids, putTree, putKids}
 use Rattle.model.proofs.StandsGood.{length-pairs}
@@ -115,7 +115,7 @@ module _ (E : Edition) (k : List ℕ) (d b j : ℕ) (e : getD (E .walked k) d 0 
   pub other-byte : (c : ℕ) (y : Bool) → pick (eqb b c) true y ≡ false → eqb c (getD (E .walked k) d 0) ≡ false
   other-byte c y h = ne-eqb c (getD (E .walked k) d 0) (λ q. not-byte b c y h .0 (q ∙ e))
 
-  put-app : (v : List ℕ) (a : Art) (ls rs : Kids) → has b ls ≡ false → putKids E (appKids ls (Kids.kid b j a rs)) d k v ≡ over (λ x. appKids ls (Kids.kid b j x rs)) (putTree E a (d + 1) k v)
+  put-app : (v : Value) (a : Art) (ls rs : Kids) → has b ls ≡ false → putKids E (appKids ls (Kids.kid b j a rs)) d k v ≡ over (λ x. appKids ls (Kids.kid b j x rs)) (putTree E a (d + 1) k v)
   unfolding appKids
   put-app v a Kids.nil rs h = rw (eq-eqb b (getD (E .walked k) d 0) (sym e)) refl
   put-app v a (Kids.kid c i y ls) rs h = rw (other-byte c (has b ls) h) (ap (over (λ xs. Kids.kid c i y xs)) (put-app v a ls rs (not-byte b c (has b ls) h .1)))
@@ -130,7 +130,7 @@ module _ (E : Edition) (k : List ℕ) (d b j : ℕ) (e : getD (E .walked k) d 0 
   look-app t nil rs h = rw (eq-eqb b (getD (E .walked k) d 0) (sym e)) refl
   look-app t (kid c i y ls) rs h = rw (other-byte c (hasByte b ls) h) (look-app t ls rs (not-byte b c (hasByte b ls) h .1))
 
-  touch-app : (v : List ℕ) (t : Lay) (ls rs : LayKids) (s : ℕ) → hasByte b ls ≡ false → touchPutKids E (app ls (kid b j t rs)) s d k v ≡ touchPut E t s (d + 1) k v
+  touch-app : (v : Value) (t : Lay) (ls rs : LayKids) (s : ℕ) → hasByte b ls ≡ false → touchPutKids E (app ls (kid b j t rs)) s d k v ≡ touchPut E t s (d + 1) k v
   unfolding app
   touch-app v t nil rs s h = rw (eq-eqb b (getD (E .walked k) d 0) (sym e)) refl
   touch-app v t (kid c i y ls) rs s h = rw (other-byte c (hasByte b ls) h) (touch-app v t ls rs s (not-byte b c (hasByte b ls) h .1))
@@ -147,7 +147,7 @@ HangsIn [] a = Unit {0}
 HangsIn (x ∷ xs) a = Hangs1 x a × HangsIn xs (artStep x a)
 
 module _ (E : Edition) (k : List ℕ) where
-  step-put : (v : List ℕ) (x : Step) (a : Art) (d : ℕ) → Hangs1 x a → Takes E k d x → putTree E (artStep x a) d k v ≡ over (artStep x) (putTree E a (d + length (stepPath x)) k v)
+  step-put : (v : Value) (x : Step) (a : Art) (d : ℕ) → Hangs1 x a → Takes E k d x → putTree E (artStep x a) d k v ≡ over (artStep x) (putTree E a (d + length (stepPath x)) k v)
   unfolding artStep Takes stepPath Hangs1
   step-put v (under s o p) a d g h = put-atop E p a d k v g h
   step-put v (among s o kind ls b j rs) a d g h =
@@ -164,7 +164,7 @@ module _ (E : Edition) (k : List ℕ) where
   step-look (under s o p) t d h = rw (eq-eqb (shared p (drop d (E .walked k))) (length p) h) refl
   step-look (among s o kind ls b j rs) t d h = look-app E k d b j (h .0) t ls rs (h .1)
 
-  step-touch : (v : List ℕ) (x : Step) (t : Lay) (n d : ℕ) → Takes E k d x → touchPut E (plug1 x t) n d k v ≡ touchPut E t (stepSlot x) (d + length (stepPath x)) k v
+  step-touch : (v : Value) (x : Step) (t : Lay) (n d : ℕ) → Takes E k d x → touchPut E (plug1 x t) n d k v ≡ touchPut E t (stepSlot x) (d + length (stepPath x)) k v
   unfolding plug1 Takes stepPath
   step-touch v (under s o p) t n d h = rw (eq-eqb (shared p (drop d (E .walked k))) (length p) h) refl
   step-touch v (among s o kind ls b j rs) t n d h =
@@ -217,7 +217,7 @@ unfolding pathOf
 path-length x xs = length-append (pathOf xs) (stepPath x)
 
 module _ (E : Edition) (k : List ℕ) where
-  all-put : (v : List ℕ) (xs : List Step) (a : Art) → HangsIn xs a → TakesAll E k xs → putTree E (artIn xs a) 0 k v ≡ over (artIn xs) (putTree E a (length (pathOf xs)) k v)
+  all-put : (v : Value) (xs : List Step) (a : Art) → HangsIn xs a → TakesAll E k xs → putTree E (artIn xs a) 0 k v ≡ over (artIn xs) (putTree E a (length (pathOf xs)) k v)
   unfolding artIn pathOf TakesAll HangsIn
   all-put v [] a g h = refl
   all-put v (x ∷ xs) a g h =
@@ -234,14 +234,14 @@ module _ (E : Edition) (k : List ℕ) where
   all-look [] t h = refl
   all-look (x ∷ xs) t h = all-look xs (plug1 x t) (h .1) ∙ step-look E k x t (length (pathOf xs)) (h .0) ∙ ap (λ n. findLay E t n k) (sym (path-length x xs))
 
-  all-touch : (v : List ℕ) (xs : List Step) (t : Lay) → TakesAll E k xs → touchPut E (plug xs t) 0 0 k v ≡ touchPut E t (holderOf xs) (length (pathOf xs)) k v
+  all-touch : (v : Value) (xs : List Step) (t : Lay) → TakesAll E k xs → touchPut E (plug xs t) 0 0 k v ≡ touchPut E t (holderOf xs) (length (pathOf xs)) k v
   unfolding plug pathOf TakesAll
   all-touch v [] t h = refl
   all-touch v (x ∷ xs) t h =
       all-touch v xs (plug1 x t) (h .1) ∙ step-touch E k v x t (holderOf xs) (length (pathOf xs)) (h .0) ∙ ap (λ n. touchPut E t (stepSlot x) n k v) (sym (path-length x xs))
 
 module _ {E : Edition} {k : List ℕ} {xs : List Step} {r : List ℕ} (L : Leads E k xs r) where
-  pub plug-put : (v : List ℕ) (a : Art) → HangsIn xs a → putTree E (artIn xs a) 0 k v ≡ over (artIn xs) (putTree E a (length (pathOf xs)) k v)
+  pub plug-put : (v : Value) (a : Art) → HangsIn xs a → putTree E (artIn xs a) 0 k v ≡ over (artIn xs) (putTree E a (length (pathOf xs)) k v)
   plug-put v a g = all-put E k v xs a g (leads-takes L)
 
   pub plug-find : (a : Art) → findTree E (artIn xs a) 0 k ≡ findTree E a (length (pathOf xs)) k
@@ -250,12 +250,12 @@ module _ {E : Edition} {k : List ℕ} {xs : List Step} {r : List ℕ} (L : Leads
   pub plug-look : (t : Lay) → findLay E (plug xs t) 0 k ≡ findLay E t (length (pathOf xs)) k
   plug-look t = all-look E k xs t (leads-takes L)
 
-  pub plug-touch : (v : List ℕ) (t : Lay) → touchPut E (plug xs t) 0 0 k v ≡ touchPut E t (holderOf xs) (length (pathOf xs)) k v
+  pub plug-touch : (v : Value) (t : Lay) → touchPut E (plug xs t) 0 0 k v ≡ touchPut E t (holderOf xs) (length (pathOf xs)) k v
   plug-touch v t = all-touch E k v xs t (leads-takes L)
 
 -- ---- where a new value stands
 
-pub leaf-look : (E : Edition) (s o e : ℕ) (k v : List ℕ) (d : ℕ) → findLay E (leaf s o e k v) d k ≡ some (record { at = e + length k; long = length v })
+pub leaf-look : (E : Edition) (s o e : ℕ) (k : List ℕ) (v : Value) (d : ℕ) → findLay E (leaf s o e k v) d k ≡ some (record { at = e + length k; long = length (textOf v); stamp = v .stamp })
 leaf-look E s o e k v d = rw (same-refl k) refl
 
 -- at a child that joined, and in a Node4 of two
@@ -273,17 +273,17 @@ join-look E k d b i t (kid c j l ks) e h =
     go x y ih true = rw x refl
     go x y ih false = rw y ih
 
-pub found-extent : (e : ℕ) (k v : List ℕ) → extentAt (length k) (some (record { at = e + length k; long = length v })) ≡ extent e (extentOf k v) ∷ []
+pub found-extent : (e : ℕ) (k : List ℕ) (v : Value) → extentAt (length k) (some (record { at = e + length k; long = length (textOf v); stamp = v .stamp })) ≡ extent e (extentOf k v) ∷ []
 found-extent e k v = let q : e + length k - length k ≡ e = omega arith in rw q refl
 
 -- where the extent of a key stands whose way ends at its Leaf
-pub plug-extent : {E : Edition} {k : List ℕ} {xs : List Step} {r : List ℕ} → Leads E k xs r → (root : Root) (s o e : ℕ) (v : List ℕ) → root ≡ tree (plug xs (leaf s o e k v)) → extentAt (length k) (findAt E root k) ≡ extent e (extentOf k v) ∷ []
+pub plug-extent : {E : Edition} {k : List ℕ} {xs : List Step} {r : List ℕ} → Leads E k xs r → (root : Root) (s o e : ℕ) (v : Value) → root ≡ tree (plug xs (leaf s o e k v)) → extentAt (length k) (findAt E root k) ≡ extent e (extentOf k v) ∷ []
 plug-extent {E} {k} {xs} L root s o e v q =
     ap (λ (z : Root). extentAt (length k) (findAt E z k)) q ∙ ap (extentAt (length k)) (plug-look L (leaf s o e k v) ∙ leaf-look E s o e k v (length (pathOf xs))) ∙ found-extent e k v
 
 -- ---- put at a node without that byte
 
-module _ (E : Edition) (k v : List ℕ) (d b kind : ℕ) (ks : LayKids) (e : getD (E .walked k) d 0 ≡ b) (absent : hasByte b ks ≡ false) where
+module _ (E : Edition) (k : List ℕ) (v : Value) (d b kind : ℕ) (ks : LayKids) (e : getD (E .walked k) d 0 ≡ b) (absent : hasByte b ks ≡ false) where
   missing : has (getD (E .walked k) d 0) (artKids ks) ≡ false
   missing = rw e (has-is b ks ∙ absent)
 

@@ -1,5 +1,5 @@
 -- The theorems of `demands`, of calls that were made. Assumes nothing.
-use Prim.Native.Nat.{ℕ}
+use Prim.Native.Nat.{ℕ, _<_}
 use mathlib.Core.Path.{_≡_, refl, sym, ap, subst, _∙_}
 use mathlib.Core.List.{List, [], _++_, append-nil}
 use mathlib.Core.Option.{Option, none, some}
@@ -7,7 +7,7 @@ use mathlib.Core.Logic.{_≢_}
 use lib.ListN.{length, take, drop}
 use lib.Seq.{take-length, drop-length}
 use Rattle.layout.specs.Number.{Bytes}
-use Rattle.model.specs.Edition.{Edition, editionOf, Legal}
+use Rattle.model.specs.Edition.{Edition, editionOf, Value, textOf, Legal}
 use Rattle.model.specs.Records.{Record, lookup, upsert}
 use Rattle.model.specs.Promise.{FormatPromise, LookUpPromise, PutPromise, ReplacePromise, PutOrReplacePromise, PackPromise}
 use Rattle.model.specs.Call.{Call, put, replace, edited}
@@ -31,16 +31,16 @@ use Rattle.demanded.specs.Readings.{ReadInNew, ReadInImage}
 
 -- ---- demand 3
 
-pub of-bytes : (e : Kind) (k v : List ℕ) → Bytes k → Bytes v → OfBytes (callOf e k v)
-of-bytes Put k v bk bv = (bytes-all k bk, bytes-all v bv)
-of-bytes Replace k v bk bv = (bytes-all k bk, bytes-all v bv)
-of-bytes Erase k v bk bv = bytes-all k bk
+pub of-bytes : (E : Edition) (e : Kind) (k : List ℕ) (v : Value) → Bytes k → Bytes (textOf v) → v .stamp < E .stamps → OfBytes E (callOf e k v)
+of-bytes E Put k v bk bv held = (bytes-all k bk, (bytes-all (textOf v) bv, held))
+of-bytes E Replace k v bk bv held = (bytes-all k bk, (bytes-all (textOf v) bv, held))
+of-bytes E Erase k v bk bv held = bytes-all k bk
 
 -- a copy of all the bytes
 pub copied : (f g : List ℕ) → length g ≡ length f → take (length f) f ++ drop (length f) g ≡ f
 copied f g e = let z : drop (length f) g ≡ [] = ap (λ (n : ℕ). drop n g) (sym e) ∙ drop-length g in rw (take-length f, z) (append-nil f)
 
-in-both-orders : (ed : ℕ) {f o p f' o' g' p' : List ℕ} {c d : Call} {x y : Given} → OfBytes c → OfBytes d → InOrder (editionOf ed) f o c d x f' o' → InOrder (editionOf ed) f p d c y g' p' → InBothOrders (editionOf ed) f o p c d x y f' o' g' p'
+in-both-orders : (ed : ℕ) {f o p f' o' g' p' : List ℕ} {c d : Call} {x y : Given} → OfBytes (editionOf ed) c → OfBytes (editionOf ed) d → InOrder (editionOf ed) f o c d x f' o' → InOrder (editionOf ed) f p d c y g' p' → InBothOrders (editionOf ed) f o p c d x y f' o' g' p'
 in-both-orders ed {f} {o} {p} {f'} {o'} {g'} {p'} {c} {d} {x} {y} bc bd F B = record {
   forth = F;
   back = B;
@@ -50,11 +50,11 @@ in-both-orders ed {f} {o} {p} {f'} {o'} {g'} {p'} {c} {d} {x} {y} bc bd F B = re
 }
 
 -- h is the copy
-module _ (ed : ℕ) (e : Kind) (k v : List ℕ) (bk : Bytes k) (bv : Bytes v) (e' : Kind) (k' v' : List ℕ) (bk' : Bytes k') (bv' : Bytes v') where
+module _ (ed : ℕ) (e : Kind) (k : List ℕ) (v : Value) (bk : Bytes k) (bv : Bytes (textOf v)) (held : v .stamp < editionOf ed .stamps) (e' : Kind) (k' : List ℕ) (v' : Value) (bk' : Bytes k') (bv' : Bytes (textOf v')) (held' : v' .stamp < editionOf ed .stamps) where
   pub ordered : (g : List ℕ) {f o h p f' o' g' p' : List ℕ} {x y : Given} → length g ≡ length f → h ≡ take (length f) f ++ drop (length f) g → InOrder (editionOf ed) f o (callOf e k v) (callOf e' k' v') x f' o' → InOrder (editionOf ed) h p (callOf e' k' v') (callOf e k v) y g' p'
       → Ordered (editionOf ed) f o g p (callOf e k v) (callOf e' k' v') (Made x y) f' o' g' p'
   ordered g {f} {p = p} {g' = g'} {p' = p'} {y = y} q z F B =
-      (q, in-both-orders ed (of-bytes e k v bk bv) (of-bytes e' k' v' bk' bv') F (subst (λ (l : List ℕ). InOrder (editionOf ed) l p (callOf e' k' v') (callOf e k v) y g' p') (z ∙ copied f g q) B))
+      (q, in-both-orders ed (of-bytes (editionOf ed) e k v bk bv held) (of-bytes (editionOf ed) e' k' v' bk' bv' held') F (subst (λ (l : List ℕ). InOrder (editionOf ed) l p (callOf e' k' v') (callOf e k v) y g' p') (z ∙ copied f g q) B))
 
 pub packed-both : (ed : ℕ) {f o g p : List ℕ} {r : Packs} {o' p' : List ℕ} → PackPromise (editionOf ed) f o (r .first) o' → PackPromise (editionOf ed) g p (r .second) p' → PackedBoth (editionOf ed) f o g p r o' p'
 packed-both ed {f} {o} {g} {p} {r} {o'} {p'} F S =
@@ -62,12 +62,12 @@ packed-both ed {f} {o} {g} {p} {r} {o'} {p'} F S =
 
 -- ---- demand 2
 
-module _ (ed : ℕ) (k v : List ℕ) (bk : Bytes k) (bv : Bytes v) where
+module _ (ed : ℕ) (k : List ℕ) (v : Value) (bk : Bytes k) (bv : Bytes (textOf v)) (held : v .stamp < editionOf ed .stamps) where
   abbrev E : Edition
   E = editionOf ed
 
-  b : OfBytes (put k v)
-  b = (bytes-all k bk, bytes-all v bv)
+  b : OfBytes E (put k v)
+  b = (bytes-all k bk, (bytes-all (textOf v) bv, held))
 
   record Kept (f' : List ℕ) (rs : List Record) : Type 0 where
     pub legal : Legal E k
@@ -79,7 +79,7 @@ module _ (ed : ℕ) (k v : List ℕ) (bk : Bytes k) (bv : Bytes v) where
       let is : edited (put k v) rs ≡ upsert k v rs = rw e in
       record { legal = did (lawfulOf ed) (faults ed) f (put k v) n f' (h .state) b P (h .stands) r .legal .0; holds = subst (Holds E f') is (two ed .change f (put k v) n f' rs b P h r .0); there = lookup-upsert k v rs }
 
-  replace-kept : {f f' : List ℕ} {n : ℕ} {rs : List Record} {w : List ℕ} → ReplacePromise E f k v n f' → Holds E f rs → NotRefused n → lookup k rs ≡ some w → Kept f' rs
+  replace-kept : {f f' : List ℕ} {n : ℕ} {rs : List Record} {w : Value} → ReplacePromise E f k v n f' → Holds E f rs → NotRefused n → lookup k rs ≡ some w → Kept f' rs
   replace-kept {f} {f'} {n} {rs} P h r e =
       let is : edited (replace k v) rs ≡ upsert k v rs = rw e in
       record { legal = did (lawfulOf ed) (faults ed) f (replace k v) n f' (h .state) b P (h .stands) r .legal .0; holds = subst (Holds E f') is (two ed .change f (replace k v) n f' rs b P h r .0); there = lookup-upsert k v rs }
@@ -90,7 +90,7 @@ module _ (ed : ℕ) (k v : List ℕ) (bk : Bytes k) (bv : Bytes v) where
       asked : (lookup k rs ≡ none → PutPromise E f k v n f') × (lookup k rs ≢ none → ReplacePromise E f k v n f')
       asked = two ed .putOrReplace f k v n f' rs (b .0) P h
 
-      go : (o : Option (List ℕ)) → lookup k rs ≡ o → Kept f' rs
+      go : (o : Option Value) → lookup k rs ≡ o → Kept f' rs
       go none e = put-kept (asked .0 e) h r e
       go (some w) e = replace-kept (asked .1 (λ z. clash (let y : some w ≡ none = sym e ∙ z in cc))) h r e
 

@@ -5,7 +5,7 @@ use mathlib.Core.Path.{_≡_}
 use mathlib.Core.List.{List}
 use mathlib.Core.Logic.{_↔_, _≢_}
 use lib.ListN.{length}
-use Rattle.model.specs.Edition.{Edition}
+use Rattle.model.specs.Edition.{Edition, Value}
 use Rattle.model.specs.Records.{Record}
 use Rattle.model.specs.Promise.{PackPromise}
 use Rattle.model.specs.Call.{Call, put, replace, erase, keyOf, Called}
@@ -17,7 +17,7 @@ use Rattle.demanded.specs.declared.orders.Orders.{Orders}
 use Rattle.demanded.specs.declared.orders.Orders.the-variants.{Made, Uncopied}
 use Rattle.demanded.specs.declared.orders.Packs.{Packs}
 
-abbrev pub callOf : Kind → List ℕ → List ℕ → Call
+abbrev pub callOf : Kind → List ℕ → Value → Call
 callOf Put k v = put k v
 callOf Replace k v = replace k v
 callOf Erase k v = erase k

@@ -6,6 +6,7 @@ use store::put::put;
 use store::put::replace;
 ghost use Rattle.model.specs.Edition.{editionOf};
 ghost use Rattle.model.specs.Call.{Called};
+ghost use Rattle.store.specs.Write.{valueFor};
 ghost use Rattle.demanded.specs.Orders.{callOf, InOrder, Ordered, PackedBoth};
 
 // The numbers that two calls gave, one after the other, and packing after them.
@@ -22,19 +23,26 @@ pub enum Orders {
     Uncopied,
 }
 
-// What is done at a key. An erase has no use for the value.
+// What is done at a key. An erase has no use for the value and the stamp.
 pub enum Kind {
     Put,
     Replace,
     Erase,
 }
 
-pub fn change(frame: &mut [u8], kind: Kind, key: &[u8], value: &[u8], edition: usize) -> u32
-    ensures { λ n. ⌜ Called (editionOf edition) (now (frame .entry)) (callOf kind (now (key .entry)) (now (value .entry))) n (now (frame .exit)) ⌝ }
+pub fn change(
+    frame: &mut [u8],
+    kind: Kind,
+    key: &[u8],
+    value: &[u8],
+    stamp: usize,
+    edition: usize,
+) -> u32
+    ensures { λ n. ⌜ Called (editionOf edition) (now (frame .entry)) (callOf kind (now (key .entry)) (valueFor (editionOf edition) (now (value .entry)) stamp)) n (now (frame .exit)) ⌝ }
 {
     match kind {
-        Kind::Put => answers::put_number(put(frame, key, value, edition)),
-        Kind::Replace => answers::replace_number(replace(frame, key, value, edition)),
+        Kind::Put => answers::put_number(put(frame, key, value, stamp, edition)),
+        Kind::Replace => answers::replace_number(replace(frame, key, value, stamp, edition)),
         Kind::Erase => answers::erase_number(erase(frame, key, edition)),
     }
 }
@@ -46,15 +54,31 @@ fn in_order(
     first_kind: Kind,
     first_key: &[u8],
     first_value: &[u8],
+    first_stamp: usize,
     second_kind: Kind,
     second_key: &[u8],
     second_value: &[u8],
+    second_stamp: usize,
     edition: usize,
 ) -> Given
-    ensures { λ r. ⌜ InOrder (editionOf edition) (now (frame .entry)) (now (out .entry)) (callOf «first_kind» (now («first_key» .entry)) (now («first_value» .entry))) (callOf «second_kind» (now («second_key» .entry)) (now («second_value» .entry))) r (now (frame .exit)) (now (out .exit)) ⌝ }
+    ensures { λ r. ⌜ InOrder (editionOf edition) (now (frame .entry)) (now (out .entry)) (callOf «first_kind» (now («first_key» .entry)) (valueFor (editionOf edition) (now («first_value» .entry)) «first_stamp»)) (callOf «second_kind» (now («second_key» .entry)) (valueFor (editionOf edition) (now («second_value» .entry)) «second_stamp»)) r (now (frame .exit)) (now (out .exit)) ⌝ }
 {
-    let first = change(frame, first_kind, first_key, first_value, edition);
-    let second = change(frame, second_kind, second_key, second_value, edition);
+    let first = change(
+        frame,
+        first_kind,
+        first_key,
+        first_value,
+        first_stamp,
+        edition,
+    );
+    let second = change(
+        frame,
+        second_kind,
+        second_key,
+        second_value,
+        second_stamp,
+        edition,
+    );
     let packed = answers::pack_number(pack(frame, out, edition));
     Given {
         first,
@@ -73,12 +97,14 @@ pub fn both_orders(
     first_kind: Kind,
     first_key: &[u8],
     first_value: &[u8],
+    first_stamp: usize,
     second_kind: Kind,
     second_key: &[u8],
     second_value: &[u8],
+    second_stamp: usize,
     edition: usize,
 ) -> Orders
-    ensures { λ r. ⌜ Ordered (editionOf edition) (now (frame .entry)) (now (out .entry)) (now (copy .entry)) (now («copy_out» .entry)) (callOf «first_kind» (now («first_key» .entry)) (now («first_value» .entry))) (callOf «second_kind» (now («second_key» .entry)) (now («second_value» .entry))) r (now (frame .exit)) (now (out .exit)) (now (copy .exit)) (now («copy_out» .exit)) ⌝ }
+    ensures { λ r. ⌜ Ordered (editionOf edition) (now (frame .entry)) (now (out .entry)) (now (copy .entry)) (now («copy_out» .entry)) (callOf «first_kind» (now («first_key» .entry)) (valueFor (editionOf edition) (now («first_value» .entry)) «first_stamp»)) (callOf «second_kind» (now («second_key» .entry)) (valueFor (editionOf edition) (now («second_value» .entry)) «second_stamp»)) r (now (frame .exit)) (now (out .exit)) (now (copy .exit)) (now («copy_out» .exit)) ⌝ }
 {
     if copy.len() != frame.len() {
         return Orders::Uncopied;
@@ -90,9 +116,11 @@ pub fn both_orders(
         first_kind,
         first_key,
         first_value,
+        first_stamp,
         second_kind,
         second_key,
         second_value,
+        second_stamp,
         edition,
     );
     let back = in_order(
@@ -101,9 +129,11 @@ pub fn both_orders(
         second_kind,
         second_key,
         second_value,
+        second_stamp,
         first_kind,
         first_key,
         first_value,
+        first_stamp,
         edition,
     );
     Orders::Made(forth, back)

@@ -5,6 +5,7 @@ use answers;
 use pack::pack;
 ghost use mathlib.Core.List.{[], _∷_};
 ghost use Rattle.model.specs.Edition.{editionOf};
+ghost use Rattle.store.specs.Write.{valueFor};
 ghost use Rattle.demanded.specs.Orders.{callOf};
 ghost use Rattle.demanded.specs.Sequences.{InRow, InAnyOrder};
 
@@ -30,19 +31,43 @@ fn in_row(
     first_kind: Kind,
     first_key: &[u8],
     first_value: &[u8],
+    first_stamp: usize,
     second_kind: Kind,
     second_key: &[u8],
     second_value: &[u8],
+    second_stamp: usize,
     third_kind: Kind,
     third_key: &[u8],
     third_value: &[u8],
+    third_stamp: usize,
     edition: usize,
 ) -> Three
-    ensures { λ r. ⌜ InRow (editionOf edition) (now (frame .entry)) (now (out .entry)) (callOf «first_kind» (now («first_key» .entry)) (now («first_value» .entry)) ∷ callOf «second_kind» (now («second_key» .entry)) (now («second_value» .entry)) ∷ callOf «third_kind» (now («third_key» .entry)) (now («third_value» .entry)) ∷ []) r (now (frame .exit)) (now (out .exit)) ⌝ }
+    ensures { λ r. ⌜ InRow (editionOf edition) (now (frame .entry)) (now (out .entry)) (callOf «first_kind» (now («first_key» .entry)) (valueFor (editionOf edition) (now («first_value» .entry)) «first_stamp») ∷ callOf «second_kind» (now («second_key» .entry)) (valueFor (editionOf edition) (now («second_value» .entry)) «second_stamp») ∷ callOf «third_kind» (now («third_key» .entry)) (valueFor (editionOf edition) (now («third_value» .entry)) «third_stamp») ∷ []) r (now (frame .exit)) (now (out .exit)) ⌝ }
 {
-    let first = change(frame, first_kind, first_key, first_value, edition);
-    let second = change(frame, second_kind, second_key, second_value, edition);
-    let third = change(frame, third_kind, third_key, third_value, edition);
+    let first = change(
+        frame,
+        first_kind,
+        first_key,
+        first_value,
+        first_stamp,
+        edition,
+    );
+    let second = change(
+        frame,
+        second_kind,
+        second_key,
+        second_value,
+        second_stamp,
+        edition,
+    );
+    let third = change(
+        frame,
+        third_kind,
+        third_key,
+        third_value,
+        third_stamp,
+        edition,
+    );
     let packed = answers::pack_number(pack(frame, out, edition));
     Three {
         first,
@@ -62,15 +87,18 @@ pub fn last_first(
     first_kind: Kind,
     first_key: &[u8],
     first_value: &[u8],
+    first_stamp: usize,
     second_kind: Kind,
     second_key: &[u8],
     second_value: &[u8],
+    second_stamp: usize,
     third_kind: Kind,
     third_key: &[u8],
     third_value: &[u8],
+    third_stamp: usize,
     edition: usize,
 ) -> Rows
-    ensures { λ r. ⌜ InAnyOrder (editionOf edition) (now (frame .entry)) (now (out .entry)) (now (copy .entry)) (now («copy_out» .entry)) (callOf «first_kind» (now («first_key» .entry)) (now («first_value» .entry))) (callOf «second_kind» (now («second_key» .entry)) (now («second_value» .entry))) (callOf «third_kind» (now («third_key» .entry)) (now («third_value» .entry))) r (now (frame .exit)) (now (out .exit)) (now (copy .exit)) (now («copy_out» .exit)) ⌝ }
+    ensures { λ r. ⌜ InAnyOrder (editionOf edition) (now (frame .entry)) (now (out .entry)) (now (copy .entry)) (now («copy_out» .entry)) (callOf «first_kind» (now («first_key» .entry)) (valueFor (editionOf edition) (now («first_value» .entry)) «first_stamp»)) (callOf «second_kind» (now («second_key» .entry)) (valueFor (editionOf edition) (now («second_value» .entry)) «second_stamp»)) (callOf «third_kind» (now («third_key» .entry)) (valueFor (editionOf edition) (now («third_value» .entry)) «third_stamp»)) r (now (frame .exit)) (now (out .exit)) (now (copy .exit)) (now («copy_out» .exit)) ⌝ }
 {
     if copy.len() != frame.len() {
         return Rows::Uncopied;
@@ -82,12 +110,15 @@ pub fn last_first(
         first_kind,
         first_key,
         first_value,
+        first_stamp,
         second_kind,
         second_key,
         second_value,
+        second_stamp,
         third_kind,
         third_key,
         third_value,
+        third_stamp,
         edition,
     );
     let back = in_row(
@@ -96,12 +127,15 @@ pub fn last_first(
         third_kind,
         third_key,
         third_value,
+        third_stamp,
         first_kind,
         first_key,
         first_value,
+        first_stamp,
         second_kind,
         second_key,
         second_value,
+        second_stamp,
         edition,
     );
     Rows::Made(forth, back)

@@ -19,7 +19,7 @@ record Went (E : Edition) (s : State) (cs : List Call) (ns g : List ℕ) : Type 
   pub stands : Stands E g (stateAfter E s cs)
 
 module _ {E : Edition} (L : Lawful E) (faults : (k : List ℕ) → E .keyFault k ≤ 7) where
-  went : (f : List ℕ) (cs : List Call) (ns g : List ℕ) (s : State) → Stands E f s → AllOfBytes cs → Made E f cs ns g → NoneRefused ns → Went E s cs ns g
+  went : (f : List ℕ) (cs : List Call) (ns g : List ℕ) (s : State) → Stands E f s → AllOfBytes E cs → Made E f cs ns g → NoneRefused ns → Went E s cs ns g
   went f [] [] g s w b m r = record { passed = tt; told = refl; stands = rw (← m) w }
   went f [] (n ∷ ns) g s w b m r = absurd m
   went f (c ∷ cs) [] g s w b m r = absurd m

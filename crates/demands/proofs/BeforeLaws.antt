@@ -6,7 +6,7 @@ use mathlib.Core.List.{List, [], _∷_, _++_}
 use mathlib.Core.Option.{Option, none, some}
 use mathlib.Core.Logic.{inl, inr}
 use lib.ListN.{length}
-use Rattle.model.specs.Edition.{edition1, before1}
+use Rattle.model.specs.Edition.{Value, LegalValue, edition1, before1}
 use Rattle.model.specs.Tree.{Art, Kids}
 use Rattle.model.specs.Tree.Art.{leaf, prefix, node}
 use Rattle.model.specs.Tree.Kids.{nil, kid}
@@ -33,15 +33,18 @@ use Rattle.demands.proofs.Refusals.{unchanging}
 use Rattle.demands.proofs.Sets.{ascends, legals}
 use Rattle.demands.proofs.Theorems.{faults1}
 
+value-now : {v : Value} → LegalValue before1 v → LegalValue edition1 v
+value-now h = record { passes = h .passes; bytes = h .bytes; stamp = h .stamp }
+
 legal-now : (rs : List Record) → LegalRecords before1 rs → LegalRecords edition1 rs
 legal-now [] h = tt
-legal-now (r ∷ rs) h = (record { passes = h .0 .passes; bytes = h .0 .bytes }, h .1, legal-now rs (h .2))
+legal-now (r ∷ rs) h = (record { passes = h .0 .passes; bytes = h .0 .bytes }, value-now (h .1), legal-now rs (h .2))
 
 mutual
   well-now : (a : Art) (path : List ℕ) → Well before1 a path → Well edition1 a path
   well-now (leaf k v) path h =
       let L = h .starts in
-      record { starts = record { legal = record { passes = L .legal .passes; bytes = L .legal .bytes }; rest = L .rest; word = L .word }; fits = h .fits }
+      record { starts = record { legal = record { passes = L .legal .passes; bytes = L .legal .bytes }; rest = L .rest; word = L .word }; fits = value-now (h .fits) }
   well-now (prefix p a) path h = (h .0, well-now a (path ++ p) (h .1))
   well-now (node kind ks) path h = (h .0, kids-now ks path 0 (h .1))
 

@@ -11,7 +11,7 @@ use lib.ListN.{length, getD, drop}
 use lib.Dec.{eqb}
 use borrow.Author.Tests.{ne-eqb}
 use Rattle.model.specs.Strings.{All, Byte, same, shared}
-use Rattle.model.specs.Edition.{Edition, Lawful, Legal, LegalValue, valueFault}
+use Rattle.model.specs.Edition.{Edition, Lawful, Legal, LegalValue, valueFault, Value, textOf}
 use Rattle.model.specs.Records.{Record, recordsOf, lookup}
 use Rattle.model.specs.State.{State, Done, unless, Write, new, replacing, callWrite, onWrite, callErase}
 use Rattle.model.specs.Image.{image}
@@ -27,7 +27,7 @@ use Rattle.model.proofs.StateLaws.{packedState, pack-good}
 use Rattle.model.proofs.StandsGood.{stands-good, stands-heads}
 use Rattle.model.proofs.PackStands.{pack-stands}
 use Rattle.model.proofs.WorkedLaws.{called-stands}
-use Rattle.demands.specs.Words.{Refusal, NotRefused, Holds, slotsOf, OnlyAt, OfBytes}
+use Rattle.demands.specs.Words.{Passable, Refusal, NotRefused, Holds, slotsOf, OnlyAt, OfBytes}
 use Rattle.demands.proofs.RoomLaws.{faulty, faultless}
 
 -- what document 01 gives as a refusal of a key
@@ -67,8 +67,8 @@ module _ (E : Edition) (f k : List ℕ) (c : Part) where
 
     lay-within : (path : List ℕ) (l : Lay) (d : ℕ) → Tree E f path l → findLay E l d k ≡ some c → c .at + c .long ≤ length f
     lay-within path (leaf s o e k' v) d T h = bool-cases (same k k')
-        (λ t. let r = T .1 .at .room in let q = some-is (record { at = e + length k'; long = length v }) c (rw t at h) in
-        let a : e + length k' ≡ c .at = ap (λ (p : Part). p .at) q in let b : length v ≡ c .long = ap (λ (p : Part). p .long) q in omega arith)
+        (λ t. let r = T .1 .at .room in let q = some-is (record { at = e + length k'; long = length (textOf v); stamp = v .stamp }) c (rw t at h) in
+        let a : e + length k' ≡ c .at = ap (λ (p : Part). p .at) q in let b : length (textOf v) ≡ c .long = ap (λ (p : Part). p .long) q in omega arith)
         (λ t. clash (let q = rw t at h in cc))
     lay-within path (prefix s o p l) d T h = bool-cases (eqb (shared p (drop d (E .walked k))) (length p))
         (λ t. lay-within (path ++ p) l (d + length p) (T .3) (rw t at h))
@@ -108,23 +108,23 @@ module _ {E : Edition} (L : Lawful E) (faults : (k : List ℕ) → E .keyFault k
       (λ t q. q)
       (λ t q. let z : n ≡ E .keyFault k = e ∙ ap (λ (x : Done). x .answer) (faulty (E .keyFault k) s d q) in absurd (r (rw z (low-refusal (E .keyFault k) q (faults k)))))
 
-  legal-value : (v : List ℕ) (n : ℕ) (s : State) (d : Done) → n ≡ unless (valueFault v) s d .answer → NotRefused n → length v ≤ 65535
-  legal-value v n s d e r = ltb-cases 65535 (length v)
+  legal-value : (v : Value) (n : ℕ) (s : State) (d : Done) → n ≡ unless (valueFault v) s d .answer → NotRefused n → length (textOf v) ≤ 65535
+  legal-value v n s d e r = ltb-cases 65535 (length (textOf v))
       (λ t o. let z : n ≡ 5 = e ∙ rw t in absurd (r (rw z)))
       (λ t o. o)
 
-  legal-write : (a : Write) (k v : List ℕ) (n : ℕ) (s : State) → All Byte k → All Byte v → n ≡ onWrite E a s k v .answer → NotRefused n → Legal E k × LegalValue v
+  legal-write : (a : Write) (k : List ℕ) (v : Value) (n : ℕ) (s : State) → All Byte k → Passable E v → n ≡ onWrite E a s k v .answer → NotRefused n → Legal E k × LegalValue E v
   legal-write a k v n s bk bv e r =
       let call = callWrite E a s k v in let d = unless (valueFault v) s call in
       let q = legal-key k n s d e r in
-      (record { passes = q; bytes = bk }, record { passes = legal-value v n s call (e ∙ ap (λ (x : Done). x .answer) (faultless (E .keyFault k) s d q)) r; bytes = bv })
+      (record { passes = q; bytes = bk }, record { passes = legal-value v n s call (e ∙ ap (λ (x : Done). x .answer) (faultless (E .keyFault k) s d q)) r; bytes = bv .0; stamp = bv .1 })
 
-  legal-of : (c : Call) (n : ℕ) (s : State) → OfBytes c → n ≡ onCall E s c .answer → NotRefused n → LegalCall E c
+  legal-of : (c : Call) (n : ℕ) (s : State) → OfBytes E c → n ≡ onCall E s c .answer → NotRefused n → LegalCall E c
   legal-of (put k v) n s b e r = legal-write new k v n s (b .0) (b .1) e r
   legal-of (replace k v) n s b e r = legal-write replacing k v n s (b .0) (b .1) e r
   legal-of (erase k) n s b e r = record { passes = legal-key k n s (callErase E s k) e r; bytes = b }
 
-  pub did : (f : List ℕ) (c : Call) (n : ℕ) (f' : List ℕ) (s : State) → OfBytes c → Called E f c n f' → Stands E f s → NotRefused n → Did E s c n f'
+  pub did : (f : List ℕ) (c : Call) (n : ℕ) (f' : List ℕ) (s : State) → OfBytes E c → Called E f c n f' → Stands E f s → NotRefused n → Did E s c n f'
   did f c n f' s b h w r =
       let p = called-stands E f c n f' s w h in
       let l = legal-of c n s b (p .0) r in

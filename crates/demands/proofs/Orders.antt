@@ -13,7 +13,7 @@ use Rattle.demands.proofs.DoneLaws.{good-called, differ, did, packed-of
 use Rattle.demands.proofs.Sets.{one-set}
 
 module _ {E : Edition} (L : Lawful E) (faults : (k : List ℕ) → E .keyFault k ≤ 7) where
-  in-order : (f : List ℕ) (c d : Call) (n m m' n' : ℕ) (g h g' h' : List ℕ) → OfBytes c → OfBytes d → keyOf c ≢ keyOf d
+  in-order : (f : List ℕ) (c d : Call) (n m m' n' : ℕ) (g h g' h' : List ℕ) → OfBytes E c → OfBytes E d → keyOf c ≢ keyOf d
       → Called E f c n g → Called E g d m h → Called E f d m' g' → Called E g' c n' h'
       → NotRefused n → NotRefused m → NotRefused m' → NotRefused n'
       → (n ≡ n') × (m ≡ m') × PackAlike E h h'

@@ -9,7 +9,7 @@ use mathlib.Core.Logic.{inl, inr, _≢_}
 use lib.ListN.{length}
 use borrow.Author.Tests.{ne-eqb}
 use Rattle.model.specs.Strings.{All, Byte, pick}
-use Rattle.model.specs.Edition.{Edition, Legal, LegalValue, Lawful, valueFault}
+use Rattle.model.specs.Edition.{Edition, Legal, LegalValue, Lawful, valueFault, Value, textOf}
 use Rattle.model.specs.Records.{recordsOf, lookup, absent}
 use Rattle.model.specs.State.{State, Done, unless, putChange, Write, new, replacing, either, callWrite, onWrite, callErase}
 use Rattle.model.specs.Visits.{visitsIn}
@@ -18,7 +18,7 @@ use Rattle.model.specs.Touch.{Part, findAt}
 use Rattle.model.specs.Promise.{Found, foundOf, onLookUp, LookUpPromise, changes}
 use Rattle.model.proofs.StringLaws.{eqb-cases, ltb-cases, clash}
 use Rattle.model.proofs.StandsGood.{stands-good}
-use Rattle.demands.specs.Words.{Refusal, Ground, OneOf, NoRoom, PutFull, ReplaceFull, EraseFull, keyLength, keyZero, valueLong, outputLength, putFull, replaceFull, putOrReplaceFull, eraseFull}
+use Rattle.demands.specs.Words.{Passable, Refusal, Ground, OneOf, NoRoom, PutFull, ReplaceFull, EraseFull, keyLength, keyZero, valueLong, outputLength, putFull, replaceFull, putOrReplaceFull, eraseFull}
 use Rattle.demands.specs.Demands.{Demand1}
 use Rattle.demands.proofs.FirstLaws.{Given, frame-first, KeyGiven}
 use Rattle.demands.proofs.RoomLaws.{of-state, faulty, faultless, Ends, idle, full, made, either-ends, new-ends, replace-ends, erase-ends}
@@ -52,8 +52,8 @@ module _ {E : Edition} (L : Lawful E) (key-given : KeyGiven E) where
       rw e (key-given k (onLookUp E r k .number) [] (0 ∷ 8 ∷ []) (look-fault E r k) (look-answer E r k))
 
   -- a value too long, and else what is given on the other grounds
-  value-given : (v : List ℕ) (n : ℕ) (s : State) (d : Done) (gs : List Ground) (answers : List ℕ) → n ≡ unless (valueFault v) s d .answer → (length v ≤ 65535 → n ≡ d .answer → Given gs answers n) → Given (valueLong v ∷ gs) answers n
-  value-given v n s d gs answers e h = ltb-cases 65535 (length v) (λ t o. inl (o, e ∙ rw t)) (λ t o. inr (λ x. omega arith, h o (e ∙ rw t)))
+  value-given : (v : Value) (n : ℕ) (s : State) (d : Done) (gs : List Ground) (answers : List ℕ) → n ≡ unless (valueFault v) s d .answer → (length (textOf v) ≤ 65535 → n ≡ d .answer → Given gs answers n) → Given (valueLong v ∷ gs) answers n
+  value-given v n s d gs answers e h = ltb-cases 65535 (length (textOf v)) (λ t o. inl (o, e ∙ rw t)) (λ t o. inr (λ x. omega arith, h o (e ∙ rw t)))
 
   -- no room as P says of the frame's state, and else the call's own answers
   ends-given : {I : Type 0} {i d n m : ℕ} (f : List ℕ) (s : State) (P : State → Type 0) (answers : List ℕ) → Stands E f s → OneOf i answers → OneOf d answers → n ≡ m → Ends I (P s) i d m
@@ -63,8 +63,8 @@ module _ {E : Edition} (L : Lawful E) (key-given : KeyGiven E) where
   ends-given f s P answers w x y is (made a b e) = inr (λ z. b (of-state E f s P w z), rw (is ∙ e) y)
 
   -- what a write gives in a good frame: 3, 4, 5, and then as it ends there
-  write-given : {I : Type 0} {i d : ℕ} (a : Write) (f k v : List ℕ) (n : ℕ) (s : State) (P : State → Type 0) (answers : List ℕ) → All Byte k → All Byte v → Stands E f s → OneOf i answers → OneOf d answers
-      → n ≡ onWrite E a s k v .answer → (Legal E k → LegalValue v → Ends I (P s) i d (callWrite E a s k v .answer))
+  write-given : {I : Type 0} {i d : ℕ} (a : Write) (f k : List ℕ) (v : Value) (n : ℕ) (s : State) (P : State → Type 0) (answers : List ℕ) → All Byte k → Passable E v → Stands E f s → OneOf i answers → OneOf d answers
+      → n ≡ onWrite E a s k v .answer → (Legal E k → LegalValue E v → Ends I (P s) i d (callWrite E a s k v .answer))
       → Given (keyLength E k ∷ keyZero E k ∷ valueLong v ∷ record { number = 6; applies = (z : State) × Stands E f z × P z } ∷ []) answers n
   write-given a f k v n s P answers bk bv w x y e ends =
       let call = callWrite E a s k v in let unlong = unless (valueFault v) s call in
@@ -72,7 +72,7 @@ module _ {E : Edition} (L : Lawful E) (key-given : KeyGiven E) where
       key-given k n (valueLong v ∷ no ∷ []) answers
       (λ q. e ∙ ap (λ (z : Done). z .answer) (faulty (E .keyFault k) s unlong q))
       (λ q. value-given v n s call (no ∷ []) answers (e ∙ ap (λ (z : Done). z .answer) (faultless (E .keyFault k) s unlong q))
-      (λ short is. ends-given f s P answers w x y is (ends (record { passes = q; bytes = bk }) (record { passes = short; bytes = bv }))))
+      (λ short is. ends-given f s P answers w x y is (ends (record { passes = q; bytes = bk }) (record { passes = short; bytes = bv .0; stamp = bv .1 }))))
 
   one-of-two : (b : Bool) → OneOf (pick b 0 9) (0 ∷ 9 ∷ [])
   one-of-two true = inl refl
@@ -90,7 +90,7 @@ module _ {E : Edition} (L : Lawful E) (key-given : KeyGiven E) where
     lookUp = λ f k g p. (
       frame-first E f (keyLength E k ∷ keyZero E k ∷ []) (0 ∷ 8 ∷ []) (g .number) refl refl (p .told) (look-given f k g p),
       λ r. let z = p .zeros (refused-not0 (g .number) r) in let u = p .unvisited (refused-not0 (g .number) r) (refused-not8 (g .number) r) in
-          λ i. record { number = g .number; place = z .0 i; long = z .1 i; slots = u i },
+          λ i. record { number = g .number; place = z .0 i; long = z .1 i; slots = u i; stamp = z .2 i },
     );
     value = λ f k at part h. let p = h .looked in let g = h .look in (
       frame-first E f (keyLength E k ∷ keyZero E k ∷ []) (0 ∷ 8 ∷ []) (g .number) refl refl (p .told) (look-given f k g p),

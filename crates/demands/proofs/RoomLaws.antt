@@ -8,7 +8,7 @@ use mathlib.Core.Option.{Option, none, some}
 use mathlib.Core.Logic.{_↔_, inl, inr, ⊎-elim, _≢_}
 use borrow.Author.Tests.{leb-false, ne-eqb}
 use Rattle.model.specs.Strings.{pick}
-use Rattle.model.specs.Edition.{Edition, Legal, LegalValue, Lawful}
+use Rattle.model.specs.Edition.{Edition, Legal, LegalValue, Lawful, Value}
 use Rattle.model.specs.Tree.{Art, Change}
 use Rattle.model.specs.Records.{recordsOf, lookup, absent}
 use Rattle.model.specs.State.{State, Done, done, unless, freshSlots, freshBytes, room, findIn, putChange, callPut, new, replacing, either, callWrite, eraseChange, callErase}
@@ -56,11 +56,11 @@ ends-room x y (idle a b e) = (λ q. absurd (x (sym e ∙ q)), λ f. absurd (b f)
 ends-room x y (full a e) = (λ q. a, λ f. e)
 ends-room x y (made a b e) = (λ q. absurd (y (sym e ∙ q)), λ f. absurd (b f))
 
-some-not : {o : Option (List ℕ)} {v : List ℕ} → o ≡ some v → o ≢ none
+some-not : {o : Option Value} {v : Value} → o ≡ some v → o ≢ none
 some-not {v = v} e z = clash (let y : some v ≡ none = sym e ∙ z in cc)
 
 module _ {E : Edition} (L : Lawful E) where
-  fits-full : (s : State) (k v : List ℕ) (t : Option Art) → GoodAt E s t → Legal E k → lookup k (recordsOf t) ≡ some v → eraseFits E s k t ≡ false → (2 ≤ s .R) × NoRoomIn E s t k
+  fits-full : (s : State) (k : List ℕ) (v : Value) (t : Option Art) → GoodAt E s t → Legal E k → lookup k (recordsOf t) ≡ some v → eraseFits E s k t ≡ false → (2 ≤ s .R) × NoRoomIn E s t k
   fits-full s k v none h l e r = clash (cc)
   fits-full s k v (some a) h l e r = eqb-cases (s .R) 1
       (λ t q. clash (let z = rw t at r in cc))
@@ -74,13 +74,13 @@ module _ {E : Edition} (L : Lawful E) where
   pub erase-ends : (s : State) (k : List ℕ) → GoodState E s → Legal E k → Ends (lookup k (recordsOf (s .tree)) ≡ none) (EraseFull E s k) 8 0 (callErase E s k .answer)
   erase-ends s k h l = go (lookup k (recordsOf (s .tree))) refl
     where
-      go : (o : Option (List ℕ)) → lookup k (recordsOf (s .tree)) ≡ o → Ends (lookup k (recordsOf (s .tree)) ≡ none) (EraseFull E s k) 8 0 (callErase E s k .answer)
+      go : (o : Option Value) → lookup k (recordsOf (s .tree)) ≡ o → Ends (lookup k (recordsOf (s .tree)) ≡ none) (EraseFull E s k) 8 0 (callErase E s k .answer)
       go none e = idle e (λ x. x .0 e) (ap (λ (d : Done). d .answer) (erase-missing L s k h l e))
       go (some v) e = bool-cases (eraseFits E s k (s .tree))
           (λ t. made (some-not e) (λ x. fits-not s k (s .tree) t (x .1) (x .2)) (erase-done L s k v h l e t .answer))
           (λ t. let q = fits-full s k v (s .tree) h l e t in full (some-not e, q .0, q .1) (ap (λ (d : Done). d .answer) (erase-full L s k v h l e t)))
 
-  module _ (s : State) (k v : List ℕ) (h : GoodState E s) (l : Legal E k) (m : LegalValue v) where
+  module _ (s : State) (k : List ℕ) (v : Value) (h : GoodState E s) (l : Legal E k) (m : LegalValue E v) where
     -- document 01's put, which is full where there is no room
     put-ends : {I F : Type 0} (i : ℕ) → (I → ⊥) → (NoRoom s (putChange E s k v) → F) → (F → NoRoom s (putChange E s k v)) → Ends I F i (pick (absent (lookup k (recordsOf (s .tree)))) 0 9) (callPut E s k v .answer)
     put-ends i x y z = let c = putChange E s k v in bool-cases (room s c)
@@ -93,7 +93,7 @@ module _ {E : Edition} (L : Lawful E) where
     pub new-ends : Ends (lookup k (recordsOf (s .tree)) ≢ none) (PutFull E s k v) 11 0 (callWrite E new s k v .answer)
     new-ends = go (lookup k (recordsOf (s .tree))) refl
       where
-        go : (o : Option (List ℕ)) → lookup k (recordsOf (s .tree)) ≡ o → Ends (lookup k (recordsOf (s .tree)) ≢ none) (PutFull E s k v) 11 0 (callWrite E new s k v .answer)
+        go : (o : Option Value) → lookup k (recordsOf (s .tree)) ≡ o → Ends (lookup k (recordsOf (s .tree)) ≢ none) (PutFull E s k v) 11 0 (callWrite E new s k v .answer)
         go none e = let u : findIn E (s .tree) k ≡ none = find-good L s k h l ∙ e in
             rw u (subst (λ n. Ends (lookup k (recordsOf (s .tree)) ≢ none) (PutFull E s k v) 11 n (callPut E s k v .answer)) (rw e) (put-ends 11 (λ x. x e) (λ q. (e, q)) (λ q. q .1)))
         go (some w) e = let u : findIn E (s .tree) k ≡ some w = find-good L s k h l ∙ e in rw u (idle (some-not e) (λ x. some-not e (x .0)) refl)
@@ -101,7 +101,7 @@ module _ {E : Edition} (L : Lawful E) where
     pub replace-ends : Ends (lookup k (recordsOf (s .tree)) ≡ none) (ReplaceFull E s k v) 8 9 (callWrite E replacing s k v .answer)
     replace-ends = go (lookup k (recordsOf (s .tree))) refl
       where
-        go : (o : Option (List ℕ)) → lookup k (recordsOf (s .tree)) ≡ o → Ends (lookup k (recordsOf (s .tree)) ≡ none) (ReplaceFull E s k v) 8 9 (callWrite E replacing s k v .answer)
+        go : (o : Option Value) → lookup k (recordsOf (s .tree)) ≡ o → Ends (lookup k (recordsOf (s .tree)) ≡ none) (ReplaceFull E s k v) 8 9 (callWrite E replacing s k v .answer)
         go none e = let u : findIn E (s .tree) k ≡ none = find-good L s k h l ∙ e in rw u (idle e (λ x. x .0 e) refl)
         go (some w) e = let u : findIn E (s .tree) k ≡ some w = find-good L s k h l ∙ e in
             rw u (subst (λ n. Ends (lookup k (recordsOf (s .tree)) ≡ none) (ReplaceFull E s k v) 8 n (callPut E s k v .answer)) (rw e) (put-ends 8 (some-not e) (λ q. (some-not e, q)) (λ q. q .1)))

@@ -12,7 +12,7 @@ use lib.Dec.{ltb, eqb}
 use borrow.Author.Tests.{le-ltb}
 use Rattle.layout.specs.Place.{dataStart}
 use Rattle.model.specs.Strings.{All, Byte, pick}
-use Rattle.model.specs.Edition.{Edition, Lawful, Legal, LegalValue, valueFault}
+use Rattle.model.specs.Edition.{Edition, Lawful, Legal, LegalValue, valueFault, Value, textOf}
 use Rattle.model.specs.Tree.{Art}
 use Rattle.model.specs.Records.{Record, recordsOf, lookup, absent, Ascending}
 use Rattle.model.specs.State.{State, Done, unless, formatted, findIn, putChange, callPut, Write, new, replacing, either, callWrite, onWrite, callErase}
@@ -26,7 +26,7 @@ use Rattle.model.proofs.StringLaws.{eqb-cases, leb-cases, clash}
 use Rattle.model.proofs.SetLaws.{lookup-all}
 use Rattle.model.proofs.GoodState.{TreeOk}
 use Rattle.model.proofs.StateLaws.{tree-ascending, find-good}
-use Rattle.model.proofs.UniqueLaws.{stands-unique}
+use Rattle.model.proofs.UniqueLaws.{value-same, stands-unique}
 use Rattle.model.proofs.StandsGood.{stands-good, stands-heads}
 use Rattle.model.proofs.FormatLaws.{empty-stands}
 use Rattle.model.proofs.PackedWords.{words-one}
@@ -39,15 +39,15 @@ use Rattle.demands.proofs.DoneLaws.{only-at, root-within, did, packed-t
 
 -- ---- numbers from a value that is there or not
 
-absent-or-there : (o : Option (List ℕ)) (n i j : ℕ) → i ≢ j → n ≡ pick (absent o) i j → ((n ≡ i) ↔ (o ≡ none)) × ((n ≡ j) ↔ (o ≢ none))
+absent-or-there : (o : Option Value) (n i j : ℕ) → i ≢ j → n ≡ pick (absent o) i j → ((n ≡ i) ↔ (o ≡ none)) × ((n ≡ j) ↔ (o ≢ none))
 absent-or-there none n i j d e = ((λ q. refl, λ x. e), (λ q. absurd (d (sym e ∙ q)), λ x. absurd (x refl)))
 absent-or-there (some v) n i j d e = ((λ q. absurd (d (sym q ∙ e)), λ x. clash (cc)), (λ q x. clash (cc), λ x. e))
 
-found-or-missing : (n : ℕ) (p : List ℕ) (o : Option (List ℕ)) → o ≡ pick (eqb n 0) (some p) none → OneOf n (0 ∷ 8 ∷ [])
-    → ((v : List ℕ) → (o ≡ some v) ↔ ((n ≡ 0) × (p ≡ v))) × ((n ≡ 8) ↔ (o ≡ none))
+found-or-missing : (n : ℕ) (p : Value) (o : Option Value) → o ≡ pick (eqb n 0) (some p) none → OneOf n (0 ∷ 8 ∷ [])
+    → ((v : Value) → (o ≡ some v) ↔ ((n ≡ 0) × (textOf p ≡ textOf v) × (p .stamp ≡ v .stamp))) × ((n ≡ 8) ↔ (o ≡ none))
 found-or-missing n p o e (inl z) =
     let q : o ≡ some p = e ∙ rw z in
-    (λ v. (λ x. (z, cc), λ x. q ∙ ap some (x .1)), (λ x. absurd (omega arith), λ x. clash (cc)))
+    (λ v. (λ x. (let y : p ≡ v = cc in (z, ap (λ (u : Value). textOf u) y, ap (λ (u : Value). u .stamp) y)), λ x. q ∙ ap some (value-same p v (x .1) (x .2))), (λ x. absurd (omega arith), λ x. clash (cc)))
 found-or-missing n p o e (inr (inl z)) =
     let q : o ≡ none = e ∙ rw z in
     (λ v. (λ x. clash (cc), λ x. (let y = x .0 in absurd (omega arith))), (λ x. q, λ x. z))
@@ -108,14 +108,14 @@ module _ {E : Edition} (L : Lawful E) (faults : (k : List ℕ) → E .keyFault k
   looked-up : (f k : List ℕ) (g : Found) (rs : List Record) → Legal E k → LookUpPromise E f k g → Holds E f rs → LookedUp f k g rs
   looked-up f k g rs l p h =
       let s = h .state in let w = h .stands in
-      let part = take (g .long) (drop (g .place) f) in
+      let part : Value = record { bytes = take (g .long) (drop (g .place) f); stamp = g .stamp } in
       let e : lookup k rs ≡ pick (eqb (g .number) 0) (some part) none = ap (λ (z : List Record). lookup k z) (sym (h .set)) ∙ sym (find-good L s k (stands-good E f s w) l) ∙ p .value s w (l .passes) in
       let a : OneOf (g .number) (0 ∷ 8 ∷ []) = rw (p .found s w) (look-answer E (w .root) k (l .passes)) in
       let q = found-or-missing (g .number) part (lookup k rs) e a in
       record { there0 = q .0; absent8 = q .1; within = look-within E f k g s w (l .passes) (p .found s w) }
 
   valued : (f k : List ℕ) (at : ℕ) (part : List ℕ) (rs : List Record) → Legal E k → ValuePromise E f k at part → Holds E f rs
-      → (part ≡ take (length part) (drop at f)) × ((v : List ℕ) → lookup k rs ≡ some v → part ≡ v) × (lookup k rs ≡ none → (at ≡ 0) × (part ≡ []))
+      → (part ≡ take (length part) (drop at f)) × ((v : Value) → lookup k rs ≡ some v → part ≡ textOf v) × (lookup k rs ≡ none → (at ≡ 0) × (part ≡ []))
   valued f k at part rs l p h =
       let g = p .look in let q = looked-up f k g rs l (p .looked) h in (
         rw (p .holds, p .starts) (part-of f (g .place) (g .long) (q .within)),
@@ -123,20 +123,20 @@ module _ {E : Edition} (L : Lawful E) (faults : (k : List ℕ) → E .keyFault k
         λ e. let z8 = q .absent8 .1 e in let z = p .looked .zeros (λ z0. omega arith) in (p .starts ∙ z .0, p .holds ∙ rw (z .1)),
       )
 
-  changed : (f : List ℕ) (c : Call) (n : ℕ) (f' : List ℕ) (rs : List Record) → OfBytes c → Called E f c n f' → Holds E f rs → NotRefused n
+  changed : (f : List ℕ) (c : Call) (n : ℕ) (f' : List ℕ) (rs : List Record) → OfBytes E c → Called E f c n f' → Holds E f rs → NotRefused n
       → Holds E f' (edited c rs) × OnlyAt (keyOf c) (given c (lookup (keyOf c) rs)) rs (edited c rs)
   changed f c n f' rs b p h r =
       let d = did L faults f c n f' (h .state) b p (h .stands) r in
       (record { state = _; stands = d .stands; set = d .work .set ∙ ap (edited c) (h .set) }, only-at c rs)
 
   -- an answer of the kind of call that a write is, on a legal key and value
-  on-legal : (a : Write) (k v : List ℕ) (n : ℕ) (s : State) → Legal E k → LegalValue v → n ≡ onWrite E a s k v .answer → n ≡ callWrite E a s k v .answer
-  on-legal a k v n s l m e = e ∙ rw (l .passes, le-ltb 65535 (length v) (m .passes))
+  on-legal : (a : Write) (k : List ℕ) (v : Value) (n : ℕ) (s : State) → Legal E k → LegalValue E v → n ≡ onWrite E a s k v .answer → n ≡ callWrite E a s k v .answer
+  on-legal a k v n s l m e = e ∙ rw (l .passes, le-ltb 65535 (length (textOf v)) (m .passes))
 
-  put-room : (f k v : List ℕ) (n : ℕ) (f' : List ℕ) (s : State) → Legal E k → LegalValue v → PutPromise E f k v n f' → Stands E f s → (n ≡ 6) ↔ PutFull E s k v
+  put-room : (f k : List ℕ) (v : Value) (n : ℕ) (f' : List ℕ) (s : State) → Legal E k → LegalValue E v → PutPromise E f k v n f' → Stands E f s → (n ≡ 6) ↔ PutFull E s k v
   put-room f k v n f' s l m p w = rw (on-legal new k v n s l m (p .answer s w)) (ends-room (λ z. omega arith) (λ z. omega arith) (new-ends L s k v (stands-good E f s w) l m))
 
-  replace-room : (f k v : List ℕ) (n : ℕ) (f' : List ℕ) (s : State) → Legal E k → LegalValue v → ReplacePromise E f k v n f' → Stands E f s → (n ≡ 6) ↔ ReplaceFull E s k v
+  replace-room : (f k : List ℕ) (v : Value) (n : ℕ) (f' : List ℕ) (s : State) → Legal E k → LegalValue E v → ReplacePromise E f k v n f' → Stands E f s → (n ≡ 6) ↔ ReplaceFull E s k v
   replace-room f k v n f' s l m p w = rw (on-legal replacing k v n s l m (p .answer s w)) (ends-room (λ z. omega arith) (λ z. omega arith) (replace-ends L s k v (stands-good E f s w) l m))
 
   erase-room : (f k : List ℕ) (n : ℕ) (f' : List ℕ) (s : State) → Legal E k → ErasePromise E f k n f' → Stands E f s → (n ≡ 6) ↔ EraseFull E s k
@@ -145,7 +145,7 @@ module _ {E : Edition} (L : Lawful E) (faults : (k : List ℕ) → E .keyFault k
       rw e (ends-room (λ z. omega arith) (λ z. omega arith) (erase-ends L s k (stands-good E f s w) l))
 
   -- the promise of a write is that of another which does the same to the frame's state
-  asked-as : (a b : Write) (f k v : List ℕ) (n : ℕ) (f' : List ℕ) → ((s : State) → Stands E f s → onWrite E a s k v ≡ onWrite E b s k v) → WritePromise E a f k v n f' → WritePromise E b f k v n f'
+  asked-as : (a b : Write) (f k : List ℕ) (v : Value) (n : ℕ) (f' : List ℕ) → ((s : State) → Stands E f s → onWrite E a s k v ≡ onWrite E b s k v) → WritePromise E a f k v n f' → WritePromise E b f k v n f'
   asked-as a b f k v n f' is p =
       record {
         told = p .told;
@@ -157,7 +157,7 @@ module _ {E : Edition} (L : Lawful E) (faults : (k : List ℕ) → E .keyFault k
         kept = p .kept;
       }
 
-  either-as : (b : Write) (f k v : List ℕ) (n : ℕ) (f' : List ℕ) (rs : List Record) → All Byte k → Holds E f rs → (o : Option (List ℕ)) → lookup k rs ≡ o
+  either-as : (b : Write) (f k : List ℕ) (v : Value) (n : ℕ) (f' : List ℕ) (rs : List Record) → All Byte k → Holds E f rs → (o : Option Value) → lookup k rs ≡ o
       → ((s : State) → findIn E (s .tree) k ≡ o → callPut E s k v ≡ callWrite E b s k v) → PutOrReplacePromise E f k v n f' → WritePromise E b f k v n f'
   either-as b f k v n f' rs bytes h o e is = asked-as either b f k v n f' (λ s w. eqb-cases (E .keyFault k) 0
       (λ t z.
@@ -165,14 +165,14 @@ module _ {E : Edition} (L : Lawful E) (faults : (k : List ℕ) → E .keyFault k
       ap (λ (d : Done). unless (E .keyFault k) s (unless (valueFault v) s d)) (is s found))
       (λ t z. rw t))
 
-  put-or-replace : (f k v : List ℕ) (n : ℕ) (f' : List ℕ) (rs : List Record) → All Byte k → PutOrReplacePromise E f k v n f' → Holds E f rs
+  put-or-replace : (f k : List ℕ) (v : Value) (n : ℕ) (f' : List ℕ) (rs : List Record) → All Byte k → PutOrReplacePromise E f k v n f' → Holds E f rs
       → (lookup k rs ≡ none → PutPromise E f k v n f') × (lookup k rs ≢ none → ReplacePromise E f k v n f')
   put-or-replace f k v n f' rs b p h = (
     λ e. either-as new f k v n f' rs b h none e (λ s q. rw q) p,
     there (lookup k rs) refl,
   )
     where
-      there : (o : Option (List ℕ)) → lookup k rs ≡ o → lookup k rs ≢ none → ReplacePromise E f k v n f'
+      there : (o : Option Value) → lookup k rs ≡ o → lookup k rs ≢ none → ReplacePromise E f k v n f'
       there none e x = absurd (x e)
       there (some u) e x = either-as replacing f k v n f' rs b h (some u) e (λ s q. rw q) p
 

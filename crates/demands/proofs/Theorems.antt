@@ -10,7 +10,7 @@ use lib.ListN.{length, getD, drop, replicate, length-drop}
 use lib.Seq.{length-take-le, getD-take, getD-drop}
 use lib.Dec.{ltb, eqb, lit<, lit≤}
 use Rattle.model.specs.Strings.{hasZero}
-use Rattle.model.specs.Edition.{edition1, edition2, editionOf, Legal, LegalValue}
+use Rattle.model.specs.Edition.{Value, textOf, unstamped, edition1, edition2, editionOf, Legal, LegalValue}
 use Rattle.model.specs.Tree.Art.{leaf}
 use Rattle.model.specs.Records.{Record}
 use Rattle.model.specs.State.{State, replacing, formatted}
@@ -91,14 +91,14 @@ a = 97 ∷ []
 abbrev b : List ℕ
 b = 98 ∷ []
 
-abbrev pub v : List ℕ
-v = 49 ∷ []
+abbrev pub v : Value
+v = unstamped (49 ∷ [])
 
-abbrev w : List ℕ
-w = 50 ∷ []
+abbrev w : Value
+w = unstamped (50 ∷ [])
 
-abbrev ww : List ℕ
-ww = 50 ∷ 50 ∷ []
+abbrev ww : Value
+ww = unstamped (50 ∷ 50 ∷ [])
 
 abbrev a1 : List Record
 a1 = record { key = a; value = v } ∷ []
@@ -109,7 +109,7 @@ a2 = record { key = a; value = w } ∷ []
 -- the first byte of the first value
 abbrev told : List Record → ℕ
 told [] = 0
-told (r ∷ rs) = getD (r .value) 0 0
+told (r ∷ rs) = getD (textOf (r .value)) 0 0
 
 abbrev pub state0 : State
 state0 = formatted 1024 8
@@ -123,14 +123,14 @@ legal-a = record { passes = refl; bytes = (lit< tt, tt) }
 legal-b : Legal edition1 b
 legal-b = record { passes = refl; bytes = (lit< tt, tt) }
 
-pub legal-v : LegalValue v
-legal-v = record { passes = lit≤ tt; bytes = (lit< tt, tt) }
+pub legal-v : LegalValue edition1 v
+legal-v = record { passes = lit≤ tt; bytes = (lit< tt, tt); stamp = lit< tt }
 
-legal-w : LegalValue w
-legal-w = record { passes = lit≤ tt; bytes = (lit< tt, tt) }
+legal-w : LegalValue edition1 w
+legal-w = record { passes = lit≤ tt; bytes = (lit< tt, tt); stamp = lit< tt }
 
-legal-ww : LegalValue ww
-legal-ww = record { passes = lit≤ tt; bytes = (lit< tt, (lit< tt, tt)) }
+legal-ww : LegalValue edition1 ww
+legal-ww = record { passes = lit≤ tt; bytes = (lit< tt, (lit< tt, tt)); stamp = lit< tt }
 
 pub length1024 : FrameLength 1024
 length1024 = (refl, lit≤ tt, lit≤ tt)
@@ -148,8 +148,8 @@ holding = (
 )
 
 -- full to the last byte, by one value
-abbrev long : List ℕ
-long = replicate 911 0
+abbrev long : Value
+long = unstamped (replicate 911 0)
 
 abbrev a3 : List Record
 a3 = record { key = a; value = long } ∷ []
@@ -157,8 +157,8 @@ a3 = record { key = a; value = long } ∷ []
 abbrev state3 : State
 state3 = imageState 1024 8 (some (leaf a long))
 
-legal-long : LegalValue long
-legal-long = record { passes = lit≤ tt; bytes = all-zeros 911 }
+legal-long : LegalValue edition1 long
+legal-long = record { passes = lit≤ tt; bytes = all-zeros 911; stamp = lit< tt }
 
 filled : (f : List ℕ) × Stands edition1 f state3
 filled = (
@@ -214,16 +214,16 @@ shut-out = record {
       let z = two1 .lookUp (holding .0) a _ a1 legal-a (p .1) holds1 .absent8 .0 refl in clash (cc);
   holdsNothing = λ h.
       let p = h (empty .0) a v (state0, empty .1) legal-a legal-v in
-      let q = two1 .change (empty .0) (put a v) (p .0) (p .1) [] (legal-a .bytes, legal-v .bytes) (p .2) holds0 (not0 (p .0) (p .2 .answer state0 (empty .1))) in
+      let q = two1 .change (empty .0) (put a v) (p .0) (p .1) [] (legal-a .bytes, (legal-v .bytes, legal-v .stamp)) (p .2) holds0 (not0 (p .0) (p .2 .answer state0 (empty .1))) in
       let z = two1 .one (p .1) [] a1 (p .3) (q .0) in clash (cc);
   onlyFirst = λ h.
       let p = h (holding .0) b v (record { key = a; value = v }) [] holds1 legal-b legal-v in
-      let q = two1 .change (holding .0) (put b v) 0 (holding .0) a1 (legal-b .bytes, legal-v .bytes) p holds1 (not0 0 refl) in
+      let q = two1 .change (holding .0) (put b v) 0 (holding .0) a1 (legal-b .bytes, (legal-v .bytes, legal-v .stamp)) p holds1 (not0 0 refl) in
       let z : _≡_ {A = ℕ} 1 2 = ap length (two1 .one (holding .0) a1 _ holds1 (q .0)) in omega arith;
   overwrites = λ h.
       let p = h (holding .0) a w a1 holds1 legal-a legal-w (λ z. clash (cc)) in
       let n : p .0 ≡ 11 = p .2 .answer state1 (holding .1) in
-      let q = two1 .change (holding .0) (put a w) (p .0) (p .1) a1 (legal-a .bytes, legal-w .bytes) (p .2) holds1 (λ r. clash (let z = rw n at r in cc)) in
+      let q = two1 .change (holding .0) (put a w) (p .0) (p .1) a1 (legal-a .bytes, (legal-w .bytes, legal-w .stamp)) (p .2) holds1 (λ r. clash (let z = rw n at r in cc)) in
       let z : _≡_ {A = ℕ} 49 50 = ap told (two1 .one (p .1) a1 a2 (q .0) (p .3)) in omega arith;
   roomFirst = λ h.
       let p = h (filled .0) a w state3 (filled .1) legal-a legal-w (inr (lit≤ tt)) in
@@ -231,12 +231,12 @@ shut-out = record {
   putsIn = λ h.
       let p = h (empty .0) a v [] holds0 legal-a legal-v refl in
       let n : p .0 ≡ 8 = p .2 .answer state0 (empty .1) in
-      let q = two1 .change (empty .0) (replace a v) (p .0) (p .1) [] (legal-a .bytes, legal-v .bytes) (p .2) holds0 (λ r. clash (let z = rw n at r in cc)) in
+      let q = two1 .change (empty .0) (replace a v) (p .0) (p .1) [] (legal-a .bytes, (legal-v .bytes, legal-v .stamp)) (p .2) holds0 (λ r. clash (let z = rw n at r in cc)) in
       let z = two1 .one (p .1) [] a1 (q .0) (p .3) in clash (cc);
   keepsOld = λ h.
       let p = h (holding .0) a w a1 holds1 legal-a legal-w (λ z. clash (cc)) in
       let n : p .0 ≡ 9 = p .2 .answer state1 (holding .1) in
-      let q = two1 .change (holding .0) (replace a w) (p .0) (p .1) a1 (legal-a .bytes, legal-w .bytes) (p .2) holds1 (λ r. clash (let z = rw n at r in cc)) in
+      let q = two1 .change (holding .0) (replace a w) (p .0) (p .1) a1 (legal-a .bytes, (legal-w .bytes, legal-w .stamp)) (p .2) holds1 (λ r. clash (let z = rw n at r in cc)) in
       let z : _≡_ {A = ℕ} 49 50 = ap told (two1 .one (p .1) a1 a2 (p .3) (q .0)) in omega arith;
   fixedImage = λ h.
       let f = empty .0 in let g = holding .0 in

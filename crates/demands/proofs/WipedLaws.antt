@@ -13,7 +13,7 @@ use borrow.Author.Tests.{eq-eqb, ne-eqb}
 use Rattle.layout.specs.Number.{le}
 use Rattle.layout.specs.Place.{atD, atB, dataStart}
 use Rattle.model.specs.Strings.{pick, same, shared}
-use Rattle.model.specs.Edition.{Edition, edition1, before1, Lawful}
+use Rattle.model.specs.Edition.{Edition, edition1, before1, Lawful, Value, textOf}
 use Rattle.model.specs.Tree.{Art, Kids, up8, extentOf, findTree, findKids, putTree, putKids, has}
 use Rattle.model.specs.Tree.Art.{leaf, prefix, node}
 use Rattle.model.specs.Tree.Kids.{nil, kid}
@@ -38,7 +38,7 @@ use Rattle.demands.proofs.DoneLaws.{root-within}
 
 -- ---- the value that is replaced dies
 
-module _ (E : Edition) (k v v' : List ℕ) (other : length v ≡ length v' → ⊥) where
+module _ (E : Edition) (k : List ℕ) (v v' : Value) (other : length (textOf v) ≡ length (textOf v') → ⊥) where
   mutual
     tree-dead : (a : Art) (d : ℕ) → findTree E a d k ≡ some v' → putTree E a d k v .dead ≡ extentOf k v'
     tree-dead (leaf k0 v0) d h = bool-cases (same k k0)
@@ -46,7 +46,7 @@ module _ (E : Edition) (k v v' : List ℕ) (other : length v ≡ length v' → �
         let q : some v0 ≡ some v' = rw t at h in
         let x : v0 ≡ v' = cc in
         let y = same-true k k0 t in
-        rw (t, x, ← y, ne-eqb (length v) (length v') other) refl)
+        rw (t, x, ← y, ne-eqb (length (textOf v)) (length (textOf v')) other) refl)
         (λ t. let q : none ≡ some v' = rw t at h in clash (cc))
     tree-dead (prefix p a) d h = bool-cases (eqb (shared p (drop d (E .walked k))) (length p))
         (λ t. rw t (tree-dead a (d + length p) (rw t at h)))
@@ -65,17 +65,17 @@ module _ (E : Edition) (k v v' : List ℕ) (other : length v ≡ length v' → �
 
 -- ---- what look-up found
 
-found-is : (E : Edition) (k : List ℕ) (r : Root) (m : ℕ) (g : Found) → g .number ≡ 0 → g ≡ pick (eqb (E .keyFault k) 0) (foundOf (findAt E r k) m) (notFound (E .keyFault k) 0) → findAt E r k ≡ some (record { at = g .place; long = g .long })
+found-is : (E : Edition) (k : List ℕ) (r : Root) (m : ℕ) (g : Found) → g .number ≡ 0 → g ≡ pick (eqb (E .keyFault k) 0) (foundOf (findAt E r k) m) (notFound (E .keyFault k) 0) → findAt E r k ≡ some (record { at = g .place; long = g .long; stamp = g .stamp })
 found-is E k r m g z e = eqb-cases (E .keyFault k) 0
     (λ t q. go (findAt E r k) (let y : g ≡ foundOf (findAt E r k) m = rw t at e in y))
     (λ t q. let y : g ≡ notFound (E .keyFault k) 0 = rw t at e in absurd (q (sym (ap (λ (x : Found). x .number) y) ∙ z)))
   where
-    go : (c : Option Part) → g ≡ foundOf c m → c ≡ some (record { at = g .place; long = g .long })
+    go : (c : Option Part) → g ≡ foundOf c m → c ≡ some (record { at = g .place; long = g .long; stamp = g .stamp })
     go none y = absurd (omega (arith, ap (λ (x : Found). x .number) y, z))
     go (some c) y = rw y refl
 
 module _ {E : Edition} (L : Lawful E) (wiped : E .wiped ≡ true) {f k : List ℕ} {g : Found} (look : LookUpPromise E f k g) (there : g .number ≡ 0) {s : State} (w : Stands E f s) where
-  found : findAt E (w .root) k ≡ some (record { at = g .place; long = g .long })
+  found : findAt E (w .root) k ≡ some (record { at = g .place; long = g .long; stamp = g .stamp })
   found = found-is E k (w .root) (visitsIn E (rootArt (w .root)) k) g there (look .found s w)
 
   abbrev was : List Item
@@ -85,7 +85,7 @@ module _ {E : Edition} (L : Lawful E) (wiped : E .wiped ≡ true) {f k : List �
   module _ (a : ℕ) (from : g .place ≤ a + length k) (to : a + length k < g .place + up8 (length k + g .long)) where
     covers : 1 ≤ sum (cover a) was
     unfolding sum cover
-    covers = let p = root-past E k (record { at = g .place; long = g .long }) (w .root) found in rw found (omega (arith, in-yes (g .place - length k) (up8 (length k + g .long)) a (omega arith) (omega arith)))
+    covers = let p = root-past E k (record { at = g .place; long = g .long; stamp = g .stamp }) (w .root) found in rw found (omega (arith, in-yes (g .place - length k) (up8 (length k + g .long)) a (omega arith) (omega arith)))
 
     in-data : dataStart (w .nums .N) ≤ a
     in-data = elim (decLt a (dataStart (w .nums .N))) [ yes q ↦ absurd (omega (arith, covers, found-low w k a q)) | no q ↦ omega arith ]
@@ -93,7 +93,10 @@ module _ {E : Edition} (L : Lawful E) (wiped : E .wiped ≡ true) {f k : List �
   passes : E .keyFault k ≡ 0
   passes = eqb-cases (E .keyFault k) 0 (λ t q. q) (λ t q. absurd (q (let y : g ≡ notFound (E .keyFault k) 0 = rw t at (look .found s w) in sym (ap (λ (x : Found). x .number) y) ∙ there)))
 
-  value : findIn E (s .tree) k ≡ some (take (g .long) (drop (g .place) f))
+  abbrev held : Value
+  held = record { bytes = take (g .long) (drop (g .place) f); stamp = g .stamp }
+
+  value : findIn E (s .tree) k ≡ some held
   value = look .value s w passes ∙ rw (eq-eqb (g .number) 0 there) refl
 
   -- ---- after an erase
@@ -111,7 +114,7 @@ module _ {E : Edition} (L : Lawful E) (wiped : E .wiped ≡ true) {f k : List �
   some-record = go (s .tree) refl
     where
       go : (t : Option Art) → s .tree ≡ t → 1 ≤ s .R
-      go none q = let z : none ≡ some (take (g .long) (drop (g .place) f)) = rw q at value in clash (cc)
+      go none q = let z : none ≡ some held = rw q at value in clash (cc)
       go (some x) q = tree-some L s x (stands-good E f s w) q
 
   erase-gone : {n : ℕ} {f' : List ℕ} → ErasePromise E f k n f' → n ≡ 0 → Gone f' k g
@@ -123,13 +126,13 @@ module _ {E : Edition} (L : Lawful E) (wiped : E .wiped ≡ true) {f k : List �
   -- ---- after a replacement by a value of another length
 
   value-long : length (take (g .long) (drop (g .place) f)) ≡ g .long
-  value-long = let q = root-within E f k (record { at = g .place; long = g .long }) (w .root) (w .rootAt) found in length-take-le (g .long) (drop (g .place) f) (omega (arith, length-drop (g .place) f))
+  value-long = let q = root-within E f k (record { at = g .place; long = g .long; stamp = g .stamp }) (w .root) (w .rootAt) found in length-take-le (g .long) (drop (g .place) f) (omega (arith, length-drop (g .place) f))
 
-  replace-gone : (b : Write) {v : List ℕ} {n : ℕ} {f' : List ℕ} → WritePromise E b f k v n f' → n ≡ 9 → (length v ≡ g .long → ⊥) → Gone f' k g
+  replace-gone : (b : Write) {v : Value} {n : ℕ} {f' : List ℕ} → WritePromise E b f k v n f' → n ≡ 9 → (length (textOf v) ≡ g .long → ⊥) → Gone f' k g
   replace-gone b {v} {n} {f'} p e other a from to =
       let R = p .after s w in
       let O = R .1 (rw e refl) in
-      let dead = change-dead E k v (take (g .long) (drop (g .place) f)) (λ z. other (z ∙ value-long)) (s .tree) value in
+      let dead = change-dead E k v held (λ z. other (z ∙ value-long)) (s .tree) value in
       let some : putChange E s k v .dead ≡ 0 → ⊥ = λ z. omega (arith, dead, ap (λ m. up8 (length k + m)) value-long) in
       dead-zero (R .0) wiped O a (omega (arith, in-data a from to, ap dataStart (put-same-cap b k v w (R .0)))) (rw (ne-eqb (putChange E s k v .dead) 0 some) (covers a from to))
 

@@ -5,7 +5,7 @@ use mathlib.Core.Path.{_≡_}
 use mathlib.Core.List.{List, [], _∷_}
 use lib.ListN.{length}
 use Rattle.model.specs.Strings.{All, Byte}
-use Rattle.model.specs.Edition.{Edition, edition1, Legal, Lawful}
+use Rattle.model.specs.Edition.{unstamped, Edition, edition1, Legal, Lawful}
 use Rattle.model.specs.State.{State, formatted}
 use Rattle.model.specs.Visits.{visitsIn}
 use Rattle.model.specs.Frame.{Stands, Good}
@@ -32,7 +32,7 @@ pub record Path : Type 0 where
 
 abbrev pub made : State → List (List ℕ) → State
 made s [] = s
-made s (k ∷ ks) = made (onCall edition1 s (put k (49 ∷ [])) .state) ks
+made s (k ∷ ks) = made (onCall edition1 s (put k (unstamped (49 ∷ []))) .state) ks
 
 abbrev pub path : List (List ℕ) → List ℕ → ℕ → Path
 path ks k n = record { keys = ks; key = k; slots = n }

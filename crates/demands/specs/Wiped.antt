@@ -6,7 +6,7 @@ use mathlib.Core.List.{List, _++_}
 use lib.ListN.{length}
 use Rattle.layout.specs.Number.{le, byteAt}
 use Rattle.layout.specs.Place.{atD, atB}
-use Rattle.model.specs.Edition.{Edition, edition1, before1}
+use Rattle.model.specs.Edition.{Edition, edition1, before1, Value, textOf}
 use Rattle.model.specs.Tree.{up8}
 use Rattle.model.specs.State.{State, Write}
 use Rattle.model.specs.Item.{cover, sum}
@@ -31,4 +31,4 @@ Gone f' k g = (a : ℕ) → g .place ≤ a + length k → a + length k < g .plac
 -- look-up of k had found a value; then it was erased, or replaced by one of another length
 pub record Wiped (E : Edition) : Type 0 where
   pub erase : (f k : List ℕ) (g : Found) (n : ℕ) (f' : List ℕ) → LookUpPromise E f k g → g .number ≡ 0 → ErasePromise E f k n f' → n ≡ 0 → Gone f' k g
-  pub replace : (a : Write) (f k v : List ℕ) (g : Found) (n : ℕ) (f' : List ℕ) → LookUpPromise E f k g → g .number ≡ 0 → WritePromise E a f k v n f' → n ≡ 9 → (length v ≡ g .long → ⊥) → Gone f' k g
+  pub replace : (a : Write) (f k : List ℕ) (v : Value) (g : Found) (n : ℕ) (f' : List ℕ) → LookUpPromise E f k g → g .number ≡ 0 → WritePromise E a f k v n f' → n ≡ 9 → (length (textOf v) ≡ g .long → ⊥) → Gone f' k g

@@ -10,7 +10,7 @@ use lib.Dec.{eqb}
 use Rattle.layout.specs.Number.{byteAt, le}
 use Rattle.layout.specs.Place.{atN}
 use Rattle.model.specs.Strings.{pick, All, Byte}
-use Rattle.model.specs.Edition.{Edition}
+use Rattle.model.specs.Edition.{Edition, Value, textOf}
 use Rattle.model.specs.Tree.{Art, Change}
 use Rattle.model.specs.Records.{Record, recordsOf, lookup}
 use Rattle.model.specs.State.{State, freshSlots, freshBytes, putChange, eraseChange}
@@ -77,8 +77,8 @@ abbrev pub keyZero : Edition → List ℕ → Ground
 keyZero E k = record { number = 4; applies = (E .number ≢ 2) × ((i : ℕ) × (i < length k) × (byteAt k i ≡ 0)) }
 
 -- "value above 65,535 bytes"
-abbrev pub valueLong : List ℕ → Ground
-valueLong v = record { number = 5; applies = 65535 < length v }
+abbrev pub valueLong : Value → Ground
+valueLong v = record { number = 5; applies = 65535 < length (textOf v) }
 
 -- "pack: the output is not F long"
 abbrev pub outputLength : List ℕ → List ℕ → Ground
@@ -92,11 +92,11 @@ abbrev pub NoRoom : {A : Type 0} → State → Change A → Type 0
 NoRoom s c = (s .N - s .U < freshSlots s (c .takes)) ⊎ (s .F - s .B < freshBytes s (c .takes) + c .extent)
 
 -- of a put: the key is absent, else it needs nothing
-abbrev pub PutFull : Edition → State → List ℕ → List ℕ → Type 0
+abbrev pub PutFull : Edition → State → List ℕ → Value → Type 0
 PutFull E s k v = (lookup k (recordsOf (s .tree)) ≡ none) × NoRoom s (putChange E s k v)
 
 -- of a replacement: the key is there, else it needs nothing
-abbrev pub ReplaceFull : Edition → State → List ℕ → List ℕ → Type 0
+abbrev pub ReplaceFull : Edition → State → List ℕ → Value → Type 0
 ReplaceFull E s k v = (lookup k (recordsOf (s .tree)) ≢ none) × NoRoom s (putChange E s k v)
 
 -- of an erase that is more than "leaves the frame as format leaves it": the key is there, and it is not the only one
@@ -108,13 +108,13 @@ abbrev pub EraseFull : Edition → State → List ℕ → Type 0
 EraseFull E s k = (lookup k (recordsOf (s .tree)) ≢ none) × (2 ≤ s .R) × NoRoomIn E s (s .tree) k
 
 -- "no room"
-abbrev pub putFull : Edition → List ℕ → List ℕ → List ℕ → Ground
+abbrev pub putFull : Edition → List ℕ → List ℕ → Value → Ground
 putFull E f k v = record { number = 6; applies = (s : State) × Stands E f s × PutFull E s k v }
 
-abbrev pub replaceFull : Edition → List ℕ → List ℕ → List ℕ → Ground
+abbrev pub replaceFull : Edition → List ℕ → List ℕ → Value → Ground
 replaceFull E f k v = record { number = 6; applies = (s : State) × Stands E f s × ReplaceFull E s k v }
 
-abbrev pub putOrReplaceFull : Edition → List ℕ → List ℕ → List ℕ → Ground
+abbrev pub putOrReplaceFull : Edition → List ℕ → List ℕ → Value → Ground
 putOrReplaceFull E f k v = record { number = 6; applies = (s : State) × Stands E f s × NoRoom s (putChange E s k v) }
 
 abbrev pub eraseFull : Edition → List ℕ → List ℕ → Ground
@@ -133,12 +133,16 @@ abbrev pub slotsOf : List ℕ → ℕ
 slotsOf f = le 4 f atN
 
 -- from the one set to the other only the key k has changed: it has the value o now, or none
-pub record OnlyAt (k : List ℕ) (o : Option (List ℕ)) (rs rs' : List Record) : Type 0 where
+pub record OnlyAt (k : List ℕ) (o : Option Value) (rs rs' : List Record) : Type 0 where
   pub own : lookup k rs' ≡ o
   pub others : (l : List ℕ) → l ≢ k → lookup l rs' ≡ lookup l rs
 
--- the key and the value of a call are strings of bytes
-abbrev pub OfBytes : Call → Type 0
-OfBytes (put k v) = All Byte k × All Byte v
-OfBytes (replace k v) = All Byte k × All Byte v
-OfBytes (erase k) = All Byte k
+-- a value as a caller can pass it: a string of bytes, and a stamp that the edition has
+abbrev pub Passable : Edition → Value → Type 0
+Passable E v = All Byte (textOf v) × (v .stamp < E .stamps)
+
+-- the key and the value of a call are strings of bytes, and the stamp is one
+abbrev pub OfBytes : Edition → Call → Type 0
+OfBytes E (put k v) = All Byte k × Passable E v
+OfBytes E (replace k v) = All Byte k × Passable E v
+OfBytes E (erase k) = All Byte k

@@ -8,7 +8,7 @@ use mathlib.Core.Logic.{_≢_}
 use lib.ListN.{length}
 use Rattle.layout.specs.Number.{le, byteAt}
 use Rattle.layout.specs.Place.{atB, atU, atR, atX}
-use Rattle.model.specs.Edition.{edition1, Legal, LegalValue}
+use Rattle.model.specs.Edition.{unstamped, edition1, Legal, LegalValue, Value, textOf}
 use Rattle.model.specs.Tree.{up8}
 use Rattle.model.specs.Records.{Record, lookup, upsert}
 use Rattle.model.specs.State.{State, formatted, putChange}
@@ -23,35 +23,35 @@ AllTwo = (f : List ℕ) → LengthOk f → CheckPromise edition1 f 2
 
 -- "a store that answers 6 to everything (the room rule in demand 2)"
 abbrev pub AllSix : Type 0
-AllSix = (f k v : List ℕ) → Good edition1 f → Legal edition1 k → LegalValue v → (f' : List ℕ) × PutPromise edition1 f k v 6 f'
+AllSix = (f k : List ℕ) (v : Value) → Good edition1 f → Legal edition1 k → LegalValue edition1 v → (f' : List ℕ) × PutPromise edition1 f k v 6 f'
 
 -- "one that always says 8 or holds nothing (look-up, demand 2)"
 abbrev pub AllEight : Type 0
 AllEight = (f k : List ℕ) → Good edition1 f → Legal edition1 k → (visited : ℕ) × LookUpPromise edition1 f k (notFound 8 visited)
 
 abbrev pub HoldsNothing : Type 0
-HoldsNothing = (f k v : List ℕ) → Good edition1 f → Legal edition1 k → LegalValue v → (n : ℕ) × (f' : List ℕ) × PutPromise edition1 f k v n f' × Holds edition1 f' []
+HoldsNothing = (f k : List ℕ) (v : Value) → Good edition1 f → Legal edition1 k → LegalValue edition1 v → (n : ℕ) × (f' : List ℕ) × PutPromise edition1 f k v n f' × Holds edition1 f' []
 
 -- "a put that writes only the first record and afterwards only says 0 (the set after each put)"
 abbrev pub OnlyFirst : Type 0
-OnlyFirst = (f k v : List ℕ) (r : Record) (rs : List Record) → Holds edition1 f (r ∷ rs) → Legal edition1 k → LegalValue v → PutPromise edition1 f k v 0 f
+OnlyFirst = (f k : List ℕ) (v : Value) (r : Record) (rs : List Record) → Holds edition1 f (r ∷ rs) → Legal edition1 k → LegalValue edition1 v → PutPromise edition1 f k v 0 f
 
 -- (02) "Two provisioning tools overwrote each other's line profiles": a put that replaces all the same, whatever it says, 11 too
 abbrev pub Overwrites : Type 0
-Overwrites = (f k v : List ℕ) (rs : List Record) → Holds edition1 f rs → Legal edition1 k → LegalValue v → lookup k rs ≢ none
+Overwrites = (f k : List ℕ) (v : Value) (rs : List Record) → Holds edition1 f rs → Legal edition1 k → LegalValue edition1 v → lookup k rs ≢ none
     → (n : ℕ) × (f' : List ℕ) × PutPromise edition1 f k v n f' × Holds edition1 f' (upsert k v rs)
 
 -- a put that asks for room first, and only then whether the key is there
 abbrev pub RoomFirst : Type 0
-RoomFirst = (f k v : List ℕ) (s : State) → Stands edition1 f s → Legal edition1 k → LegalValue v → NoRoom s (putChange edition1 s k v) → PutPromise edition1 f k v 6 f
+RoomFirst = (f k : List ℕ) (v : Value) (s : State) → Stands edition1 f s → Legal edition1 k → LegalValue edition1 v → NoRoom s (putChange edition1 s k v) → PutPromise edition1 f k v 6 f
 
 -- a replacement that puts an absent key in, and one that keeps the old value
 abbrev pub PutsIn : Type 0
-PutsIn = (f k v : List ℕ) (rs : List Record) → Holds edition1 f rs → Legal edition1 k → LegalValue v → lookup k rs ≡ none
+PutsIn = (f k : List ℕ) (v : Value) (rs : List Record) → Holds edition1 f rs → Legal edition1 k → LegalValue edition1 v → lookup k rs ≡ none
     → (n : ℕ) × (f' : List ℕ) × ReplacePromise edition1 f k v n f' × Holds edition1 f' (upsert k v rs)
 
 abbrev pub KeepsOld : Type 0
-KeepsOld = (f k v : List ℕ) (rs : List Record) → Holds edition1 f rs → Legal edition1 k → LegalValue v → lookup k rs ≢ none
+KeepsOld = (f k : List ℕ) (v : Value) (rs : List Record) → Holds edition1 f rs → Legal edition1 k → LegalValue edition1 v → lookup k rs ≢ none
     → (n : ℕ) × (f' : List ℕ) × ReplacePromise edition1 f k v n f' × Holds edition1 f' rs
 
 -- "a packer that writes one fixed image (reading back; demand 3 alone would let it pass)": one for each F and N
@@ -61,7 +61,7 @@ FixedImage = (m : ℕ → ℕ → List ℕ) × ((f o : List ℕ) → Good editio
 -- (02) "A returned modem gave up an old subscriber password from a dead extent": where look-up found a value and a replacement has another length,
 -- some bytes are as they were
 abbrev pub LeavesThose : (List ℕ → Found → ℕ → Type 0) → Type 0
-LeavesThose those = (f k v old : List ℕ) (rs : List Record) → Holds edition1 f rs → Legal edition1 k → LegalValue v → lookup k rs ≡ some old → (length v ≡ length old → ⊥)
+LeavesThose those = (f k : List ℕ) (v old : Value) (rs : List Record) → Holds edition1 f rs → Legal edition1 k → LegalValue edition1 v → lookup k rs ≡ some old → (length (textOf v) ≡ length (textOf old) → ⊥)
     → (g : Found) × (n : ℕ) × (f' : List ℕ) × LookUpPromise edition1 f k g × ReplacePromise edition1 f k v n f' × (NotRefused n → (a : ℕ) → those k g a → byteAt f' a ≡ byteAt f a)
 
 -- the old value; the last eight bytes of its extent
@@ -80,7 +80,7 @@ pub record Counters (f : List ℕ) (U B R X : ℕ) : Type 0 where
 
 -- "one that invents U, B, R or X (the check and the needs above)": a=1 put into the fresh frame of W1 leaves other counters than those of W2
 abbrev pub Invents : Type 0
-Invents = (f : List ℕ) → Stands edition1 f (formatted 1024 8) → (n : ℕ) × (f' : List ℕ) × PutPromise edition1 f (97 ∷ []) (49 ∷ []) n f' × (Counters f' 2 128 1 0 → ⊥)
+Invents = (f : List ℕ) → Stands edition1 f (formatted 1024 8) → (n : ℕ) × (f' : List ℕ) × PutPromise edition1 f (97 ∷ []) (unstamped (49 ∷ [])) n f' × (Counters f' 2 128 1 0 → ⊥)
 
 pub record ShutOut : Type 0 where
   pub allTwo : AllTwo → ⊥

@@ -12,9 +12,9 @@ use lib.Seq.{getD-drop}
 use lib.Dec.{eqb}
 use borrow.Author.Tests.{ne-eqb}
 use Rattle.layout.specs.Number.{le}
-use Rattle.layout.specs.Place.{leafExtent, leafValue}
+use Rattle.layout.specs.Place.{leafExtent, leafValue, leafStamp}
 use Rattle.model.specs.Strings.{pick, same, shared}
-use Rattle.model.specs.Edition.{Edition}
+use Rattle.model.specs.Edition.{Edition, Value, textOf}
 use Rattle.model.specs.State.{State, findIn}
 use Rattle.model.specs.Tree.{findTree, findKids}
 use Rattle.model.specs.Body.{LeafAt}
@@ -48,17 +48,17 @@ seat-as f t u e S = rw e at S
 
 module _ (E : Edition) where
   module _ (f : List ℕ) where
-    both : (t : Bool) (x y : Option (List ℕ)) (p q : Option Part) → x ≡ valueIn f p → y ≡ valueIn f q → pick t x y ≡ valueIn f (pick t p q)
+    both : (t : Bool) (x y : Option Value) (p q : Option Part) → x ≡ valueIn f p → y ≡ valueIn f q → pick t x y ≡ valueIn f (pick t p q)
     both true x y p q a b = a
     both false x y p q a b = b
 
-    its-value : (path : List ℕ) (o e : ℕ) (k v : List ℕ) → LeafAt f o e k v → some v ≡ valueIn f (some (record { at = e + length k; long = length v }))
-    its-value path o e k v L = ap some (sym (text-part f (e + length k) v (omega (arith, L .room)) (text-right f e k v (L .text))))
+    its-value : (path : List ℕ) (o e : ℕ) (k : List ℕ) (v : Value) → LeafAt f o e k v → some v ≡ valueIn f (some (record { at = e + length k; long = length (textOf v); stamp = v .stamp }))
+    its-value path o e k v L = ap (λ (t : List ℕ). some (record { bytes = t; stamp = v .stamp })) (sym (text-part f (e + length k) (textOf v) (omega (arith, L .room)) (text-right f e k (textOf v) (L .text))))
 
     mutual
       pub value-lay : (path : List ℕ) (l : Lay) (d : ℕ) (k : List ℕ) → Tree E f path l → findTree E (art l) d k ≡ valueIn f (findLay E l d k)
       value-lay path (leaf s o e k' v') d k T =
-          both (same k k') (some v') none (some (record { at = e + length k'; long = length v' })) none (its-value path o e k' v' (leaf-parts E f path s o e k' v' T .1 .at)) refl
+          both (same k k') (some v') none (some (record { at = e + length k'; long = length (textOf v'); stamp = v' .stamp })) none (its-value path o e k' v' (leaf-parts E f path s o e k' v' T .1 .at)) refl
       value-lay path (prefix s o p l) d k T =
           eqb-cases (shared p (drop d (E .walked k))) (length p)
           (λ t e. rw t (find-atop E p (art l) d k e ∙ value-lay (path ++ p) l (d + length p) k (prefix-parts E f path s o p l T .3)))
@@ -92,10 +92,10 @@ module _ (E : Edition) where
   -- the Leaf of the key
   pub record Found (f k : List ℕ) (r : Root) (s : Spot) : Type 0 where
     pub extent : ℕ
-    pub value : List ℕ
+    pub value : Value
     pub room : s .here .place + 16 ≤ length f
     pub at : LeafAt f (s .here .place) extent k value
-    pub look : findAt E r k ≡ some (record { at = extent + length k; long = length value })
+    pub look : findAt E r k ≡ some (record { at = extent + length k; long = length (textOf value); stamp = value .stamp })
 
   tree-as : (f path : List ℕ) (t u : Lay) → t ≡ u → Tree E f path t → Tree E f path u
   tree-as f path t u e T = rw e at T
@@ -111,7 +111,7 @@ module _ (E : Edition) where
       let T = tree-as f path (I .spot .way .sub) t (F .is) (hole E G .2) in
       let q = leaf-parts E f path (s .here .slot) (s .here .place) (F .extent) k (F .value) T .1 .at in
       let o = seat-as f (I .spot .way .sub) t (F .is) (seated E G) .fits in
-      let l : findLay E t (s .depth) k ≡ some (record { at = F .extent + length k; long = length (F .value) }) = rw (same-refl k) refl in
+      let l : findLay E t (s .depth) k ≡ some (record { at = F .extent + length k; long = length (textOf (F .value)); stamp = F .value .stamp }) = rw (same-refl k) refl in
       record { extent = F .extent; value = F .value; room = o; at = q; look = ap (λ r. findAt E r k) (I .is) ∙ find-there (I .spot .way) t (F .is) ∙ l }
 
   no-kid : (ks : LayKids) (d b : ℕ) (k : List ℕ) → getD (E .walked k) d 0 ≡ b → hasByte b ks ≡ false → findLayKids E ks d k ≡ none
@@ -160,18 +160,19 @@ module _ (E : Edition) where
   ]
 
   module _ {f k : List ℕ} {s : Spot} (D : (st : State) (W : Stands E f st) → SpotAt E k (W .root) s) where
-    pub looked-none : (s .end ≡ 2 → ⊥) → (st : State) (W : Stands E f st) → Looked E f k st (W .root) (record { found = false; place = 0; length = 0; slots = s .visited })
+    pub looked-none : (s .end ≡ 2 → ⊥) → (st : State) (W : Stands E f st) → Looked E f k st (W .root) (record { found = false; place = 0; length = 0; slots = s .visited; stamp = 0 })
     looked-none n st W =
         let e = spot-none (D st W) n in
-        record { at = sym e; value = value-stands k W ∙ ap (valueIn f) e; inside = λ z. clash (cc); absent = λ z. (refl, refl); visited = D st W .visited }
+        record { at = sym e; value = value-stands k W ∙ ap (valueIn f) e; inside = λ z. clash (cc); absent = λ z. (refl, refl, refl); visited = D st W .visited }
 
-    pub looked-some : (x n : ℕ) → s .end ≡ 2 → x ≡ le 4 f (s .here .place + leafExtent) → n ≡ le 2 f (s .here .place + leafValue)
-        → (st : State) (W : Stands E f st) → Looked E f k st (W .root) (record { found = true; place = x + length k; length = n; slots = s .visited })
-    looked-some x n e p q st W =
+    pub looked-some : (x n t : ℕ) → s .end ≡ 2 → x ≡ le 4 f (s .here .place + leafExtent) → n ≡ le 2 f (s .here .place + leafValue) → t ≡ le 8 f (s .here .place + leafStamp)
+        → (st : State) (W : Stands E f st) → Looked E f k st (W .root) (record { found = true; place = x + length k; length = n; slots = s .visited; stamp = t })
+    looked-some x n t e p q r st W =
         let F = found-leaf W (D st W) e in
         let a : x ≡ F .extent = p ∙ F .at .extent in
-        let b : n ≡ length (F .value) = q ∙ F .at .valueLength in
-        let c : findAt E (W .root) k ≡ some (record { at = x + length k; long = n }) = rw (a, b) (F .look) in
+        let b : n ≡ length (textOf (F .value)) = q ∙ F .at .valueLength in
+        let d : t ≡ F .value .stamp = r ∙ F .at .stamp in
+        let c : findAt E (W .root) k ≡ some (record { at = x + length k; long = n; stamp = t }) = rw (a, b, d) (F .look) in
         record { at = sym c; value = value-stands k W ∙ ap (valueIn f) c; inside = λ z. omega (arith, F .at .room); absent = λ z. clash (cc); visited = D st W .visited }
 
   -- the value as a part of the frame

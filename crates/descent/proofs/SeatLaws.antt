@@ -13,7 +13,7 @@ use Rattle.layout.specs.Place.{entryAt, leafExtent, leafKey, prefixLength, pref
 use Rattle.layout.specs.Kind.{Leaf, Prefix, bodySize}
 use Rattle.layout.specs.Entry.{placeOf, highOf}
 use Rattle.model.specs.Strings.{shared}
-use Rattle.model.specs.Edition.{Edition, Lawful, Legal}
+use Rattle.model.specs.Edition.{Edition, Lawful, Legal, Value, textOf}
 use Rattle.model.specs.Item.{Item, body, extent, sum, Same}
 use Rattle.model.specs.Body.{Text, lookKid}
 use Rattle.model.specs.Tree.{extentOf}
@@ -73,7 +73,7 @@ pub record Seat (f : List ℕ) (t : Lay) : Type 0 where
 heap-at : {f : List ℕ} (n : Numbers) (ls : List (List (ℕ × ℕ))) (r : Root) (l m : Lay) → r ≡ tree l → l ≡ m → Heap f (viewOf n ls r) → Heap f (viewOf n ls (tree m))
 heap-at n ls r l m e d H = rw (e, d) at H
 
-suits-leaf : (xs : List Step) (s o e : ℕ) (k v : List ℕ) → Suits xs (leaf s o e k v) → NotUnder xs
+suits-leaf : (xs : List Step) (s o e : ℕ) (k : List ℕ) (v : Value) → Suits xs (leaf s o e k v) → NotUnder xs
 unfolding Suits
 suits-leaf [] s o e k v S = tt
 suits-leaf (under s' o' p ∷ xs) s o e k v S = absurd S
@@ -229,7 +229,7 @@ module _ (E : Edition) where
       let L = A .at .at in
       let e : x ≡ A .extent = p ∙ L .extent in
       let l : m ≡ length (A .key) = r ∙ q ∙ L .keyLength in
-      rw (l, e) (text-part f (A .extent) (A .key) (omega (arith, L .room)) (text-left f (A .extent) (A .key) (A .value) (L .text)))
+      rw (l, e) (text-part f (A .extent) (A .key) (omega (arith, L .room)) (text-left f (A .extent) (A .key) (textOf (A .value)) (L .text)))
 
   pub prefix-part : {f k w : List ℕ} {s : Spot} {o : ℕ} (A : AtPrefix E f k w s o) (n : ℕ) → n ≡ le 2 f (o + prefixLength) → take n (drop (o + prefixBytes) f) ≡ A .bytes
   prefix-part {f} {k} {w} {s} {o} A n q =

@@ -8,7 +8,7 @@ use lib.Dec.{eqb}
 use Rattle.layout.specs.Place.{prefixChild}
 use Rattle.layout.specs.Kind.{Prefix}
 use Rattle.model.specs.Strings.{pick, shared}
-use Rattle.model.specs.Edition.{Edition, Lawful, Legal}
+use Rattle.model.specs.Edition.{Edition, Lawful, Legal, Value}
 use Rattle.model.specs.State.{State}
 use Rattle.model.specs.Body.{PrefixAt, lookKid}
 use Rattle.model.specs.Visits.{visits, visitsIn}
@@ -136,7 +136,7 @@ pub record Over (xs : List Step) (n : Body) (b : ℕ) (u : Body) (first at : ℕ
 -- 2: the Leaf of this key
 pub record ThisKey (k : List ℕ) (s : Spot) (xs : List Step) (t : Lay) : Type 0 where
   pub extent : ℕ
-  pub value : List ℕ
+  pub value : Value
   pub is : t ≡ leaf (s .here .slot) (s .here .place) extent k value
   pub kind : s .here .kind ≡ 1
   pub free : NotUnder xs
@@ -158,7 +158,7 @@ module _ (E : Edition) where
   pub record OtherKey (k : List ℕ) (s : Spot) (xs : List Step) (t : Lay) : Type 0 where
     pub extent : ℕ
     pub key : List ℕ
-    pub value : List ℕ
+    pub value : Value
     pub is : t ≡ leaf (s .here .slot) (s .here .place) extent key value
     pub kind : s .here .kind ≡ 1
     pub free : NotUnder xs
@@ -245,7 +245,7 @@ module _ (E : Edition) where
     pub count : Counted k s (going .lay) (going .way .sub)
     pub extent : ℕ
     pub key : List ℕ
-    pub value : List ℕ
+    pub value : Value
     pub is : going .way .sub ≡ leaf (s .here .slot) o extent key value
     pub room : o + 16 ≤ length f
     pub at : LeafOf E f (pathOf (going .way .steps)) o extent key value

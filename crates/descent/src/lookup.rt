@@ -1,4 +1,4 @@
-// Look-up: the place and length of a key's value with the slots visited, and the value itself as that part of the frame.
+// Look-up: the place, length and stamp of a key's value with the slots visited, and the value itself as that part of the frame.
 use crate::spot::Spot;
 use crate::walk;
 use fields::body::Leaf;
@@ -19,6 +19,8 @@ pub struct Held {
     pub length: usize,
     // how many slots were visited
     pub slots: usize,
+    // 0 where nothing is found
+    pub stamp: usize,
 }
 
 // Where a key's value stands in a good frame, by what is read of the key on the way.
@@ -33,17 +35,20 @@ fn found(f: &[u8], key: &[u8], word: &[u8], edition: usize) -> Held
             place: 0,
             length: 0,
             slots: s.visited,
+            stamp: 0,
         };
     }
     let here = s.here;
     let leaf = here.place;
     let from = Leaf::extent(f, leaf) + key.len();
     let long = Leaf::value_length(f, leaf);
+    let stamp = Leaf::stamp(f, leaf);
     Held {
         found: true,
         place: from,
         length: long,
         slots: s.visited,
+        stamp: stamp,
     }
 }
 

@@ -8,7 +8,7 @@ use lib.ListN.{length, take, drop}
 use lib.Dec.{eqb}
 use Rattle.layout.specs.Number.{le}
 use Rattle.layout.specs.Place.{atB, atU, atR}
-use Rattle.model.specs.Edition.{Edition}
+use Rattle.model.specs.Edition.{Edition, unstamped}
 use Rattle.model.specs.Promise.{FormatPromise, PutOrReplacePromise, ErasePromise, PackPromise, LookUpPromise, Found}
 use Rattle.lines.specs.Line.{Said, format, put, get, erase, pack, unknown, said}
 use Rattle.lines.specs.Text.{decimal}
@@ -57,7 +57,7 @@ pub record Formats (E : Edition) (b : List ℕ) (long F N : ℕ) (b' : List ℕ)
 pub record Puts (E : Edition) (f k v f' text : List ℕ) : Type 0 where
   pub n : ℕ
   pub says : text ≡ alone n
-  pub call : PutOrReplacePromise E f k v n f'
+  pub call : PutOrReplacePromise E f k (unstamped v) n f'
 
 pub record Gets (E : Edition) (f k f' text : List ℕ) : Type 0 where
   pub g : Found

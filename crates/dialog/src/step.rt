@@ -25,6 +25,9 @@ ghost use Rattle.dialog.specs.Answer.{Wide, Answer, alone, question as A
 // "a frame of at most 16,384 bytes"
 pub const MOST_FRAME: usize = 16384;
 
+// "Edition 1 keeps zero there."
+const NO_STAMP: usize = 0;
+
 // Bytes for one answer: a value of any frame, and what is written around it.
 pub const ANSWER: usize = 16640;
 
@@ -90,7 +93,13 @@ fn put_line(frame: &mut [u8], key: &[u8], value: &[u8], out: &mut [u8]) -> usize
 {
     number(
         out,
-        answers::put_or_replace_number(put_or_replace(frame, key, value, Header::FIRST_EDITION)),
+        answers::put_or_replace_number(put_or_replace(
+            frame,
+            key,
+            value,
+            NO_STAMP,
+            Header::FIRST_EDITION,
+        )),
     )
 }
 

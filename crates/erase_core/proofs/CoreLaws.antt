@@ -8,7 +8,7 @@ use native.Mathlib.Omega.{arith}
 use lib.ListN.{length, take, drop}
 use Rattle.layout.specs.Kind.{shrinkMark}
 use Rattle.model.specs.Strings.{pick}
-use Rattle.model.specs.Edition.{Edition}
+use Rattle.model.specs.Edition.{Edition, textOf}
 use Rattle.model.specs.Tree.{Art}
 use Rattle.model.specs.State as state
 use Rattle.model.specs.State.{State, Done, done, room, findIn, eraseChange, eraseIn, callErase}
@@ -122,7 +122,7 @@ module _ {E : Edition} {f k : List ℕ} (A : Asked E f k) {p : Spot} (S : (s : S
         stands-tree : (s : State) (w : Stands E f s) → s .tree ≡ some (art (inside w .lay))
         stands-tree s w = ap (λ (z : State). z .tree) (w .state) ∙ ap rootArt (inside w .is)
 
-        there : (s : State) (w : Stands E f s) → let L = found-leaf E w (S s w) found in findIn E (some (art (inside w .lay))) k ≡ some (take (length (L .value)) (drop (L .extent + length k) f))
+        there : (s : State) (w : Stands E f s) → let L = found-leaf E w (S s w) found in findIn E (some (art (inside w .lay))) k ≡ some (record { bytes = take (length (textOf (L .value))) (drop (L .extent + length k) f); stamp = L .value .stamp })
         there s w = ap (λ t. findIn E t k) (sym (stands-tree s w)) ∙ value-stands E k w ∙ ap (valueIn f) (found-leaf E w (S s w) found .look)
 
         -- a record that a node holds is not the only one

@@ -4,7 +4,7 @@ use mathlib.Core.List.{List, [], _∷_, _++_}
 use native.Mathlib.Omega.{arith}
 use lib.ListN.{length}
 use Rattle.layout.specs.Kind.{Kind, Node4}
-use Rattle.model.specs.Edition.{Edition}
+use Rattle.model.specs.Edition.{Edition, Value}
 use Rattle.model.specs.Tree.{extentOf}
 use Rattle.model.specs.Item.{Item, body}
 use Rattle.model.specs.Frame.{Lay, View}
@@ -39,7 +39,7 @@ module _ {E : Edition} {f : List ℕ} {h : View} {xs : List Step} {s : ℕ} {ts 
 
 -- ---- the whole
 
-module _ (h : View) (s : ℕ) (t : Lay) (node o : ℕ) (path : List ℕ) (g q e : ℕ) (k v : List ℕ) where
+module _ (h : View) (s : ℕ) (t : Lay) (node o : ℕ) (path : List ℕ) (g q e : ℕ) (k : List ℕ) (v : Value) where
   abbrev rest : List Item
   rest = besides [] [] (([], t) ∷ (path, leaf g q e k v) ∷ [])
 

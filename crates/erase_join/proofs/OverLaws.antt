@@ -10,7 +10,7 @@ use Rattle.layout.specs.Number.{le}
 use Rattle.layout.specs.Place.{prefixLength, prefixMost}
 use Rattle.layout.specs.Kind.{Leaf, Prefix, Node4}
 use Rattle.model.specs.Strings.{shared}
-use Rattle.model.specs.Edition.{Edition, Lawful}
+use Rattle.model.specs.Edition.{Edition, Lawful, Value}
 use Rattle.model.specs.Tree.{Art, Change, Left, chain, prefixes, asPrefix, extentOf, underPrefix, eraseTree}
 use Rattle.model.specs.Tree.Left.{kept}
 use Rattle.model.specs.State.{State, tally, eraseChange}
@@ -142,7 +142,7 @@ module _ {E : Edition} {f k : List ℕ} {s : State} (w : Stands E f s) {l : Lone
   art-is : art t ≡ Art.prefix (bytesOf t) (art (pairOf P))
   art-is = run-art E f (pathOf xs) t run-tree not-leaf .0 ∙ as-some (bytesOf t) (art (tipOf t)) bytes-some ∙ ap (λ (z : Lay). Art.prefix (bytesOf t) (art z)) tip-is
 
-  pub leaf-change : {k' v' : List ℕ} → art u ≡ Art.leaf k' v' → eraseChange E (art (plug (ys ++ xs) (pairOf P))) k ≡ leaves (art (plug xs u)) [] (prefixes (length (rows ys)) ++ Node4 ∷ Leaf ∷ []) (extentOf k (P .value))
+  pub leaf-change : {k' : List ℕ} {v' : Value} → art u ≡ Art.leaf k' v' → eraseChange E (art (plug (ys ++ xs) (pairOf P))) k ≡ leaves (art (plug xs u)) [] (prefixes (length (rows ys)) ++ Node4 ∷ Leaf ∷ []) (extentOf k (P .value))
   unfolding artIn artStep
   leaf-change {k'} {v'} e =
       let m = extentOf k (P .value) in
@@ -162,7 +162,7 @@ module _ {E : Edition} {f k : List ℕ} {s : State} (w : Stands E f s) {l : Lone
       one-art p = refl
 
   -- what is touched
-  leaf-touch : {n o e : ℕ} {k' v' : List ℕ} → u ≡ leaf n o e k' v' → touchLone (aboveOf (ys ++ xs)) (l .node) (l .leaf) u ≡ touch (holder (holderOf xs)) (l .leaf ∷ l .node ∷ slotsIn (rows ys))
+  leaf-touch : {n o e : ℕ} {k' : List ℕ} {v' : Value} → u ≡ leaf n o e k' v' → touchLone (aboveOf (ys ++ xs)) (l .node) (l .leaf) u ≡ touch (holder (holderOf xs)) (l .leaf ∷ l .node ∷ slotsIn (rows ys))
   leaf-touch {n} {o} {e} {k'} {v'} eu =
       let A = run-above xs free ys only in
       ap (touchLone (aboveOf (ys ++ xs)) (l .node) (l .leaf)) eu ∙ chain-touch (aboveOf (ys ++ xs)) ∙ rw (A .0, A .1) refl
@@ -181,7 +181,7 @@ module _ {E : Edition} {f k : List ℕ} {s : State} (w : Stands E f s) {l : Lone
     pub run-links : (at : ℕ) → Link xs at → (64 ≤ length f1) × (at + 4 ≤ length f1)
     run-links at L = link-ok at opened L
 
-  module _ {f1 g : List ℕ} {first at : ℕ} (et : slotOf t ≡ first) (R : RunFreed f f1 first) (L : Link xs at) (G' : Relinked f1 g at (l .child)) (n o e : ℕ) (k' v' : List ℕ) (eu : u ≡ leaf n o e k' v') where
+  module _ {f1 g : List ℕ} {first at : ℕ} (et : slotOf t ≡ first) (R : RunFreed f f1 first) (L : Link xs at) (G' : Relinked f1 g at (l .child)) (n o e : ℕ) (k' : List ℕ) (v' : Value) (eu : u ≡ leaf n o e k' v') where
     abbrev F : Freed E f f1 (standsView w) xs (slotOf t) (pathOf xs) t [] []
     F = X et R
 

@@ -9,6 +9,7 @@ use lib.Dec.{ltb, eqb}
 use borrow.Author.Tests.{lt-ltb, le-ltb}
 use Rattle.layout.specs.Kind.{Prefix}
 use Rattle.model.specs.Strings.{pick}
+use Rattle.model.specs.Edition.{unstamped}
 use Rattle.model.specs.Tree.{chain}
 use Rattle.model.specs.Item.{Item, body, sum}
 use Rattle.model.specs.Frame.{Lay, slotOf}
@@ -135,7 +136,7 @@ run-many (hole.among s o kind ls b j rs ∷ ys) t h = absurd h
 -- it is not empty where its first is known
 pub run-some : (ys : List Step) (first : ℕ) → Prefixes ys → ((t : Lay) → slotOf (plug ys t) ≡ first) → 1 ≤ length (rows ys)
 unfolding plug
-run-some [] first h top = absurd (omega (arith, top (leaf 0 0 0 [] []), top (leaf 1 0 0 [] [])))
+run-some [] first h top = absurd (omega (arith, top (leaf 0 0 0 [] (unstamped [])), top (leaf 1 0 0 [] (unstamped []))))
 run-some (under s o p ∷ ys) first h top = omega arith
 run-some (hole.among s o kind ls b j rs ∷ ys) first h top = absurd h
 

@@ -9,7 +9,7 @@ use lib.ListN.{length, length-append}
 use lib.Dec.{ltb}
 use borrow.Author.Tests.{le-ltb}
 use Rattle.layout.specs.Kind.{Leaf, Prefix, Node4}
-use Rattle.model.specs.Edition.{Edition, Lawful}
+use Rattle.model.specs.Edition.{Edition, Lawful, Value}
 use Rattle.model.specs.Tree.{Art, Change, Left, chain, prefixes, asPrefix, extentOf, loneChild}
 use Rattle.model.specs.Tree.Left.{kept}
 use Rattle.model.specs.State.{State, room, eraseChange}
@@ -61,14 +61,14 @@ use Rattle.erase_join.proofs.SiteLaws.{leaves, lost, nodeBody, beside, 
 -- ---- what the joins share
 
 -- a Leaf stands under a shorter path too
-pub leaf-shorter : {E : Edition} {f : List ℕ} {h : View} {xs : List Step} {s : ℕ} {ts : List (List ℕ × Lay)} {loose : List Item} (p q : List ℕ) (n o e : ℕ) (k v : List ℕ)
+pub leaf-shorter : {E : Edition} {f : List ℕ} {h : View} {xs : List Step} {s : ℕ} {ts : List (List ℕ × Lay)} {loose : List Item} (p q : List ℕ) (n o e : ℕ) (k : List ℕ) (v : Value)
     → Work E f h xs s ((p ++ q, leaf n o e k v) ∷ ts) loose → Work E f h xs s ((p, leaf n o e k v) ∷ ts) loose
 leaf-shorter {E} {f} {ts = ts} p q n o e k v W =
     let F = forest-first E f (p ++ q) (leaf n o e k v) ts (W .trees) in
     let T = leaf-parts E f (p ++ q) n o e k v (F .0) in
     let L = T .1 in
     work-as W (λ w. omega (arith, forest-sum w (p ++ q) (leaf n o e k v) ts, forest-sum w p (leaf n o e k v) ts))
-    (forest-more E f p (leaf n o e k v) ts (as-leaf E f p n o e k v (T .0) (record { at = L .at; eights = L .eights; legal = L .legal; begins = begins-less (E .walked k) p q (L .begins) })) (F .1)) (W .entries)
+    (forest-more E f p (leaf n o e k v) ts (as-leaf E f p n o e k v (T .0) (record { at = L .at; eights = L .eights; legal = L .legal; begins = begins-less (E .walked k) p q (L .begins); stamped = L .stamped })) (F .1)) (W .entries)
 
 module _ {E : Edition} {f k : List ℕ} {s : State} (w : Stands E f s) {xs : List Step} {l : Lone} {u : Lay} (P : Site E k (w .root) xs l u) where
   pub child-stood : Stood f u

@@ -8,7 +8,7 @@ use lib.ListN.{length}
 use Rattle.layout.specs.Number.{le}
 use Rattle.layout.specs.Place.{prefixLength, prefixMost}
 use Rattle.layout.specs.Kind.{Leaf, Node4}
-use Rattle.model.specs.Edition.{Edition, Lawful}
+use Rattle.model.specs.Edition.{Edition, Lawful, Value}
 use Rattle.model.specs.State.{State, eraseChange}
 use Rattle.model.specs.State as state
 use Rattle.model.specs.Body.{InnerAt, lookKid}
@@ -45,7 +45,7 @@ pub record Site (E : Edition) (k : List ℕ) (r : Root) (xs : List Step) (l : Lo
   pub place : ℕ
   pub after : LayKids
   pub extent : ℕ
-  pub value : List ℕ
+  pub value : Value
   pub rest : List ℕ
   pub other : ℕ
   pub whole : r ≡ tree (plug xs (node (l .node) nodeAt Node4 (app before (kid byte place (leaf (l .leaf) (l .at) extent k value) after))))

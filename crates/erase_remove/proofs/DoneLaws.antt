@@ -9,7 +9,7 @@ use native.Mathlib.Omega.{arith}
 use lib.ListN.{length}
 use Rattle.layout.specs.Number.{Bytes}
 use Rattle.layout.specs.Kind.{Prefix}
-use Rattle.model.specs.Edition.{Edition, Lawful}
+use Rattle.model.specs.Edition.{Edition, Lawful, Value}
 use Rattle.model.proofs.StateLaws.{tree-some}
 use Rattle.model.proofs.StandsGood.{stands-good}
 use Rattle.model.specs.Tree.{Art, Change, Left, eraseTree, findTree}
@@ -48,7 +48,7 @@ as-step k R = record { answer = λ s w. R s w .0; after = λ s w. (R s w .1, R s
 
 -- the good frame f has the tree t in the hole xs, to which the key leads; the model's erase makes `lay` of it, by the change c, which may hang
 -- where t does
-module _ {E : Edition} {f k : List ℕ} {s : State} (w : Stands E f s) (xs : List Step) (t : Lay) {r : List ℕ} (er : w .root ≡ tree (plug xs t)) (L : Leads E k xs r) (c : Change Left) (lay : Lay) (v : List ℕ)
+module _ {E : Edition} {f k : List ℕ} {s : State} (w : Stands E f s) (xs : List Step) (t : Lay) {r : List ℕ} (er : w .root ≡ tree (plug xs t)) (L : Leads E k xs r) (c : Change Left) (lay : Lay) (v : Value)
     (erases : eraseTree E (art t) (length (pathOf xs)) k ≡ c) (leaves : c .now ≡ kept (art lay)) (hung : (p : List ℕ) → Hung p (art t) → Hung p (art lay)) where
   abbrev whole : Art
   whole = artIn xs (art t)

@@ -8,7 +8,7 @@ use Rattle.layout.specs.Number.{le}
 use Rattle.layout.specs.Place.{atR, leafExtent, leafKey, leafValue}
 use Rattle.layout.specs.Kind.{Leaf, Kind}
 use Rattle.layout.specs.Entry.{placeOf}
-use Rattle.model.specs.Edition.{Edition}
+use Rattle.model.specs.Edition.{Edition, Value}
 use Rattle.model.specs.Tree.{up8, extentOf}
 use Rattle.model.specs.Item.{Item, body, extent, Same}
 use Rattle.model.specs.Frame.{Lay, View, Heap}
@@ -26,13 +26,13 @@ use Rattle.erase_remove.specs.Leaf.{Drops, Dropped}
 
 -- what `drop_leaf` says
 abbrev pub DropLeaf : List ℕ → List ℕ → ℕ → ℕ → Type 0
-DropLeaf f g n o = (E : Edition) (h : View) (xs : List Step) (s : ℕ) (path : List ℕ) (e : ℕ) (k v : List ℕ) (ts : List (List ℕ × Lay)) (loose : List Item)
+DropLeaf f g n o = (E : Edition) (h : View) (xs : List Step) (s : ℕ) (path : List ℕ) (e : ℕ) (k : List ℕ) (v : Value) (ts : List (List ℕ × Lay)) (loose : List Item)
     → Work E f h xs s ((path, leaf n o e k v) ∷ ts) loose → Dropped E f g h xs s ts loose n o e k v
 
 pub leaf-kind : Kind Leaf
 leaf-kind = (omega arith, omega arith, λ z. omega arith)
 
-module _ {E : Edition} {f : List ℕ} {h : View} {xs : List Step} {s : ℕ} (n o : ℕ) (path : List ℕ) (e : ℕ) (k v : List ℕ) (ts : List (List ℕ × Lay)) (loose : List Item)
+module _ {E : Edition} {f : List ℕ} {h : View} {xs : List Step} {s : ℕ} (n o : ℕ) (path : List ℕ) (e : ℕ) (k : List ℕ) (v : Value) (ts : List (List ℕ × Lay)) (loose : List Item)
     (W : Work E f h xs s ((path, leaf n o e k v) ∷ ts) loose) where
   abbrev size : ℕ
   size = extentOf k v

@@ -8,7 +8,7 @@ use borrow.Author.Tests.{eq-eqb}
 use lib.ListN.{length}
 use Rattle.layout.specs.Number.{le}
 use Rattle.layout.specs.Place.{atEdition, atN}
-use Rattle.model.specs.Edition.{Edition, Lawful}
+use Rattle.model.specs.Edition.{Edition, Lawful, Value}
 use Rattle.model.specs.Tree.{Art, findTree}
 use Rattle.model.specs.State.{State, done, formatted, eraseFound, eraseIn, callErase}
 use Rattle.model.specs.Image.{image}
@@ -61,7 +61,7 @@ module _ {E : Edition} {f : List ℕ} {s : State} (w : Stands E f s) where
       rw (a, b) at Z
 
   -- erase of the key of the only Leaf
-  module _ (l o e : ℕ) (k v : List ℕ) (er : w .root ≡ tree (leaf l o e k v)) where
+  module _ (l o e : ℕ) (k : List ℕ) (v : Value) (er : w .root ≡ tree (leaf l o e k v)) where
     one-record : s .R ≡ 1
     one-record = omega (arith, ap (λ (z : State). z .R) (w .state), w .counted, stands-sum w (leaf l o e k v) er leafy, leafy-leaf l o e k v)
 

@@ -9,7 +9,7 @@ use lib.ListN.{length}
 use Rattle.layout.specs.Kind.{Leaf, shrinkMark, kindDown, Inner}
 use Rattle.layout.specs.Kind.Inner.{node4, node16, node48, node256}
 use Rattle.layout.proofs.KindLaws.{range-inner}
-use Rattle.model.specs.Edition.{Edition}
+use Rattle.model.specs.Edition.{Edition, Value}
 use Rattle.model.specs.Tree.{Art, Kids, Left, count, extentOf, lessOne, eraseTree, findTree}
 use Rattle.model.specs.State.{State, room, eraseChange}
 use Rattle.model.specs.Item.{Item, body, extent, leafy, sum}
@@ -72,7 +72,7 @@ pub record Held (E : Edition) (k : List ℕ) (p : Spot) (whole : Lay) : Type 0 w
   pub place : ℕ
   pub after : LayKids
   pub extent : ℕ
-  pub value : List ℕ
+  pub value : Value
   pub rest : List ℕ
   pub leads : Leads E k steps (p .byte ∷ rest)
   pub link : Link steps (p .node .link)

@@ -7,7 +7,7 @@ use lib.ListN.{length}
 use Rattle.layout.specs.Number.{le}
 use Rattle.layout.specs.Place.{nodeCount}
 use Rattle.layout.specs.Kind as table
-use Rattle.model.specs.Edition.{Edition, Legal, Lawful}
+use Rattle.model.specs.Edition.{Edition, Legal, Lawful, Value}
 use Rattle.model.specs.State.{State, room, eraseChange, callErase}
 use Rattle.model.specs.Image.{image}
 use Rattle.model.specs.Frame.{Lay, art, tree, Stands}
@@ -62,7 +62,7 @@ pub record OnlyAt (E : Edition) (f k : List ℕ) : Type 0 where
   pub slot : ℕ
   pub place : ℕ
   pub extent : ℕ
-  pub value : List ℕ
+  pub value : Value
   pub is : stands .root ≡ tree (leaf slot place extent k value)
 
 -- "leaves the frame as format leaves it": every byte

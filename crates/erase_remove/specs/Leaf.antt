@@ -4,7 +4,7 @@ use mathlib.Core.Path.{_≡_}
 use mathlib.Core.List.{List, _∷_}
 use lib.ListN.{length}
 use Rattle.layout.specs.Kind.{Leaf}
-use Rattle.model.specs.Edition.{Edition}
+use Rattle.model.specs.Edition.{Edition, Value}
 use Rattle.model.specs.Tree.{extentOf}
 use Rattle.model.specs.Item.{Item, body, extent}
 use Rattle.model.specs.Frame.{Lay, View}
@@ -23,7 +23,7 @@ pub record Drops (f : List ℕ) (slot place : ℕ) : Type 0 where
   pub path : List ℕ
   pub extent : ℕ
   pub key : List ℕ
-  pub value : List ℕ
+  pub value : Value
   pub trees : List (List ℕ × Lay)
   pub loose : List Item
   pub work : Work edition f view steps named ((path, leaf slot place extent key value) ∷ trees) loose
@@ -31,7 +31,7 @@ pub record Drops (f : List ℕ) (slot place : ℕ) : Type 0 where
   pub records : 1 ≤ view .nums .R
 
 -- the Leaf n at o with its extent at e, of key k and value v, is gone: its body is freed, its extent died, and R is one less
-pub record Dropped (E : Edition) (f g : List ℕ) (h : View) (xs : List Step) (s : ℕ) (ts : List (List ℕ × Lay)) (loose : List Item) (n o e : ℕ) (k v : List ℕ) : Type 0 where
+pub record Dropped (E : Edition) (f g : List ℕ) (h : View) (xs : List Step) (s : ℕ) (ts : List (List ℕ × Lay)) (loose : List Item) (n o e : ℕ) (k : List ℕ) (v : Value) : Type 0 where
   pub view : View
   pub work : Work E g view xs s ts loose
   pub since : (f0 : List ℕ) (h0 : View) (takes rewrites frees extents : List Item) → Since f0 h0 f h takes rewrites frees extents → Since f0 h0 g view takes rewrites (extent e (extentOf k v) ∷ body n Leaf o ∷ frees) extents

@@ -9,7 +9,7 @@ use borrow.Author.Tests.{leb-true, le-leb}
 use lib.Dec.{leb}
 use lib.ListN.{length}
 use Rattle.layout.specs.Number.{byteAt, le, put}
-use Rattle.layout.specs.Place.{leafExtent, leafKey, leafValue, leafZero, prefixZero, prefixBytes}
+use Rattle.layout.specs.Place.{leafExtent, leafKey, leafValue, leafStamp, prefixZero, prefixBytes}
 use Rattle.pieces.specs.Decides.{Decides}
 use Rattle.pieces.specs.Range.{IsZero, Blank}
 use Rattle.pieces.proofs.DecideLaws.{handed}
@@ -27,12 +27,12 @@ off16 w f a o v k h t =
     let l : o + w ≤ 16 = leb-true (o + w) 16 t in
     getD-put-off w f (a + o) v k (⊎-elim (λ x. inl (omega arith)) (λ y. inr (omega arith)) h)
 
-module _ (f : List ℕ) (o extent key value : ℕ) where
-  pub length-putLeafBody : length (putLeafBody f o extent key value) ≡ length f
+module _ (f : List ℕ) (o extent key value stamp : ℕ) where
+  pub length-putLeafBody : length (putLeafBody f o extent key value stamp) ≡ length f
   unfolding putLeafBody
   length-putLeafBody = simp le-laws
 
-  pub leaf-off : (a : ℕ) → Off a o 16 → byteAt (putLeafBody f o extent key value) a ≡ byteAt f a
+  pub leaf-off : (a : ℕ) → Off a o 16 → byteAt (putLeafBody f o extent key value stamp) a ≡ byteAt f a
   unfolding putLeafBody
   leaf-off a h = simp off16
 
@@ -40,31 +40,25 @@ module _ (f : List ℕ) (o extent key value : ℕ) where
     room : leb (o + 16) (length f) ≡ true
     room = le-leb (o + 16) (length f) inside
 
-    pub leaf-extent : extent < 4294967296 → le 4 (putLeafBody f o extent key value) (o + leafExtent) ≡ extent
+    pub leaf-extent : extent < 4294967296 → le 4 (putLeafBody f o extent key value stamp) (o + leafExtent) ≡ extent
     unfolding putLeafBody
     leaf-extent h = simp (le-laws, own16, room)
 
-    pub leaf-key : key < 65536 → le 2 (putLeafBody f o extent key value) (o + leafKey) ≡ key
+    pub leaf-key : key < 65536 → le 2 (putLeafBody f o extent key value stamp) (o + leafKey) ≡ key
     unfolding putLeafBody
     leaf-key h = simp (le-laws, own16, room)
 
-    pub leaf-value : value < 65536 → le 2 (putLeafBody f o extent key value) (o + leafValue) ≡ value
+    pub leaf-value : value < 65536 → le 2 (putLeafBody f o extent key value stamp) (o + leafValue) ≡ value
     unfolding putLeafBody
     leaf-value h = simp (le-laws, own16, room)
 
-    pub leaf-zero-low : le 4 (putLeafBody f o extent key value) (o + leafZero) ≡ 0
+    pub leaf-stamp : stamp < 18446744073709551616 → le 8 (putLeafBody f o extent key value stamp) (o + leafStamp) ≡ stamp
     unfolding putLeafBody
-    leaf-zero-low = let z : 0 < 4294967296 = omega arith in simp (le-laws, own16, room)
+    leaf-stamp h = simp (le-laws, own16, room)
 
-    pub leaf-zero-high : le 4 (putLeafBody f o extent key value) (o + (leafZero + 4)) ≡ 0
-    unfolding putLeafBody
-    leaf-zero-high = let z : 0 < 4294967296 = omega arith in simp (le-laws, own16, room)
-
-    pub leaf-zeros : (a : ℕ) → o + leafZero ≤ a → a < o + 16 → byteAt (putLeafBody f o extent key value) a ≡ 0
-    leaf-zeros a x y =
-        let g = putLeafBody f o extent key value in
-        ⊎-elim (λ l. zero-le-bytes 4 g (o + leafZero) leaf-zero-low a x (omega arith))
-        (λ l. zero-le-bytes 4 g (o + (leafZero + 4)) leaf-zero-high a l (omega arith)) (lt-or-le a (o + (leafZero + 4)))
+-- eight bytes are 0 exactly if their number is
+pub eight-zero : (f : List ℕ) (o : ℕ) {r : Bool} → Decides (Blank f o (o + 8)) r → Decides (le 8 f o ≡ 0) r
+eight-zero f o d = record { holds = λ e. blank-le 8 f o (d .holds e); fails = λ e z. d .fails e (le-blank 8 f o z) }
 
 -- ---- the zero field of a Prefix, ten bytes: two, and eight
 

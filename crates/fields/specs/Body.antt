@@ -2,9 +2,8 @@
 use Prim.Native.Nat.{ℕ, _+_}
 use mathlib.Core.List.{List}
 use Rattle.layout.specs.Number.{put}
-use Rattle.layout.specs.Place.{leafExtent, leafKey, leafValue, leafZero}
+use Rattle.layout.specs.Place.{leafExtent, leafKey, leafValue, leafStamp}
 
--- "extent offset 4, key length 2, value length 2, zero 8", at o
-unfoldable pub putLeafBody : List ℕ → ℕ → ℕ → ℕ → ℕ → List ℕ
-putLeafBody f o extent key value =
-    put 4 (put 4 (put 2 (put 2 (put 4 f (o + leafExtent) extent) (o + leafKey) key) (o + leafValue) value) (o + leafZero) 0) (o + (leafZero + 4)) 0
+-- "extent offset 4, key length 2, value length 2, zero 8", at o; (02) "the Leaf's last eight bytes hold a stamp"
+unfoldable pub putLeafBody : List ℕ → ℕ → ℕ → ℕ → ℕ → ℕ → List ℕ
+putLeafBody f o extent key value stamp = put 8 (put 2 (put 2 (put 4 f (o + leafExtent) extent) (o + leafKey) key) (o + leafValue) value) (o + leafStamp) stamp

@@ -7,7 +7,7 @@ ghost use mathlib.Core.Path.{_≡_};
 ghost use Prim.Native.Nat.{_+_, _*_, _/_, _≤_, _<_};
 ghost use lib.ListN.{length, set, take, drop};
 ghost use Rattle.layout.specs.Number.{byteAt, le, put};
-ghost use Rattle.layout.specs.Place.{leafExtent, leafKey, leafValue, leafZero, prefixChild, prefixLength, prefixZero, prefixBytes, nodeCount, nodeZero, node48Index, node48Children, node256Children};
+ghost use Rattle.layout.specs.Place.{leafExtent, leafKey, leafValue, leafStamp, prefixChild, prefixLength, prefixZero, prefixBytes, nodeCount, nodeZero, node48Index, node48Children, node256Children};
 ghost use Rattle.pieces.specs.Decides.{Decides};
 ghost use Rattle.pieces.specs.Range.{Blank};
 ghost use Rattle.fields.specs.Body.{putLeafBody};
@@ -20,8 +20,8 @@ impl Leaf {
     pub const KEY: usize = 4;
 
     pub const VALUE: usize = 6;
-    // eight zero bytes
-    pub const ZERO: usize = 8;
+    // eight bytes, zero in edition 1
+    pub const STAMP: usize = 8;
 
     pub const SIZE: usize = kind::BODY_SIZES[Kind::LEAF];
 
@@ -47,12 +47,26 @@ impl Leaf {
         number::read2(f, o + Leaf::VALUE)
     }
 
-    // Its zero field is zero.
-    pub fn zeros_good(f: &[u8], o: usize) -> bool
+    pub fn stamp(f: &[u8], o: usize) -> usize
         requires { ⌜ o + 16 ≤ length (now f) ⌝ }
-        ensures { λ r. ⌜ Decides (Blank (now (f .entry)) (o + leafZero) (o + leafZero + 8)) r ⌝ }
+        ensures { λ r. ⌜ r ≡ le 8 (now (f .entry)) (o + leafStamp) ⌝ }
     {
-        pieces::zero_eight(f, o + Leaf::ZERO)
+        number::read8(f, o + Leaf::STAMP)
+    }
+
+    pub fn set_stamp(f: &mut [u8], o: usize, stamp: usize)
+        requires { ⌜ o + 16 ≤ length (now f) ⌝ }
+        ensures { λ _. ⌜ now (f .exit) ≡ put 8 (now (f .entry)) (o + leafStamp) stamp ⌝ }
+    {
+        number::write8(f, o + Leaf::STAMP, stamp);
+    }
+
+    // It has no stamp.
+    pub fn unstamped(f: &[u8], o: usize) -> bool
+        requires { ⌜ o + 16 ≤ length (now f) ⌝ }
+        ensures { λ r. ⌜ Decides (le 8 (now (f .entry)) (o + leafStamp) ≡ 0) r ⌝ }
+    {
+        pieces::zero_eight(f, o + Leaf::STAMP)
     }
 
     // The bytes that an extent of n bytes takes.
@@ -63,16 +77,22 @@ impl Leaf {
         (n + 7) / 8 * 8
     }
 
-    // The whole body, its zeros too.
-    pub fn write(f: &mut [u8], o: usize, extent: usize, key_length: usize, value_length: usize)
+    // The whole body.
+    pub fn write(
+        f: &mut [u8],
+        o: usize,
+        extent: usize,
+        key_length: usize,
+        value_length: usize,
+        stamp: usize,
+    )
         requires { ⌜ o + 16 ≤ length (now f) ⌝ }
-        ensures { λ _. ⌜ now (f .exit) ≡ putLeafBody (now (f .entry)) o extent «key_length» «value_length» ⌝ }
+        ensures { λ _. ⌜ now (f .exit) ≡ putLeafBody (now (f .entry)) o extent «key_length» «value_length» stamp ⌝ }
     {
         number::write4(f, o + Leaf::EXTENT, extent);
         number::write2(f, o + Leaf::KEY, key_length);
         number::write2(f, o + Leaf::VALUE, value_length);
-        number::write4(f, o + Leaf::ZERO, 0);
-        number::write4(f, o + (Leaf::ZERO + 4), 0);
+        Leaf::set_stamp(f, o, stamp);
     }
 }
 

@@ -2,19 +2,23 @@
 use answers::Info;
 use answers::List;
 use answers::LookUp;
+use fields::header::Header;
 ghost use mathlib.Core.Path.{_≡_};
 ghost use mathlib.Core.List.{[], _∷_};
 ghost use Rattle.answers.specs.Number.{oneIf};
 ghost use Rattle.model.specs.Edition.{editionOf};
 ghost use Rattle.model.specs.Promise.{FormatPromise, CheckPromise, PutPromise, ReplacePromise, ErasePromise, PackPromise};
+ghost use Rattle.store.specs.Write.{valueFor};
 ghost use Rattle.frame_store.specs.Tells.{Tells};
-ghost use Rattle.frame_store.specs.LookUp.{LookedUp};
+ghost use Rattle.frame_store.specs.LookUp.{toldOf, LookedUp};
 ghost use Rattle.frame_store.specs.Info.{Informed};
 ghost use Rattle.frame_store.specs.List.{Listed};
 ghost use Rattle.frame_store.specs.Batch.{Batched};
 
-// as many numbers as look-up tells, as a listing does, and as info does
+// as many numbers as look-up tells, with a stamp and without, as a listing does, and as info does
 const FOUND: usize = 3;
+
+const FOUND_STAMPED: usize = 4;
 
 const PAGE: usize = 2;
 
@@ -36,7 +40,7 @@ pub fn check(frame: &[u8], edition: usize) -> u32
 }
 
 // The three numbers, where there is room for just three.
-fn tell(found: &mut [u64], place: usize, length: usize, slots: usize)
+fn tell_three(found: &mut [u64], place: usize, length: usize, slots: usize)
     ensures { λ r. ⌜ Tells (now (found .entry)) (place ∷ length ∷ slots ∷ []) (now (found .exit)) ⌝ }
 {
     if found.len() == FOUND {
@@ -46,35 +50,58 @@ fn tell(found: &mut [u64], place: usize, length: usize, slots: usize)
     }
 }
 
-// Place, length and slots visited go into the three numbers if there are three and the call is not refused, and nothing otherwise.
+// The four numbers, where there is room for just four.
+fn tell_four(found: &mut [u64], place: usize, length: usize, slots: usize, stamp: usize)
+    ensures { λ r. ⌜ Tells (now (found .entry)) (place ∷ length ∷ slots ∷ stamp ∷ []) (now (found .exit)) ⌝ }
+{
+    if found.len() == FOUND_STAMPED {
+        found[0] = place as u64;
+        found[1] = length as u64;
+        found[2] = slots as u64;
+        found[3] = stamp as u64;
+    }
+}
+
+// What the edition's look-up tells.
+fn tell(found: &mut [u64], place: usize, length: usize, slots: usize, stamp: usize, edition: usize)
+    ensures { λ r. ⌜ Tells (now (found .entry)) (toldOf (editionOf edition) (record { number = 0; place = place; long = length; slots = slots; stamp = stamp })) (now (found .exit)) ⌝ }
+{
+    if edition == Header::SECOND_EDITION {
+        tell_four(found, place, length, slots, stamp);
+        return;
+    }
+    tell_three(found, place, length, slots);
+}
+
+// Place, length and slots visited, and in edition 2 the stamp, go into the numbers if there are as many and the call is not refused, and nothing otherwise.
 pub fn look_up(frame: &[u8], key: &[u8], found: &mut [u64], edition: usize) -> u32
     ensures { λ n. ⌜ LookedUp (editionOf edition) (now (frame .entry)) (now (key .entry)) (now (found .entry)) n (now (found .exit)) ⌝ }
 {
     let told = store::look::look_up(frame, key, edition);
     let n = answers::look_up_number(told);
     match told {
-        LookUp::Found(place, length, slots) => {
-            tell(found, place, length, slots);
+        LookUp::Found(place, length, slots, stamp) => {
+            tell(found, place, length, slots, stamp, edition);
             n
         }
         LookUp::Absent(slots) => {
-            tell(found, 0, 0, slots);
+            tell(found, 0, 0, slots, 0, edition);
             n
         }
         LookUp::Refused(_) => n,
     }
 }
 
-pub fn put(frame: &mut [u8], key: &[u8], value: &[u8], edition: usize) -> u32
-    ensures { λ n. ⌜ PutPromise (editionOf edition) (now (frame .entry)) (now (key .entry)) (now (value .entry)) n (now (frame .exit)) ⌝ }
+pub fn put(frame: &mut [u8], key: &[u8], value: &[u8], stamp: usize, edition: usize) -> u32
+    ensures { λ n. ⌜ PutPromise (editionOf edition) (now (frame .entry)) (now (key .entry)) (valueFor (editionOf edition) (now (value .entry)) stamp) n (now (frame .exit)) ⌝ }
 {
-    answers::put_number(store::put::put(frame, key, value, edition))
+    answers::put_number(store::put::put(frame, key, value, stamp, edition))
 }
 
-pub fn replace(frame: &mut [u8], key: &[u8], value: &[u8], edition: usize) -> u32
-    ensures { λ n. ⌜ ReplacePromise (editionOf edition) (now (frame .entry)) (now (key .entry)) (now (value .entry)) n (now (frame .exit)) ⌝ }
+pub fn replace(frame: &mut [u8], key: &[u8], value: &[u8], stamp: usize, edition: usize) -> u32
+    ensures { λ n. ⌜ ReplacePromise (editionOf edition) (now (frame .entry)) (now (key .entry)) (valueFor (editionOf edition) (now (value .entry)) stamp) n (now (frame .exit)) ⌝ }
 {
-    answers::replace_number(store::put::replace(frame, key, value, edition))
+    answers::replace_number(store::put::replace(frame, key, value, stamp, edition))
 }
 
 pub fn erase(frame: &mut [u8], key: &[u8], edition: usize) -> u32

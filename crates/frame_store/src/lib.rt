@@ -2,12 +2,15 @@
 mod calls;
 
 use fields::header::Header;
-ghost use Rattle.model.specs.Edition.{edition1, edition2};
+ghost use Rattle.model.specs.Edition.{edition1, edition2, unstamped};
 ghost use Rattle.model.specs.Promise.{FormatPromise, CheckPromise, PutPromise, ReplacePromise, ErasePromise, PackPromise, PackBeforePromise};
 ghost use Rattle.frame_store.specs.LookUp.{LookedUp};
 ghost use Rattle.frame_store.specs.Info.{Informed};
 ghost use Rattle.frame_store.specs.List.{Listed};
 ghost use Rattle.frame_store.specs.Batch.{Batched};
+
+// "Edition 1 keeps zero there."
+const NO_STAMP: usize = 0;
 
 // ---- edition 1
 
@@ -34,16 +37,16 @@ pub extern "C" fn frame_look_up(frame: &[u8], key: &[u8], found: &mut [u64]) -> 
 
 #[no_mangle]
 pub extern "C" fn frame_put(frame: &mut [u8], key: &[u8], value: &[u8]) -> u32
-    ensures { λ n. ⌜ PutPromise edition1 (now (frame .entry)) (now (key .entry)) (now (value .entry)) n (now (frame .exit)) ⌝ }
+    ensures { λ n. ⌜ PutPromise edition1 (now (frame .entry)) (now (key .entry)) (unstamped (now (value .entry))) n (now (frame .exit)) ⌝ }
 {
-    calls::put(frame, key, value, Header::FIRST_EDITION)
+    calls::put(frame, key, value, NO_STAMP, Header::FIRST_EDITION)
 }
 
 #[no_mangle]
 pub extern "C" fn frame_replace(frame: &mut [u8], key: &[u8], value: &[u8]) -> u32
-    ensures { λ n. ⌜ ReplacePromise edition1 (now (frame .entry)) (now (key .entry)) (now (value .entry)) n (now (frame .exit)) ⌝ }
+    ensures { λ n. ⌜ ReplacePromise edition1 (now (frame .entry)) (now (key .entry)) (unstamped (now (value .entry))) n (now (frame .exit)) ⌝ }
 {
-    calls::replace(frame, key, value, Header::FIRST_EDITION)
+    calls::replace(frame, key, value, NO_STAMP, Header::FIRST_EDITION)
 }
 
 #[no_mangle]
@@ -135,17 +138,17 @@ pub extern "C" fn frame2_look_up(frame: &[u8], key: &[u8], found: &mut [u64]) ->
 }
 
 #[no_mangle]
-pub extern "C" fn frame2_put(frame: &mut [u8], key: &[u8], value: &[u8]) -> u32
-    ensures { λ n. ⌜ PutPromise edition2 (now (frame .entry)) (now (key .entry)) (now (value .entry)) n (now (frame .exit)) ⌝ }
+pub extern "C" fn frame2_put(frame: &mut [u8], key: &[u8], value: &[u8], stamp: usize) -> u32
+    ensures { λ n. ⌜ PutPromise edition2 (now (frame .entry)) (now (key .entry)) (record { bytes = now (value .entry); stamp = stamp }) n (now (frame .exit)) ⌝ }
 {
-    calls::put(frame, key, value, Header::SECOND_EDITION)
+    calls::put(frame, key, value, stamp, Header::SECOND_EDITION)
 }
 
 #[no_mangle]
-pub extern "C" fn frame2_replace(frame: &mut [u8], key: &[u8], value: &[u8]) -> u32
-    ensures { λ n. ⌜ ReplacePromise edition2 (now (frame .entry)) (now (key .entry)) (now (value .entry)) n (now (frame .exit)) ⌝ }
+pub extern "C" fn frame2_replace(frame: &mut [u8], key: &[u8], value: &[u8], stamp: usize) -> u32
+    ensures { λ n. ⌜ ReplacePromise edition2 (now (frame .entry)) (now (key .entry)) (record { bytes = now (value .entry); stamp = stamp }) n (now (frame .exit)) ⌝ }
 {
-    calls::replace(frame, key, value, Header::SECOND_EDITION)
+    calls::replace(frame, key, value, stamp, Header::SECOND_EDITION)
 }
 
 #[no_mangle]

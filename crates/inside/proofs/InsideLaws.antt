@@ -8,7 +8,7 @@ use lib.ListN.{length}
 use Rattle.layout.specs.Place.{entryAt}
 use Rattle.layout.specs.Kind.{Leaf, Prefix, bodySize}
 use Rattle.layout.specs.Entry.{highOf, placeOf}
-use Rattle.model.specs.Edition.{Edition}
+use Rattle.model.specs.Edition.{Edition, Value}
 use Rattle.model.specs.State.{State}
 use Rattle.model.specs.Item.{Item, body, onSlot, cover, sum}
 use Rattle.model.specs.Frame.{Lay, LayKids, Root, tree, rootItems, slotOf, IsNode, items, itemsAll, freed, Entry, NodeOf, LeafOf, Tree, Stands}
@@ -26,7 +26,7 @@ entry-at f s' s kind kind' o o' q h p E = let F : Entry f s kind o = rw q at E i
 pub record IsLeaf (s o : ℕ) (l : Lay) : Type 0 where
   pub extent : ℕ
   pub key : List ℕ
-  pub value : List ℕ
+  pub value : Value
   pub is : l ≡ leaf s o extent key value
 
 pub record IsPrefix (s o : ℕ) (l : Lay) : Type 0 where

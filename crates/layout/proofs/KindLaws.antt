@@ -7,7 +7,7 @@ use mathlib.Core.Bool.{Bool, true, false}
 use native.Mathlib.Omega.{arith}
 use native.Mathlib.Nat.{eq-or-lt-of-le}
 use lib.Dec.{T, eqb, eqb→eq, leb, leb→le}
-use Rattle.layout.specs.Place.{leafZero, prefixBytes, prefixMost, node4Bytes, node16Bytes, node48Index, node48Children, node256Children}
+use Rattle.layout.specs.Place.{leafStamp, prefixBytes, prefixMost, node4Bytes, node16Bytes, node48Index, node48Children, node256Children}
 use Rattle.layout.specs.Kind.{Leaf, Prefix, Node4, Node16, Node48, Node256, bodySize, fewest, most, shrinkMark, kindDown, Inner}
 use Rattle.layout.specs.Kind.Inner.{node4, node16, node48, node256}
 
@@ -64,7 +64,7 @@ pub size-least : (k : ℕ) → 1 ≤ k → k ≤ 8 → 8 ≤ bodySize k
 size-least = within (λ (k : ℕ). 8) bodySize 1 8 tt
 
 -- every body ends where its last field does
-pub sizes-hold : (bodySize Leaf ≡ leafZero + 8) × (bodySize Prefix ≡ prefixBytes + prefixMost)
+pub sizes-hold : (bodySize Leaf ≡ leafStamp + 8) × (bodySize Prefix ≡ prefixBytes + prefixMost)
     × (bodySize Node4 ≡ node4Bytes + 5 * most Node4) × (bodySize Node16 ≡ node16Bytes + 5 * most Node16)
     × (node48Children ≡ node48Index + 256) × (bodySize Node48 ≡ node48Children + 4 * most Node48)
     × (bodySize Node256 ≡ node256Children + 4 * most Node256)

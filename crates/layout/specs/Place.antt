@@ -61,8 +61,8 @@ leafKey = 4
 abbrev pub leafValue : ℕ
 leafValue = 6
 
-abbrev pub leafZero : ℕ
-leafZero = 8
+abbrev pub leafStamp : ℕ
+leafStamp = 8
 
 -- Prefix: child 4, length 2, zero 10, bytes 112
 abbrev pub prefixChild : ℕ

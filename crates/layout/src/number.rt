@@ -1,4 +1,4 @@
-// Little-endian numbers of 1, 2 and 4 bytes in a lent slice. A read is `le`, a write is exactly `put`; all are unsigned.
+// Little-endian numbers of 1, 2, 4 and 8 bytes in a lent slice. A read is `le`, a write is exactly `put`; all are unsigned.
 ghost use mathlib.Core.Path.{_≡_};
 ghost use Prim.Native.Nat.{_+_, _≤_, _<_};
 ghost use lib.ListN.{length, set};
@@ -31,6 +31,13 @@ pub fn read4(f: &[u8], o: usize) -> usize
     read2(f, o) + 65536 * read2(f, o + 2)
 }
 
+pub fn read8(f: &[u8], o: usize) -> usize
+    requires { ⌜ o + 8 ≤ length (now f) ⌝ }
+    ensures { λ r. ⌜ r ≡ le 8 (now (f .entry)) o ⌝ }
+{
+    read4(f, o) + 4294967296 * read4(f, o + 4)
+}
+
 pub fn write1(f: &mut [u8], o: usize, v: u8)
     requires { ⌜ o < length (now f) ⌝ }
     ensures { λ _. ⌜ now (f .exit) ≡ set (now (f .entry)) o v ⌝ }
@@ -52,4 +59,12 @@ pub fn write4(f: &mut [u8], o: usize, v: usize)
 {
     write2(f, o, v);
     write2(f, o + 2, v / 65536);
+}
+
+pub fn write8(f: &mut [u8], o: usize, v: usize)
+    requires { ⌜ o + 8 ≤ length (now f) ⌝ }
+    ensures { λ _. ⌜ now (f .exit) ≡ put 8 (now (f .entry)) o v ⌝ }
+{
+    write4(f, o, v);
+    write4(f, o + 4, v / 4294967296);
 }

@@ -11,7 +11,7 @@ use lib.Dec.{ltb}
 use Rattle.layout.specs.Number.{Bytes}
 use Rattle.layout.specs.Kind.{Leaf, Prefix}
 use Rattle.model.specs.Strings.{pick}
-use Rattle.model.specs.Edition.{Edition}
+use Rattle.model.specs.Edition.{Edition, Value, textOf}
 use Rattle.model.specs.Tree.{Art, Change, over, extentOf, newKey, putTree}
 use Rattle.model.specs.State.{State, putIn, putChange, room, after, done}
 use Rattle.model.specs.Item.{Item, extent, cover, leafy, sum}
@@ -43,11 +43,11 @@ module _ {E : Edition} {f : List ℕ} {s t : State} (S : Stands E f s) (T : Stan
   pub same-root : {r : Root} → S .root ≡ r → T .root ≡ r
   same-root e = sym (root-unique E f s t S T) ∙ e
 
-  pub same-room : (k v : List ℕ) → room s (putChange E s k v) ≡ true → room t (putChange E t k v) ≡ true
+  pub same-room : (k : List ℕ) (v : Value) → room s (putChange E s k v) ≡ true → room t (putChange E t k v) ≡ true
   same-room k v e = subst (λ (x : State). room x (putChange E x k v) ≡ true) (stands-unique E f s t S T) e
 
 -- so the witness at a spot serves for all
-module _ {E : Edition} {f k v : List ℕ} {p : Spot} (P : PutAt E f k v p) (s : State) (w : Stands E f s) where
+module _ {E : Edition} {f k : List ℕ} {v : Value} {p : Spot} (P : PutAt E f k v p) (s : State) (w : Stands E f s) where
   pub any-root : w .root ≡ tree (plug (P .way .steps) (P .way .sub))
   any-root = same-root (P .ready .stands) w (P .is ∙ ap tree (P .way .whole))
 
@@ -61,14 +61,14 @@ abbrev dead : {E : Edition} {f : List ℕ} (k : List ℕ) {s : State} → Stands
 dead {E} k w c = dying (c .dead) (extentAt (length k) (findAt E (w .root) k))
 
 -- the clause of `Stepped`, for any change
-abbrev Result : {E : Edition} (f g k v : List ℕ) {s : State} → Stands E f s → Change Art → Type 0
+abbrev Result : {E : Edition} (f g k : List ℕ) (v : Value) {s : State} → Stands E f s → Change Art → Type 0
 Result {E} f g k v {s} w c =
     (w' : Stands E g (pick (room s c) (done (pick (c .fresh) 0 9) (after s c (pick (c .fresh) (s .R + 1) (s .R)) (some (c .now)))) (done 6 s) .state))
     × Outside f g (w .root) (w' .root) (w .lists) (w' .lists) (c .takes ++ c .frees) (putTouch E (w .root) k v) (extentAt (length k) (findAt E (w' .root) k)) (dead k w c) (ltb 0 (c .extent))
 
 -- An edit of the good frame f: in g the tree `whole` stands, the numbers are those of the model's change, and the bodies `takes`, `rewrites` and
 -- `frees` were taken, rewritten and freed; the key's extent stands at `place`, and the extents `gone` died.
-record Ended {E : Edition} (f g k v : List ℕ) {s : State} (w : Stands E f s) (change : Change Art) : Type 0 where
+record Ended {E : Edition} (f g k : List ℕ) (v : Value) {s : State} (w : Stands E f s) (change : Change Art) : Type 0 where
   pub whole : Lay
   pub artIs : art whole ≡ change .now
   pub view : View
@@ -91,10 +91,10 @@ record Ended {E : Edition} (f g k v : List ℕ) {s : State} (w : Stands E f s) (
   pub accounts : Accounts (w .root) (putTouch E (w .root) k v) (change .takes ++ change .frees) takes rewrites frees
   pub stays : stay (putTouch E (w .root) k v .goes) (rootMarks (w .root)) (rootMarks (tree whole)) ≡ true
   pub last : among Prefix (kindsOf takes) ≡ true → Last (rootMarks (w .root)) (rootMarks (tree whole))
-  pub look : findAt E (tree whole) k ≡ some (record { at = place + length k; long = length v })
+  pub look : findAt E (tree whole) k ≡ some (record { at = place + length k; long = length (textOf v); stamp = v .stamp })
   pub fromB : ltb 0 (change .extent) ≡ true → w .nums .B ≤ place
 
-module _ {E : Edition} (f g k v : List ℕ) {s : State} (w : Stands E f s) (c : Change Art) (D : Ended f g k v w c) where
+module _ {E : Edition} (f g k : List ℕ) (v : Value) {s : State} (w : Stands E f s) (c : Change Art) (D : Ended f g k v w c) where
   state-is : room s c ≡ true → pick (room s c) (done (pick (c .fresh) 0 9) (after s c (pick (c .fresh) (s .R + 1) (s .R)) (some (c .now)))) (done 6 s) .state ≡ stateOf (D .view .nums) (D .view .lists) (tree (D .whole))
   state-is q =
       let en : pick (c .fresh) (s .R + 1) (s .R) ≡ D .records = ap (λ (z : State). pick (c .fresh) (z .R + 1) (z .R)) (w .state) ∙ sym (D .counts) in
@@ -117,11 +117,11 @@ module _ {E : Edition} (f g k v : List ℕ) {s : State} (w : Stands E f s) (c : 
 
 -- ---- a new key: the tree T stands in f'
 
-module _ {E : Edition} {f : List ℕ} {st : State} (S : Stands E f st) (k v : List ℕ) {A : Art} {takes frees : List ℕ} (change : putChange E st k v ≡ newKey k v A takes frees)
+module _ {E : Edition} {f : List ℕ} {st : State} (S : Stands E f st) (k : List ℕ) (v : Value) {A : Art} {takes frees : List ℕ} (change : putChange E st k v ≡ newKey k v A takes frees)
     (fits : room st (putChange E st k v) ≡ true) {f' : List ℕ} {h : View} {s e : ℕ} (T : Lay) {ts rs gs : List Item} (W : Work E f' h [] s (([], T) ∷ []) []) (es : s ≡ slotOf T) (bytes : Bytes f')
     (Z : Booked (standsView S) h (Leaf ∷ takes) frees (extentOf k v) 0 (st .R + 1)) (ea : art T ≡ A) (more : sum leafy (items T) ≡ sum leafy (rootItems (S .root)) + 1)
     (C : Since f (standsView S) f' h ts rs gs (extent e (extentOf k v) ∷ [])) (N : Accounts (S .root) (putTouch E (S .root) k v) ((Leaf ∷ takes) ++ frees) ts rs gs)
-    (stays : stay (putTouch E (S .root) k v .goes) (rootMarks (S .root)) (rootMarks (tree T)) ≡ true) (plain : among Prefix (kindsOf ts) ≡ false) (le : S .nums .B ≤ e) (look : findAt E (tree T) k ≡ some (record { at = e + length k; long = length v })) where
+    (stays : stay (putTouch E (S .root) k v .goes) (rootMarks (S .root)) (rootMarks (tree T)) ≡ true) (plain : among Prefix (kindsOf ts) ≡ false) (le : S .nums .B ≤ e) (look : findAt E (tree T) k ≡ some (record { at = e + length k; long = length (textOf v); stamp = v .stamp })) where
   pub new-key : Stepped E f k v f' st S
   new-key =
       let er : st .R ≡ S .nums .R = ap (λ (x : State). x .R) (S .state) in
@@ -154,19 +154,19 @@ module _ {E : Edition} {f : List ℕ} {st : State} (S : Stands E f st) (k v : Li
 
 -- ---- the model's change is made in the hole
 
-pub change-is : {E : Edition} {f : List ℕ} (k v : List ℕ) {s : State} (w : Stands E f s) (xs : List Step) (t : Lay) {r : List ℕ} {c : Change Art} → w .root ≡ tree (plug xs t) → Leads E k xs r
+pub change-is : {E : Edition} {f : List ℕ} (k : List ℕ) (v : Value) {s : State} (w : Stands E f s) (xs : List Step) (t : Lay) {r : List ℕ} {c : Change Art} → w .root ≡ tree (plug xs t) → Leads E k xs r
     → putTree E (art t) (length (pathOf xs)) k v ≡ c → putChange E s k v ≡ over (artIn xs) c
 change-is {E} {f} k v {s} w xs t {c = c} er L puts =
     let e : s .tree ≡ some (artIn xs (art t)) = ap (λ (z : State). z .tree) (w .state) ∙ ap rootArt er ∙ ap some (art-plug xs t) in
     ap (λ (o : Option Art). putIn E o k v) e ∙ plug-put L v (art t) (hangs-in E f xs t (stands-tree w (plug xs t) er)) ∙ ap (over (artIn xs)) puts
 
 -- and the frame has the room that the model has
-pub room-is : {E : Edition} {f : List ℕ} (k v : List ℕ) {s : State} (w : Stands E f s) (c : Change Art) (xs : List Step) → putChange E s k v ≡ over (artIn xs) c → room s (putChange E s k v) ≡ true → RoomFor (standsView w) (c .takes) (c .extent)
+pub room-is : {E : Edition} {f : List ℕ} (k : List ℕ) (v : Value) {s : State} (w : Stands E f s) (c : Change Art) (xs : List Step) → putChange E s k v ≡ over (artIn xs) c → room s (putChange E s k v) ≡ true → RoomFor (standsView w) (c .takes) (c .extent)
 room-is k v {s} w c xs e q = room-of w (over (artIn xs) c) (subst (λ (x : Change Art). room s x ≡ true) e q)
 
 -- An edit of the good frame f with the tree t in the hole xs: in g the tree `lay` stands there, the numbers are those of the model's change,
 -- and the bodies `takes`, `rewrites` and `frees` were taken, rewritten and freed; the key's extent stands at `place`, and the extents `gone` died.
-pub record EditedOver {E : Edition} (gone : List Item) (f g k v : List ℕ) {s : State} (w : Stands E f s) (xs : List Step) (t : Lay) : Type 0 where
+pub record EditedOver {E : Edition} (gone : List Item) (f g k : List ℕ) (v : Value) {s : State} (w : Stands E f s) (xs : List Step) (t : Lay) : Type 0 where
   pub change : Change Art
   pub puts : putTree E (art t) (length (pathOf xs)) k v ≡ change
   pub lay : Lay
@@ -189,14 +189,14 @@ pub record EditedOver {E : Edition} (gone : List Item) (f g k v : List ℕ) {s :
   pub accounts : Accounts (w .root) (touchPut E t (holderOf xs) (length (pathOf xs)) k v) (change .takes ++ change .frees) takes rewrites frees
   pub stays : Stay (touchPut E t (holderOf xs) (length (pathOf xs)) k v .goes) (marks (pathOf xs) t) (marks (pathOf xs) lay)
   pub last : among Prefix (kindsOf takes) ≡ true → LastIn (marks (pathOf xs) t) (marks (pathOf xs) lay)
-  pub look : findLay E lay (length (pathOf xs)) k ≡ some (record { at = place + length k; long = length v })
+  pub look : findLay E lay (length (pathOf xs)) k ≡ some (record { at = place + length k; long = length (textOf v); stamp = v .stamp })
   pub fromB : ltb 0 (change .extent) ≡ true → w .nums .B ≤ place
 
 -- and no extent died
-abbrev pub Edited : {E : Edition} (f g k v : List ℕ) {s : State} → Stands E f s → List Step → Lay → Type 0
+abbrev pub Edited : {E : Edition} (f g k : List ℕ) (v : Value) {s : State} → Stands E f s → List Step → Lay → Type 0
 Edited f g k v w xs t = EditedOver [] f g k v w xs t
 
-module _ {E : Edition} (f g k v : List ℕ) {s : State} (w : Stands E f s) (xs : List Step) (t : Lay) {r : List ℕ} (er : w .root ≡ tree (plug xs t)) (L : Leads E k xs r) {gone : List Item} (D : EditedOver gone f g k v w xs t)
+module _ {E : Edition} (f g k : List ℕ) (v : Value) {s : State} (w : Stands E f s) (xs : List Step) (t : Lay) {r : List ℕ} (er : w .root ≡ tree (plug xs t)) (L : Leads E k xs r) {gone : List Item} (D : EditedOver gone f g k v w xs t)
     (extents : Extents gone) where
   touch-is : putTouch E (w .root) k v ≡ touchPut E t (holderOf xs) (length (pathOf xs)) k v
   touch-is = ap (λ (z : Root). putTouch E z k v) er ∙ plug-touch L v t
@@ -233,6 +233,6 @@ module _ {E : Edition} (f g k v : List ℕ) {s : State} (w : Stands E f s) (xs :
   pub put-done-over : room s (putChange E s k v) ≡ true → Stepped E f k v g s w
   put-done-over q = ended f g k v w (over (artIn xs) (D .change)) whole-ended (change-is k v w xs t er L (D .puts)) q
 
-pub put-done : {E : Edition} (f g k v : List ℕ) {s : State} (w : Stands E f s) (xs : List Step) (t : Lay) {r : List ℕ} → w .root ≡ tree (plug xs t) → Leads E k xs r → Edited f g k v w xs t
+pub put-done : {E : Edition} (f g k : List ℕ) (v : Value) {s : State} (w : Stands E f s) (xs : List Step) (t : Lay) {r : List ℕ} → w .root ≡ tree (plug xs t) → Leads E k xs r → Edited f g k v w xs t
     → room s (putChange E s k v) ≡ true → Stepped E f k v g s w
 put-done f g k v w xs t er L D q = put-done-over f g k v w xs t er L D tt q

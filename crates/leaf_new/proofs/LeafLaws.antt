@@ -9,7 +9,7 @@ use Rattle.layout.specs.Place.{entryAt, atR}
 use Rattle.layout.specs.Kind.{Leaf, Kind}
 use Rattle.layout.specs.Entry.{placeOf}
 use Rattle.fields.specs.Body.{putLeafBody}
-use Rattle.model.specs.Edition.{Edition}
+use Rattle.model.specs.Edition.{Edition, Value, textOf}
 use Rattle.model.specs.Tree.{up8}
 use Rattle.model.specs.State.{State}
 use Rattle.model.specs.Frame.{View, Heap, Stands}
@@ -33,10 +33,10 @@ module _ {f : List ℕ} {h : View} {x : ℕ} (H : Heap f h) (R : RoomFor h (Leaf
   pub bytes-after : taken h Leaf .nums .B + x ≤ taken h Leaf .nums .F
   bytes-after = room-last (taken h Leaf) x (room-next h Leaf [] x leaf-kind (H .lists .eight) R)
 
-pub makes-takes : {f k v : List ℕ} → Makes f k v → Takes f Leaf
+pub makes-takes : {f k : List ℕ} {v : Value} → Makes f k v → Takes f Leaf
 makes-takes M = record { view = M .view; heap = M .heap; kind = leaf-kind; room = roomy-leaf (M .heap) (M .room) }
 
-module _ {f k v : List ℕ} (M : Makes f k v) {f1 : List ℕ} {s : ℕ} (took : (h : View) → Heap f h → Roomy h Leaf → Took f f1 h Leaf s) where
+module _ {f k : List ℕ} {v : Value} (M : Makes f k v) {f1 : List ℕ} {s : ℕ} (took : (h : View) → Heap f h → Roomy h Leaf → Took f f1 h Leaf s) where
   T : Took f f1 (M .view) Leaf s
   T = took (M .view) (M .heap) (roomy-leaf (M .heap) (M .room))
 
@@ -46,10 +46,10 @@ module _ {f k v : List ℕ} (M : Makes f k v) {f1 : List ℕ} {s : ℕ} (took : 
       let b = T .heap .header .bumpIn in
       (L .low, omega (arith, L .table, T .heap .header .size))
 
-  pub makes-extends : Extends f1 (length k + length v)
+  pub makes-extends : Extends f1 (length k + length (textOf v))
   makes-extends = record { view = taken (M .view) Leaf; heap = T .heap; room = bytes-after (M .heap) (M .room) }
 
-  pub makes-writes : {f2 : List ℕ} {e o : ℕ} → ((h : View) → Heap f1 h → h .nums .B + up8 (length k + length v) ≤ h .nums .F → Extended f1 f2 h k v e) → o ≡ placeOf f1 s → (o + 16 ≤ length f2) × (e < 4294967296)
+  pub makes-writes : {f2 : List ℕ} {e o : ℕ} → ((h : View) → Heap f1 h → h .nums .B + up8 (length k + length (textOf v)) ≤ h .nums .F → Extended f1 f2 h k (textOf v) e) → o ≡ placeOf f1 s → (o + 16 ≤ length f2) × (e < 4294967296)
   makes-writes ext eo =
       let X = ext (taken (M .view) Leaf) (T .heap) (bytes-after (M .heap) (M .room)) in
       let L = took-lies T leaf-kind in
@@ -59,12 +59,12 @@ module _ {f k v : List ℕ} (M : Makes f k v) {f1 : List ℕ} {s : ℕ} (took : 
       (omega (arith, T .entry .placeIs, L .ends, T .heap .header .size, X .but .size), omega arith)
 
   -- the whole
-  pub leaf-law : {f2 f3 : List ℕ} {e o : ℕ} → ((h : View) → Heap f1 h → h .nums .B + up8 (length k + length v) ≤ h .nums .F → Extended f1 f2 h k v e) → o ≡ placeOf f1 s → f3 ≡ putLeafBody f2 o e (length k) (length v)
+  pub leaf-law : {f2 f3 : List ℕ} {e o : ℕ} → ((h : View) → Heap f1 h → h .nums .B + up8 (length k + length (textOf v)) ≤ h .nums .F → Extended f1 f2 h k (textOf v) e) → o ≡ placeOf f1 s → f3 ≡ putLeafBody f2 o e (length k) (length (textOf v)) (v .stamp)
       → NewLeaf f f3 k v s
-  leaf-law {e = e} ext eo eg E h xs n ts loose path W R legal begins =
+  leaf-law {e = e} ext eo eg E h xs n ts loose path W R legal begins held =
       let T' = took h (W .heap) (roomy-leaf (W .heap) R) in
       let w = makes-writes ext eo in
-      leaf-made path W T' (ext (taken h Leaf) (T' .heap) (bytes-after (W .heap) R)) eo (leaf-written e (length k) (length v) eg (w .0) (w .1) (M .keyFits) (M .valueFits)) legal begins
+      leaf-made path W T' (ext (taken h Leaf) (T' .heap) (bytes-after (W .heap) R)) eo (leaf-written e (length k) (length (textOf v)) (v .stamp) eg (w .0) (w .1) (M .keyFits) (M .valueFits) (M .stampFits)) legal begins held
 
 -- ---- R grows
 

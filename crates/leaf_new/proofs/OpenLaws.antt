@@ -5,7 +5,7 @@ use mathlib.Core.List.{List, [], _∷_, _++_}
 use native.Mathlib.Omega.{arith}
 use lib.ListN.{length}
 use Rattle.layout.specs.Kind.{Leaf}
-use Rattle.model.specs.Edition.{Edition}
+use Rattle.model.specs.Edition.{Edition, Value}
 use Rattle.model.specs.Tree.{extentOf}
 use Rattle.model.specs.State.{State}
 use Rattle.model.specs.Item.{body, extent}
@@ -16,7 +16,7 @@ use Rattle.between.specs.Hole.{Step, plug, pathOf, stepsItems}
 use Rattle.between.specs.Work.{Suits, forestItems, Work}
 use Rattle.between.proofs.WorkLaws.{standsView, work-of, work-open, first-owns, open-leaf}
 
-module _ {E : Edition} {f : List ℕ} {s : State} (w : Stands E f s) (xs : List Step) (n o e : ℕ) (k v : List ℕ) (er : w .root ≡ tree (plug xs (leaf n o e k v))) where
+module _ {E : Edition} {f : List ℕ} {s : State} (w : Stands E f s) (xs : List Step) (n o e : ℕ) (k : List ℕ) (v : Value) (er : w .root ≡ tree (plug xs (leaf n o e k v))) where
   pub leaf-opened : Work E f (standsView w) xs n ((pathOf xs, leaf n o e k v) ∷ []) [] × Suits xs (leaf n o e k v)
   leaf-opened = work-open xs (leaf n o e k v) [] (work-of w (plug xs (leaf n o e k v)) er) refl
 

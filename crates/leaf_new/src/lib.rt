@@ -4,17 +4,17 @@ use fields::header::Header;
 use layout::entry::Entry;
 use layout::kind::Kind;
 use room::heap;
-ghost use Rattle.leaf_new.specs.Make.{Makes, NewLeaf, Counts, Counted};
+ghost use Rattle.leaf_new.specs.Make.{stamped, Makes, NewLeaf, Counts, Counted};
 
-// A Leaf for key and value: its slot. The body is taken first, then the extent.
-pub fn new_leaf(f: &mut [u8], key: &[u8], value: &[u8]) -> usize
-    requires { ⌜ Makes (now f) (now key) (now value) ⌝ }
-    ensures { λ r. ⌜ NewLeaf (now (f .entry)) (now (f .exit)) (now (key .entry)) (now (value .entry)) r ⌝ }
+// A Leaf for key, value and stamp: its slot. The body is taken first, then the extent.
+pub fn new_leaf(f: &mut [u8], key: &[u8], value: &[u8], stamp: usize) -> usize
+    requires { ⌜ Makes (now f) (now key) (stamped (now value) stamp) ⌝ }
+    ensures { λ r. ⌜ NewLeaf (now (f .entry)) (now (f .exit)) (now (key .entry)) (stamped (now (value .entry)) stamp) r ⌝ }
 {
     let s = heap::take(f, Kind::LEAF);
     let body = Entry::read(f, s);
     let extent = heap::extend(f, key, value);
-    Leaf::write(f, body.place, extent, key.len(), value.len());
+    Leaf::write(f, body.place, extent, key.len(), value.len(), stamp);
     s
 }
 

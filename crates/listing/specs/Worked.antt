@@ -3,13 +3,13 @@ use Prim.Native.Nat.{ℕ}
 use mathlib.Core.Path.{_≡_}
 use mathlib.Core.List.{List, [], _∷_}
 use mathlib.Core.Option.{Option, none, some}
-use Rattle.model.specs.Edition.{edition1}
+use Rattle.model.specs.Edition.{edition1, unstamped}
 use Rattle.model.specs.Records.{Record}
 use Rattle.listing.specs.Listing.{listing}
 
 -- a record of no bytes
 abbrev pub key : List ℕ → Record
-key k = record { key = k; value = [] }
+key k = record { key = k; value = unstamped [] }
 
 abbrev pub set : List Record
 set = key (97 ∷ []) ∷ key (97 ∷ 47 ∷ 98 ∷ []) ∷ key (97 ∷ 47 ∷ 99 ∷ []) ∷ key (97 ∷ 98 ∷ []) ∷ key (98 ∷ 47 ∷ 120 ∷ []) ∷ key (98 ∷ 47 ∷ 121 ∷ []) ∷ key (99 ∷ []) ∷ []

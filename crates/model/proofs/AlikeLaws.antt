@@ -11,7 +11,7 @@ use lib.Dec.{eqb}
 use borrow.Author.Tests.{eq-eqb, eqb-true}
 use Rattle.layout.specs.Kind.{Leaf, Prefix, EmptyRoot}
 use Rattle.model.specs.Strings.{pick, same}
-use Rattle.model.specs.Edition.{Edition}
+use Rattle.model.specs.Edition.{Edition, Value}
 use Rattle.model.specs.Tree.{extentOf}
 use Rattle.model.specs.State.{State, Write, onWrite, onErase}
 use Rattle.model.specs.Item.{Item, body, extent, onSlot, sum}
@@ -216,7 +216,7 @@ slot-stays {r = r} {r' = r'} {goes = goes} R s h n =
 pub arts-same : {E : Edition} {f' f'' : List ℕ} {s : State} (w' : Stands E f' s) (w'' : Stands E f'' s) → rootArt (w' .root) ≡ rootArt (w'' .root)
 arts-same w' w'' = sym (ap (λ (z : State). z .tree) (w' .state)) ∙ ap (λ (z : State). z .tree) (w'' .state)
 
-module _ {E : Edition} {a : Write} {f k v : List ℕ} {n m : ℕ} {f' f'' : List ℕ} (P : WritePromise E a f k v n f') (Q : WritePromise E a f k v m f'') {s : State} (w : Stands E f s) where
+module _ {E : Edition} {a : Write} {f k : List ℕ} {v : Value} {n m : ℕ} {f' f'' : List ℕ} (P : WritePromise E a f k v n f') (Q : WritePromise E a f k v m f'') {s : State} (w : Stands E f s) where
   pub put-number : n ≡ m
   put-number = P .answer s w ∙ sym (Q .answer s w)
 
@@ -239,7 +239,7 @@ module _ {E : Edition} {f k : List ℕ} {n m : ℕ} {f' f'' : List ℕ} (P : Era
 cap-of : {E : Edition} {f : List ℕ} {s : State} (w : Stands E f s) → s .N ≡ w .nums .N
 cap-of w = ap (λ (z : State). z .N) (w .state)
 
-pub put-same-cap : {E : Edition} (a : Write) {f f' : List ℕ} (k v : List ℕ) {s : State} (w : Stands E f s) (w' : Stands E f' (onWrite E a s k v .state)) → w' .nums .N ≡ w .nums .N
+pub put-same-cap : {E : Edition} (a : Write) {f f' : List ℕ} (k : List ℕ) (v : Value) {s : State} (w : Stands E f s) (w' : Stands E f' (onWrite E a s k v .state)) → w' .nums .N ≡ w .nums .N
 put-same-cap {E} a k v {s} w w' = sym (cap-of w') ∙ on-write-frame E a s k v .1 ∙ cap-of w
 
 pub erase-same-cap : {E : Edition} {f f' : List ℕ} (k : List ℕ) {s : State} (w : Stands E f s) (w' : Stands E f' (onErase E s k .state)) → w' .nums .N ≡ w .nums .N

@@ -9,7 +9,7 @@ use lib.Seq.{length-take-le}
 use lib.Dec.{ltb, eqb}
 use Rattle.layout.specs.Kind.{Node4, bodySize, most, shrinkMark, kindUp, kindDown}
 use Rattle.model.specs.Strings.{same, shared}
-use Rattle.model.specs.Edition.{Edition, Legal, Lawful}
+use Rattle.model.specs.Edition.{Edition, Legal, Lawful, Value, textOf}
 use Rattle.model.specs.Tree.{Art, Kids, count, has, join, placeIn, carried, asPrefix, fork, Change, over, idle, newKey, chain, prefixes, rechained, putLeaf, cutPrefix, addChild, putTree, putKids, Left, LeftKids, lessOne, loneChild, underPrefix, close, closeUnder, afterKids, consKid, fromChild, eraseTree, eraseKids, isInner}
 use Rattle.model.specs.Tree.Art.{leaf, prefix, node}
 use Rattle.model.specs.Tree.Kids.{nil, kid}
@@ -81,7 +81,7 @@ BalancedKids ks c = Even (slotsKids ks) (sizeKids ks) (slotsKids (c .now)) (size
 -- ---- put
 
 -- a key and a tree part: with what the Prefixes come to, the rest balances
-even-fork : (w : List ℕ) (b c : ℕ) (k v : List ℕ) (y : Art) (s z : ℕ) (takes frees : List ℕ)
+even-fork : (w : List ℕ) (b c : ℕ) (k : List ℕ) (v : Value) (y : Art) (s z : ℕ) (takes frees : List ℕ)
     → chain (length w) + slots y + length frees ≡ s + length takes
     → chain (length w) * 128 + size y + bodiesOf frees ≡ z + bodiesOf takes
     → let c' = newKey k v (asPrefix w (fork b (leaf k v) c y)) (Node4 ∷ takes) frees in Even s z (slots (c' .now)) (size (c' .now)) c'
@@ -207,9 +207,9 @@ BalancedLK ks c = Even0 (slotsKids ks) (sizeKids ks) (slotsLK (c .now)) (sizeLK 
 module _ {E : Edition} (L : Lawful E) where
   -- ---- put
 
-  even-leaf : (d : ℕ) (k v k' v' : List ℕ) → Balanced (leaf k' v') (putLeaf E d k v k' v')
+  even-leaf : (d : ℕ) (k : List ℕ) (v : Value) (k' : List ℕ) (v' : Value) → Balanced (leaf k' v') (putLeaf E d k v k' v')
   even-leaf d k v k' v' = bool-cases (same k k')
-      (λ e. eqb-cases (length v) (length v')
+      (λ e. eqb-cases (length (textOf v)) (length (textOf v'))
       (λ t q. let o = ap length (same-true k k' e) in rw (e, t) record { slots = refl; bytes = rw (o, q) })
       (λ t q. rw (e, t) record { slots = refl; bytes = omega arith }))
       (λ e. rw e (even-fork (take q r) (getD r q 0) (getD r' q 0) k v (leaf k' v') 1 (size (leaf k' v')) (prefixes (chain q)) []
@@ -228,7 +228,7 @@ module _ {E : Edition} (L : Lawful E) where
       len : length (take q r) ≡ q
       len = length-take-le q r (shared-left r r')
 
-  even-split : (d : ℕ) (k v p : List ℕ) (a : Art) → Balanced (prefix p a) (cutPrefix E d k v p a)
+  even-split : (d : ℕ) (k : List ℕ) (v : Value) (p : List ℕ) (a : Art) → Balanced (prefix p a) (cutPrefix E d k v p a)
   even-split d k v p a =
       even-fork (take q p) (getD r q 0) (getD p q 0) k v (asPrefix after a) (chain (length p) + slots a) (chain (length p) * 128 + size a)
       (prefixes (chain q + chain (length after) - chain (length p))) (prefixes (chain (length p) - (chain q + chain (length after))))
@@ -247,7 +247,7 @@ module _ {E : Edition} (L : Lawful E) where
       len : length (take q p) ≡ q
       len = length-take-le q p (shared-left p r)
 
-  even-add : (d : ℕ) (k v : List ℕ) (kind : ℕ) (ks : Kids) → Balanced (node kind ks) (addChild E d k v kind ks)
+  even-add : (d : ℕ) (k : List ℕ) (v : Value) (kind : ℕ) (ks : Kids) → Balanced (node kind ks) (addChild E d k v kind ks)
   even-add d k v kind ks =
       let b = getD (E .walked k) d 0 in let cs = carried (kindUp kind) ks in
       bool-cases (ltb (count ks) (most kind))
@@ -261,7 +261,7 @@ module _ {E : Edition} (L : Lawful E) where
       })
 
   mutual
-    pub put-even : (a : Art) (d : ℕ) (k v : List ℕ) → Balanced a (putTree E a d k v)
+    pub put-even : (a : Art) (d : ℕ) (k : List ℕ) (v : Value) → Balanced a (putTree E a d k v)
     put-even (leaf k' v') d k v = even-leaf d k v k' v'
     put-even (prefix p a) d k v =
         let c = putTree E a (d + length p) k v in
@@ -274,7 +274,7 @@ module _ {E : Edition} (L : Lawful E) where
         (λ t. rw t (even-more (λ x. node kind x) 1 (bodySize kind) (slotsKids ks) (sizeKids ks) (slotsKids (c .now)) (sizeKids (c .now)) c (put-kids-even ks d k v)))
         (λ t. rw t (even-add d k v kind ks))
 
-    put-kids-even : (ks : Kids) (d : ℕ) (k v : List ℕ) → BalancedKids ks (putKids E ks d k v)
+    put-kids-even : (ks : Kids) (d : ℕ) (k : List ℕ) (v : Value) → BalancedKids ks (putKids E ks d k v)
     put-kids-even nil d k v = record { slots = refl; bytes = refl }
     put-kids-even (kid c j a ks) d k v =
         let x = putTree E a (d + 1) k v in let xs = putKids E ks d k v in

@@ -19,6 +19,7 @@ use Rattle.layout.specs.Entry.{placeOf, highOf, entryOf}
 use Rattle.layout.proofs.NumberLaws.{le-inj}
 use Rattle.layout.proofs.EntryLaws.{entry-again}
 use Rattle.layout.proofs.KindLaws.{range-inner}
+use Rattle.model.specs.Edition.{Value, textOf}
 use Rattle.model.specs.Strings.{pick}
 use Rattle.model.specs.Tree.{Kids}
 use Rattle.model.specs.Body.{LeafAt, PrefixAt, byteIn, childIn, lookKid, SortedAt, Named, namedChild, Node48At, slotOrNone, Node256At}
@@ -179,19 +180,19 @@ module _ (f g : List ℕ) (F : Bytes f) (G : Bytes g) where
 
   -- ---- a Leaf and a Prefix
 
-  pub leaf-twin : (o o' e e' : ℕ) (k v : List ℕ) → LeafAt f o e k v → LeafAt g o' e' k v → Copied f o g o' leafKey 16
+  pub leaf-twin : (o o' e e' : ℕ) (k : List ℕ) (v : Value) → LeafAt f o e k v → LeafAt g o' e' k v → Copied f o g o' leafKey 16
   leaf-twin o o' e e' k v A B j l u = elim (decLt j 6) [
     | yes h ↦ field 2 4 o o' (A .keyLength ∙ sym (B .keyLength)) j l (omega arith)
     | no h ↦ elim (decLt j 8) [
       | yes i ↦ field 2 6 o o' (A .valueLength ∙ sym (B .valueLength)) j (omega arith) (omega arith)
-      | no i ↦ row 8 8 o o' (λ z. 0) (A .zeros) (B .zeros) j (omega arith) (omega arith)
+      | no i ↦ field 8 8 o o' (A .stamp ∙ sym (B .stamp)) j (omega arith) (omega arith)
     ]
   ]
 
-  pub text-twin : (o o' e e' : ℕ) (k v : List ℕ) → LeafAt f o e k v → LeafAt g o' e' k v → Copied f e g e' 0 (length k + length v)
-  text-twin o o' e e' k v A B j l u = let n = length-append k v in A .text j (omega arith) ∙ sym (B .text j (omega arith))
+  pub text-twin : (o o' e e' : ℕ) (k : List ℕ) (v : Value) → LeafAt f o e k v → LeafAt g o' e' k v → Copied f e g e' 0 (length k + length (textOf v))
+  text-twin o o' e e' k v A B j l u = let n = length-append k (textOf v) in A .text j (omega arith) ∙ sym (B .text j (omega arith))
 
-  pub leaf-bytes : (o e : ℕ) (k v : List ℕ) → LeafAt f o e k v → LeafAt g o e k v → (a : ℕ) → o ≤ a → a < o + 16 → byteAt f a ≡ byteAt g a
+  pub leaf-bytes : (o e : ℕ) (k : List ℕ) (v : Value) → LeafAt f o e k v → LeafAt g o e k v → (a : ℕ) → o ≤ a → a < o + 16 → byteAt f a ≡ byteAt g a
   leaf-bytes o e k v A B =
       at-byte o 16 (λ j l u. elim (decLt j 4) [ yes h ↦ field 4 0 o o (A .extent ∙ sym (B .extent)) j l (omega arith) | no h ↦ leaf-twin o o e e k v A B j (omega arith) u ])
 

@@ -8,7 +8,7 @@ use mathlib.Core.Option.{some}
 use native.Mathlib.Omega.{arith}
 use lib.ListN.{replicate}
 use Rattle.layout.specs.Kind.{Prefix}
-use Rattle.model.specs.Edition.{edition2}
+use Rattle.model.specs.Edition.{edition2, unstamped}
 use Rattle.model.specs.Tree.{Left}
 use Rattle.model.specs.State.{putIn, eraseChange}
 use Rattle.model.specs.Frame.{Lay, Root, tree, art, rootArt}
@@ -19,8 +19,8 @@ use Rattle.model.specs.Touch.{Touch, touch, putTouch, eraseTouch, stay, 
 
 -- the clause of a put and of an erase; the trees are those of the model
 record Put (r : Root) (k : List ℕ) (t : Touch) (r' : Root) (answer : Bool) : Type 0 where
-  pub model : rootArt r' ≡ some (putIn edition2 (rootArt r) k [] .now)
-  pub touches : putTouch edition2 r k [] ≡ t
+  pub model : rootArt r' ≡ some (putIn edition2 (rootArt r) k (unstamped []) .now)
+  pub touches : putTouch edition2 r k (unstamped []) ≡ t
   pub clause : stay (t .goes) (rootMarks r) (rootMarks r') ≡ answer
 
 record Erase (l : Lay) (k : List ℕ) (t : Touch) (l' : Lay) (answer : Bool) : Type 0 where
@@ -34,7 +34,7 @@ abbrev sevens : ℕ → List ℕ
 sevens n = replicate n 7
 
 abbrev lf : ℕ → List ℕ → Lay
-lf s k = leaf s 0 0 k []
+lf s k = leaf s 0 0 k (unstamped [])
 
 -- a Prefix of n bytes 7; a Node4 of two children
 abbrev pre : ℕ → ℕ → Lay → Lay

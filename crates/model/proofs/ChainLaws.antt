@@ -13,7 +13,7 @@ use lib.Dec.{eqb, ltb}
 use borrow.Author.Tests.{eq-eqb, ne-eqb}
 use Rattle.layout.specs.Place.{prefixMost}
 use Rattle.model.specs.Strings.{shared}
-use Rattle.model.specs.Edition.{Edition}
+use Rattle.model.specs.Edition.{Edition, Value}
 use Rattle.layout.specs.Kind.{Prefix, Node4, most, shrinkMark, kindDown, bodySize}
 use Rattle.layout.specs.Entry.{entryOf}
 use Rattle.model.specs.Tree.{Art, Kids, Change, Left, over, chain, prefixes, rechained, asPrefix, fork, newKey, has, count, isInner, findTree, cutPrefix, putTree, LeftKids, carried, lessOne, afterKids, underPrefix, closeUnder, eraseTree, eraseKids}
@@ -134,7 +134,7 @@ find-apart E p (node kind ks) d k n = rw (ne-eqb (shared p (drop d (E .walked k)
 -- ---- put
 
 -- a Node4 between two parts of a chain, and the same below p
-cut-same : (k v p w : List ℕ) (F F' : Art) (m m' n n' : ℕ) → F ≡ F' → 1 ≤ length p → isInner F' ≡ true → m ≡ m' → n ≡ n'
+cut-same : (k : List ℕ) (v : Value) (p w : List ℕ) (F F' : Art) (m m' n n' : ℕ) → F ≡ F' → 1 ≤ length p → isInner F' ≡ true → m ≡ m' → n ≡ n'
     → newKey k v (asPrefix (p ++ w) F) (Node4 ∷ prefixes m) (prefixes n) ≡ over (atop p) (newKey k v (asPrefix w F') (Node4 ∷ prefixes m') (prefixes n'))
 cut-same k v p w F F' m m' n n' e h i em en = rw (e, em, en, as-on p w F' h i)
 
@@ -142,7 +142,7 @@ fork-inner : (b : ℕ) (x : Art) (c : ℕ) (y : Art) → isInner (fork b x c y) 
 fork-inner b x c y = refl
 
 -- a chain cut below a full Prefix
-cut-atop : (E : Edition) (p q : List ℕ) (a : Art) (d : ℕ) (k v : List ℕ) → length p ≡ prefixMost → shared p (drop d (E .walked k)) ≡ length p
+cut-atop : (E : Edition) (p q : List ℕ) (a : Art) (d : ℕ) (k : List ℕ) (v : Value) → length p ≡ prefixMost → shared p (drop d (E .walked k)) ≡ length p
     → cutPrefix E d k v (p ++ q) a ≡ over (atop p) (cutPrefix E (d + length p) k v q a)
 cut-atop E p q a d k v f h = go (shared (p ++ q) r) (rw (drop-drop (E .walked k) d (length p)) at (shared-on p q r h))
   where
@@ -178,12 +178,12 @@ inner-atop p (node kind ks) i = refl
 over-atop : (p : List ℕ) (c : Change Art) → isInner (c .now) ≡ true → over (λ x. prefix p x) c ≡ over (atop p) c
 over-atop p c i = ap (λ (x : Art). record { now = x; takes = c .takes; frees = c .frees; extent = c .extent; dead = c .dead; fresh = c .fresh }) (inner-atop p (c .now) i)
 
-put-inner : (E : Edition) (kind : ℕ) (ks : Kids) (d : ℕ) (k v : List ℕ) → isInner (putTree E (node kind ks) d k v .now) ≡ true
+put-inner : (E : Edition) (kind : ℕ) (ks : Kids) (d : ℕ) (k : List ℕ) (v : Value) → isInner (putTree E (node kind ks) d k v .now) ≡ true
 put-inner E kind ks d k v = bool-cases (has (getD (E .walked k) d 0) ks)
     (λ t. rw t refl)
     (λ t. rw t (bool-cases (ltb (count ks) (most kind)) (λ u. rw u refl) (λ u. rw u refl)))
 
-pub put-atop : (E : Edition) (p : List ℕ) (a : Art) (d : ℕ) (k v : List ℕ) → Hung p a → shared p (drop d (E .walked k)) ≡ length p
+pub put-atop : (E : Edition) (p : List ℕ) (a : Art) (d : ℕ) (k : List ℕ) (v : Value) → Hung p a → shared p (drop d (E .walked k)) ≡ length p
     → putTree E (atop p a) d k v ≡ over (atop p) (putTree E a (d + length p) k v)
 put-atop E p (leaf k' v') d k v H h = absurd H
 put-atop E p (node kind ks) d k v H h =

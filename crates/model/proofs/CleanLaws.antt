@@ -8,7 +8,7 @@ use native.Mathlib.Omega.{arith}
 use native.Mathlib.Decide.{decLt}
 use Rattle.layout.specs.Number.{le}
 use Rattle.layout.specs.Place.{atD, dataStart}
-use Rattle.model.specs.Edition.{Edition, edition1, before1, Legal, Lawful}
+use Rattle.model.specs.Edition.{Edition, edition1, before1, Legal, Lawful, Value}
 use Rattle.model.specs.State.{State}
 use Rattle.model.specs.Item.{cover, sum}
 use Rattle.model.specs.Frame.{Lay, LayKids, Root, bare, tree, rootItems, Tree, Trees, RootAt, LeafOf, freed, Clean, Stands, Good}
@@ -39,7 +39,7 @@ lawful-before = record {
   short = λ k h. lawful1 .short k (legal1 h);
   apart = λ k l t h g e. lawful1 .apart k l t (legal1 h) (legal1 g) e;
   order = λ w x y b s c t h g e f l. lawful1 .order w x y b s c t (legal1 h) (legal1 g) e f l;
-  fields = record { number = lawful1 .fields .number; keys = λ k h. lawful1 .fields .keys k (legal1 h); words = lawful1 .fields .words };
+  fields = record { number = lawful1 .fields .number; keys = λ k h. lawful1 .fields .keys k (legal1 h); words = lawful1 .fields .words; stamps = lawful1 .fields .stamps };
 }
 
 -- two editions of one number that take the same keys and walk them alike
@@ -47,10 +47,11 @@ pub record SameKeys (E G : Edition) : Type 0 where
   pub number : E .number ≡ G .number
   pub faults : (k : List ℕ) → G .keyFault k ≡ E .keyFault k
   pub walks : (k : List ℕ) → G .walked k ≡ E .walked k
+  pub stamps : G .stamps ≡ E .stamps
 
 module _ {E G : Edition} (same : SameKeys E G) (f : List ℕ) where
-  leaf-as : {path : List ℕ} {o e : ℕ} {k v : List ℕ} → LeafOf E f path o e k v → LeafOf G f path o e k v
-  leaf-as {k = k} L = record { at = L .at; eights = L .eights; legal = same .faults k ∙ L .legal; begins = rw (same .walks k) (L .begins) }
+  leaf-as : {path : List ℕ} {o e : ℕ} {k : List ℕ} {v : Value} → LeafOf E f path o e k v → LeafOf G f path o e k v
+  leaf-as {k = k} L = record { at = L .at; eights = L .eights; legal = same .faults k ∙ L .legal; begins = rw (same .walks k) (L .begins); stamped = rw (same .stamps) (L .stamped) }
 
   mutual
     unfolding Tree Trees
@@ -109,10 +110,10 @@ module _ {E G : Edition} (same : SameKeys E G) (f : List ℕ) where
       }
 
 to-before : SameKeys edition1 before1
-to-before = record { number = refl; faults = λ k. refl; walks = λ k. refl }
+to-before = record { number = refl; faults = λ k. refl; walks = λ k. refl; stamps = refl }
 
 from-before : SameKeys before1 edition1
-from-before = record { number = refl; faults = λ k. refl; walks = λ k. refl }
+from-before = record { number = refl; faults = λ k. refl; walks = λ k. refl; stamps = refl }
 
 -- what is good by the new rule is good by the old one, and stands for the same; and back, where it is clean
 pub stands-before : {f : List ℕ} {s : State} → Stands edition1 f s → Stands before1 f s

@@ -102,7 +102,7 @@ lawful1 = record {
   short = λ k h. (let o = key-passes k (h .passes) .short in omega (arith, length-append k (0 ∷ [])));
   apart = λ k l t h g e. apart1 k l t (key-passes k (h .passes) .chars) (key-passes l (g .passes) .chars) e;
   order = λ w x y b s c t h g e f l. order1 w x y b s c t e f l;
-  fields = record { number = lit< tt; keys = λ k h. (let o = key-passes k (h .passes) .short in omega arith); words = lit≤ tt };
+  fields = record { number = lit< tt; keys = λ k h. (let o = key-passes k (h .passes) .short in omega arith); words = lit≤ tt; stamps = lit≤ tt };
 }
 
 -- ---- paths and Prefixes

@@ -89,7 +89,7 @@ lawful2 = record {
   short = λ k h. (let o = key-passes2 k (h .passes) .short in omega (arith, escaped-length k));
   apart = λ k l t h g e. apart2 k l t e;
   order = λ w x y b s c t h g e f l. order2 w x y b s c t e f l;
-  fields = record { number = lit< tt; keys = λ k h. (let o = key-passes2 k (h .passes) .short in omega arith); words = lit≤ tt };
+  fields = record { number = lit< tt; keys = λ k h. (let o = key-passes2 k (h .passes) .short in omega arith); words = lit≤ tt; stamps = lit≤ tt };
 }
 
 -- ---- the edition of any number

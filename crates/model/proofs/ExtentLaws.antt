@@ -8,7 +8,7 @@ use lib.ListN.{length, drop, getD}
 use lib.Dec.{eqb}
 use Rattle.layout.specs.Place.{dataStart}
 use Rattle.model.specs.Strings.{same, shared}
-use Rattle.model.specs.Edition.{Edition}
+use Rattle.model.specs.Edition.{Edition, textOf}
 use Rattle.model.specs.Tree.{up8}
 use Rattle.model.specs.State.{State}
 use Rattle.model.specs.Item.{Item, body, extent, cover, sum}
@@ -33,7 +33,7 @@ module _ (E : Edition) (k : List ℕ) (c : Part) where
     find-past : (l : Lay) (d : ℕ) → findLay E l d k ≡ some c → length k ≤ c .at
     find-past (leaf s o e k' v') d h = bool-cases (same k k')
         (λ t.
-        let q : some (record { at = e + length k'; long = length v' }) ≡ some c = rw t at h in
+        let q : some (record { at = e + length k'; long = length (textOf v'); stamp = v' .stamp }) ≡ some c = rw t at h in
         let x : c .at ≡ e + length k' = ap (λ (z : Option Part). placed z) (sym q) in
         omega (arith, ap length (same-true k k' t)))
         (λ t. let q : none ≡ some c = rw t at h in clash (cc))
@@ -78,11 +78,11 @@ module _ (E : Edition) (k : List ℕ) (c : Part) (a : ℕ) where
     find-extent : (l : Lay) (d : ℕ) → findLay E l d k ≡ some c → sum (cover a) (extentAt (length k) (some c)) ≤ sum (extentCover a) (items l)
     find-extent (leaf s o e k' v') d h = bool-cases (same k k')
         (λ t.
-        let q : some (record { at = e + length k'; long = length v' }) ≡ some c = rw t at h in
+        let q : some (record { at = e + length k'; long = length (textOf v'); stamp = v' .stamp }) ≡ some c = rw t at h in
         let x : c .at ≡ e + length k' = ap (λ (z : Option Part). placed z) (sym q) in
-        let y : c .long ≡ length v' = ap (λ (z : Option Part). sized z) (sym q) in
+        let y : c .long ≡ length (textOf v') = ap (λ (z : Option Part). sized z) (sym q) in
         let n : length k ≡ length k' = ap length (same-true k k' t) in
-        omega (arith, leaf-extent a e (c .at) (length k) (c .long) (length k' + length v') (omega arith) (omega arith)))
+        omega (arith, leaf-extent a e (c .at) (length k) (c .long) (length k' + length (textOf v')) (omega arith) (omega arith)))
         (λ t. let q : none ≡ some c = rw t at h in clash (cc))
     find-extent (prefix s o q l) d h = bool-cases (eqb (shared q (drop d (E .walked k))) (length q))
         (λ t. omega (arith, find-extent l (d + length q) (rw t at h)))

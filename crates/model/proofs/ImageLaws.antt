@@ -17,7 +17,7 @@ use Rattle.layout.specs.Kind.{Leaf, Prefix, Node48, bodySize, most}
 use Rattle.layout.specs.Entry.{entryOf}
 use Rattle.layout.proofs.EntryLaws.{entry-lt}
 use Rattle.layout.proofs.KindLaws.{inner-range, size-least}
-use Rattle.model.specs.Edition.{Edition, FitsFields}
+use Rattle.model.specs.Edition.{Edition, FitsFields, Value, textOf}
 use Rattle.model.specs.Tree.{Art, Kids, extentOf, chain}
 use Rattle.model.specs.Records.{records, recordsOf}
 use Rattle.model.specs.State.{State}
@@ -39,19 +39,20 @@ use Rattle.model.proofs.FormatLaws.{has-self, has-fields, packedNumbers
 
 -- ---- single bodies
 
-pub leaf-at : (m : List ℕ) (o e n : ℕ) (k v : List ℕ) → e < 4294967296 → length k ≤ 65535 → length v ≤ 65535 → length (k ++ v) ≤ n
-    → Has m o (padded 16 (digits 4 e ++ digits 2 (length k) ++ digits 2 (length v))) → Has m e (padded n (k ++ v)) → LeafAt m o e k v
-leaf-at m o e n k v he hk hv hn H X =
-    let D = digits 4 e ++ digits 2 (length k) ++ digits 2 (length v) in
-    let T = has-three 4 2 2 (digits 4 e) (digits 2 (length k)) (digits 2 (length v)) refl refl refl (padded-left 16 D H) in
+pub leaf-at : (m : List ℕ) (o e n : ℕ) (k : List ℕ) (v : Value) → e < 4294967296 → length k ≤ 65535 → length (textOf v) ≤ 65535 → v .stamp < 18446744073709551616 → length (k ++ textOf v) ≤ n
+    → Has m o (padded 16 (digits 4 e ++ digits 2 (length k) ++ digits 2 (length (textOf v)) ++ digits 8 (v .stamp))) → Has m e (padded n (k ++ textOf v)) → LeafAt m o e k v
+leaf-at m o e n k v he hk hv hs hn H X =
+    let C = digits 4 e ++ digits 2 (length k) ++ digits 2 (length (textOf v)) in
+    let G = padded-left 16 (C ++ digits 8 (v .stamp)) H in
+    let T = has-three 4 2 2 (digits 4 e) (digits 2 (length k)) (digits 2 (length (textOf v))) refl refl refl (has-left C (digits 8 (v .stamp)) G) in
     let z : o + 0 ≡ o = omega arith in
-    let x = padded-left n (k ++ v) X in
+    let x = padded-left n (k ++ textOf v) X in
     record {
-      room = rw (length-append k v) at (x .fits);
+      room = rw (length-append k (textOf v)) at (x .fits);
       extent = rw z (has-number 4 e he (T .first));
       keyLength = has-number 2 (length k) (omega arith) (T .second);
-      valueLength = has-number 2 (length v) (omega arith) (T .third);
-      zeros = padded-zero 16 D H;
+      valueLength = has-number 2 (length (textOf v)) (omega arith) (T .third);
+      stamp = has-number 8 (v .stamp) hs (has-right C (digits 8 (v .stamp)) 8 refl G);
       text = x .text;
     }
 
@@ -131,20 +132,21 @@ place-small : (m : List ℕ) (o : ℕ) (xs : List ℕ) → length m ≤ 524288 �
 place-small m o xs l h = let fit = h .fits in omega arith
 
 module _ (E : Edition) (fit : FitsFields E) (m : List ℕ) (long : length m ≤ 524288) where
-  leaf-here : (k v path : List ℕ) (s o : ℕ) → Well E (Art.leaf k v) path → o % 8 ≡ 0 → Entries m s (entries (Art.leaf k v) o) → Has m o (bodies (Art.leaf k v) s o)
+  leaf-here : (k : List ℕ) (v : Value) (path : List ℕ) (s o : ℕ) → Well E (Art.leaf k v) path → o % 8 ≡ 0 → Entries m s (entries (Art.leaf k v) o) → Has m o (bodies (Art.leaf k v) s o)
       → Tree E m path (layOf (Art.leaf k v) s o)
   unfolding Tree
   leaf-here k v path s o W e es bs =
-      let D = padded 16 (digits 4 (o + 16) ++ digits 2 (length k) ++ digits 2 (length v)) in
-      let X = padded (extentOf k v) (k ++ v) in
+      let D = padded 16 (digits 4 (o + 16) ++ digits 2 (length k) ++ digits 2 (length (textOf v)) ++ digits 8 (v .stamp)) in
+      let X = padded (extentOf k v) (k ++ textOf v) in
       let H = has-left D X bs in
       let b = H .fits in (
         entry-first m s Leaf o [] (omega arith) (omega arith) e es,
         record {
-          at = leaf-at m o (o + 16) (extentOf k v) k v (omega arith) (fit .keys k (W .starts .legal)) (W .fits .passes) (extent-fits k v) H (has-right D X 16 refl bs);
+          at = leaf-at m o (o + 16) (extentOf k v) k v (omega arith) (fit .keys k (W .starts .legal)) (W .fits .passes) (let a = W .fits .stamp in let b = fit .stamps in omega arith) (extent-fits k v) H (has-right D X 16 refl bs);
           eights = eighths o 16 e refl;
           legal = W .starts .legal .passes;
           begins = ap (λ (w : List ℕ). take (length path) w) (W .starts .word) ∙ take-append-seam path (W .starts .rest);
+          stamped = W .fits .stamp;
         },
       )
 

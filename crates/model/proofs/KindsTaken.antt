@@ -7,7 +7,7 @@ use lib.Dec.{ltb, eqb, lit≤}
 use Rattle.layout.specs.Kind.{most, shrinkMark, kindUp, kindDown, Inner}
 use Rattle.layout.specs.Kind.Inner.{node4, node16, node48, node256}
 use Rattle.model.specs.Strings.{same, shared}
-use Rattle.model.specs.Edition.{Edition, Lawful}
+use Rattle.model.specs.Edition.{Edition, Lawful, Value, textOf}
 use Rattle.model.specs.Tree.{Art, Kids, count, has, chain, prefixes, rechained, Change, over, putLeaf, cutPrefix, addChild, putTree, putKids, Left, LeftKids, lessOne, loneChild, underPrefix, close, closeUnder, afterKids, eraseTree, eraseKids}
 use Rattle.model.specs.Tree.Art.{leaf, prefix, node}
 use Rattle.model.specs.Tree.Kids.{nil, kid}
@@ -82,22 +82,22 @@ after-kinds kind (fewer ls) c o h = less-kinds kind ls (over (λ x. gone) c) o r
 after-kinds kind (still ls) c o h = record { takes = h .takes; frees = h .frees }
 
 module _ {E : Edition} (L : Lawful E) where
-  leaf-kinds : (d : ℕ) (k v k' v' : List ℕ) → KindsOk (putLeaf E d k v k' v')
+  leaf-kinds : (d : ℕ) (k : List ℕ) (v : Value) (k' : List ℕ) (v' : Value) → KindsOk (putLeaf E d k v k' v')
   leaf-kinds d k v k' v' = bool-cases (same k k')
-      (λ e. bool-cases (eqb (length v) (length v')) (λ t. rw (e, t) record { takes = tt; frees = tt }) (λ t. rw (e, t) record { takes = tt; frees = tt }))
+      (λ e. bool-cases (eqb (length (textOf v)) (length (textOf v'))) (λ t. rw (e, t) record { takes = tt; frees = tt }) (λ t. rw (e, t) record { takes = tt; frees = tt }))
       (λ e. rw e record { takes = (lit≤ tt, (lit≤ tt, prefixes-alone (chain (shared (drop d (E .walked k)) (drop d (E .walked k')))))); frees = tt })
 
-  split-kinds : (d : ℕ) (k v p : List ℕ) (a : Art) → KindsOk (cutPrefix E d k v p a)
+  split-kinds : (d : ℕ) (k : List ℕ) (v : Value) (p : List ℕ) (a : Art) → KindsOk (cutPrefix E d k v p a)
   split-kinds d k v p a = let q = shared p (drop d (E .walked k)) in let n = length (drop (suc q) p) in
       record { takes = (lit≤ tt, (lit≤ tt, prefixes-alone (chain q + chain n - chain (length p)))); frees = prefixes-freed (chain (length p) - (chain q + chain n)) }
 
-  add-kinds : (d : ℕ) (k v : List ℕ) (kind : ℕ) (ks : Kids) → Near kind → KindsOk (addChild E d k v kind ks)
+  add-kinds : (d : ℕ) (k : List ℕ) (v : Value) (kind : ℕ) (ks : Kids) → Near kind → KindsOk (addChild E d k v kind ks)
   add-kinds d k v kind ks o = bool-cases (ltb (count ks) (most kind))
       (λ t. rw t record { takes = (lit≤ tt, tt); frees = tt })
       (λ t. rw t record { takes = (lit≤ tt, (omega arith, tt)); frees = (omega arith, tt) })
 
   mutual
-    pub put-kinds : (a : Art) (path : List ℕ) → Well E a path → (d : ℕ) (k v : List ℕ) → KindsOk (putTree E a d k v)
+    pub put-kinds : (a : Art) (path : List ℕ) → Well E a path → (d : ℕ) (k : List ℕ) (v : Value) → KindsOk (putTree E a d k v)
     put-kinds (leaf k' v') path h d k v = leaf-kinds d k v k' v'
     put-kinds (prefix p a) path h d k v = let on = put-kinds a (path ++ p) (h .1) (d + length p) k v in
         bool-cases (eqb (shared p (drop d (E .walked k))) (length p))
@@ -108,7 +108,7 @@ module _ {E : Edition} (L : Lawful E) where
         (λ t. rw t record { takes = on .takes; frees = on .frees })
         (λ t. rw t (add-kinds d k v kind ks (near (h .0 .sort))))
 
-    put-kids-kinds : (ks : Kids) (path : List ℕ) (lo : ℕ) → WellKids E ks path lo → (d : ℕ) (k v : List ℕ) → KindsOk (putKids E ks d k v)
+    put-kids-kinds : (ks : Kids) (path : List ℕ) (lo : ℕ) → WellKids E ks path lo → (d : ℕ) (k : List ℕ) (v : Value) → KindsOk (putKids E ks d k v)
     put-kids-kinds nil path lo h d k v = record { takes = tt; frees = tt }
     put-kids-kinds (kid c j a ks) path lo h d k v =
         let here = put-kinds a (path ++ c ∷ []) (h .2) (d + 1) k v in let on = put-kids-kinds ks path (suc c) (h .3) d k v in

@@ -17,7 +17,7 @@ use Rattle.layout.specs.Kind.{Leaf, Prefix, EmptyRoot, bodySize, most, shrinkMa
 use Rattle.layout.specs.Entry.{placeOf, highOf, entryPlace, entryHigh}
 use Rattle.layout.proofs.NumberLaws.{le-same, le-zero}
 use Rattle.model.specs.Strings.{pick, same, shared}
-use Rattle.model.specs.Edition.{Edition}
+use Rattle.model.specs.Edition.{Edition, Value}
 use Rattle.model.specs.Tree as model
 use Rattle.model.specs.Tree.{Art, Kids, extentOf, Change, over, has, chain, prefixes, putTree, putKids, findTree, Left, gone, one, kept, LeftKids, fewer, still, lessOne, close, closeUnder, afterKids, consKid, fromChild, eraseTree, eraseKids}
 use Rattle.model.specs.State.{State, Done, tally, kinds, room, after, putIn, putChange, Write, onWrite, eraseChange, treeLeft, eraseDone, eraseFound, eraseIn, onErase}
@@ -242,7 +242,7 @@ module _ (k : ℕ) (kind : k ≤ 8) where
       kind-at (λ j. (getD (s .free) j 0 - tally (c .takes) j) + tally (c .frees) j) k kind
       ∙ (let x = tally-none k (c .takes) (not-gone k (c .takes) (c .frees) h) in let y = tally-none k (c .frees) (none-right k (c .takes) (c .frees) h) in omega arith)
 
-  put-free : (E : Edition) (a : Write) (s : State) (x v : List ℕ) → (let c = putChange E s x v in among k (c .takes ++ c .frees) ≡ false) → freeAt (onWrite E a s x v .state) k ≡ freeAt s k
+  put-free : (E : Edition) (a : Write) (s : State) (x : List ℕ) (v : Value) → (let c = putChange E s x v in among k (c .takes ++ c .frees) ≡ false) → freeAt (onWrite E a s x v .state) k ≡ freeAt s k
   put-free E a s x v h =
       let c = putChange E s x v in
       write-cases E a s x v (λ d. freeAt (d .state) k ≡ freeAt s k)
@@ -296,7 +296,7 @@ count-is : (ks : LayKids) → model.count (artKids ks) ≡ size ks
 count-is nil = refl
 count-is (kid c j l ks) = ap suc (count-is ks)
 
-module _ (E : Edition) (k v : List ℕ) where
+module _ (E : Edition) (k : List ℕ) (v : Value) where
   -- a chain that loses its first byte, and with it a body
   first-cut : (p : List ℕ) (a : Art) (d : ℕ) → shared p (drop d (E .walked k)) ≡ 0 → 1 ≤ length p → chain (length p - 1) < chain (length p) → among Prefix (putTree E (Art.prefix p a) d k v .frees) ≡ true
   first-cut p a d q h g =
@@ -371,7 +371,7 @@ module _ {E : Edition} {f : List ℕ} {st : State} (w : Stands E f st) (k : ℕ)
       let z : true ≡ false = sym (F .freed) ∙ rw e at off in clash (cc))
       (λ t. t)
 
-module _ {E : Edition} {a : Write} {f x v : List ℕ} {n : ℕ} {f' : List ℕ} (P : WritePromise E a f x v n f') {s : State} (w : Stands E f s) (done : changes n ≡ true) (k : ℕ) (low : 1 ≤ k) (high : k ≤ 8)
+module _ {E : Edition} {a : Write} {f x : List ℕ} {v : Value} {n : ℕ} {f' : List ℕ} (P : WritePromise E a f x v n f') {s : State} (w : Stands E f s) (done : changes n ≡ true) (k : ℕ) (low : 1 ≤ k) (high : k ≤ 8)
     (off : let c = putChange E s x v in among k (c .takes ++ c .frees) ≡ false) where
   abbrev after-put : Stands E f' (onWrite E a s x v .state)
   after-put = P .after s w .0
@@ -430,7 +430,7 @@ after-more kind x (fewer ks) c h = less-more kind x ks (over (λ y. gone) c) h
 after-more kind x (still ks) c h = h
 
 -- a Prefix above a Leaf goes, and of two that join the lower
-under-leaf : (p : List ℕ) (b : ℕ) (k v : List ℕ) (l : Left) (c : Change Left) → l ≡ one b (Art.leaf k v) → 1 ≤ length p → among Prefix (closeUnder p l c .frees) ≡ true
+under-leaf : (p : List ℕ) (b : ℕ) (k : List ℕ) (v : Value) (l : Left) (c : Change Left) → l ≡ one b (Art.leaf k v) → 1 ≤ length p → among Prefix (closeUnder p l c .frees) ≡ true
 under-leaf p b k v l c e h = rw e (among-prefixes (chain (length p)) (c .frees) (omega arith))
 
 under-join : (p : List ℕ) (b : ℕ) (q : List ℕ) (a : Art) (l : Left) (c : Change Left) → l ≡ one b (Art.prefix q a) → chain (length p + suc (length q)) < chain (length p) + chain (length q) → among Prefix (closeUnder p l c .frees) ≡ true
@@ -680,7 +680,7 @@ module _ (k : ℕ) (kind : k ≤ 8) (E : Edition) (s : State) (x : List ℕ) whe
       (λ u. absurd (n (rw u refl)))
       (λ u. bool-cases (room s c) (λ t. rw (u, t) (after-free k kind s c (s .R - 1) (treeLeft (c .now)) h)) (λ t. rw (u, t) refl))
 
-  found-free : (a : Art) (v : Option (List ℕ)) → (let c = eraseChange E a x in among k (c .takes ++ c .frees) ≡ false) → (eraseFound E s x a v .state .U ≡ 1 → ⊥) → freeAt (eraseFound E s x a v .state) k ≡ freeAt s k
+  found-free : (a : Art) (v : Option Value) → (let c = eraseChange E a x in among k (c .takes ++ c .frees) ≡ false) → (eraseFound E s x a v .state .U ≡ 1 → ⊥) → freeAt (eraseFound E s x a v .state) k ≡ freeAt s k
   found-free a none h n = refl
   found-free a (some v) h n = done-free (eraseChange E a x) h n
 
@@ -713,7 +713,7 @@ module _ {E : Edition} {f x : List ℕ} {n : ℕ} {f' : List ℕ} (P : EraseProm
 
 -- ---- two results have the list in common
 
-module _ {E : Edition} {a : Write} {f x v : List ℕ} {n m : ℕ} {f' f'' : List ℕ} (P : WritePromise E a f x v n f') (Q : WritePromise E a f x v m f'') {s : State} (w : Stands E f s) (done : changes n ≡ true) (k : ℕ) (low : 1 ≤ k) (high : k ≤ 8)
+module _ {E : Edition} {a : Write} {f x : List ℕ} {v : Value} {n m : ℕ} {f' f'' : List ℕ} (P : WritePromise E a f x v n f') (Q : WritePromise E a f x v m f'') {s : State} (w : Stands E f s) (done : changes n ≡ true) (k : ℕ) (low : 1 ≤ k) (high : k ≤ 8)
     (off : let c = putChange E s x v in among k (c .takes ++ c .frees) ≡ false) where
   pub put-lists : getD (P .after s w .0 .lists) (k - 1) [] ≡ getD (Q .after s w .0 .lists) (k - 1) []
   put-lists = put-list P w done k low high off ∙ sym (put-list Q w (rw (← put-number P Q w) done) k low high off)

@@ -11,6 +11,7 @@ use lib.Seq.{take-take, length-take-le}
 use lib.Dec.{ltb, eqb}
 use borrow.Author.Tests.{lt-ltb, ltb-true, eq-eqb}
 use Rattle.layout.specs.Kind.{Leaf, Prefix, EmptyRoot}
+use Rattle.model.specs.Edition.{Value}
 use Rattle.model.specs.Strings.{pick, same, shared}
 use Rattle.model.specs.Frame.{Lay, LayKids, bare, tree}
 use Rattle.model.specs.Frame.Lay.{leaf, prefix, node}
@@ -39,7 +40,7 @@ unfolding count
 count-app w [] ns = omega arith
 count-app w (m ∷ ms) ns = omega (arith, count-app w ms ns)
 
-pub leaf-marks : (w : Mark → ℕ) (p : List ℕ) (s o e : ℕ) (k v : List ℕ) → count w (marks p (leaf s o e k v)) ≡ w (mark s Leaf k k)
+pub leaf-marks : (w : Mark → ℕ) (p : List ℕ) (s o e : ℕ) (k : List ℕ) (v : Value) → count w (marks p (leaf s o e k v)) ≡ w (mark s Leaf k k)
 unfolding marks count
 leaf-marks w p s o e k v = omega arith
 

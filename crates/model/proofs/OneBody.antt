@@ -13,7 +13,7 @@ use Rattle.layout.specs.Number.{Bytes}
 use Rattle.layout.specs.Place.{prefixMost}
 use Rattle.layout.specs.Kind.{Prefix}
 use Rattle.model.specs.Strings.{pick, shared}
-use Rattle.model.specs.Edition.{Edition, Legal, edition1}
+use Rattle.model.specs.Edition.{Edition, Legal, edition1, Value}
 use Rattle.model.specs.Tree.{Art, Kids, Change, Left, isInner, chain, prefixes, rechained, loneChild, underPrefix}
 use Rattle.model.specs.Tree.Left.{kept}
 use Rattle.model.specs.Frame.{Lay, IsNode, Below, atop, art, Tree}
@@ -121,7 +121,7 @@ module _ (c : Change Left) where
 
   module _ (p : List ℕ) (b : ℕ) (some : 1 ≤ length p) where
     -- "If that child is a Leaf, a Prefix just above is freed too."
-    pub leaf-one : (k v : List ℕ) → length p ≤ prefixMost → underPrefix p b (Art.leaf k v) c ≡ freeing (Prefix ∷ []) (Art.leaf k v)
+    pub leaf-one : (k : List ℕ) (v : Value) → length p ≤ prefixMost → underPrefix p b (Art.leaf k v) c ≡ freeing (Prefix ∷ []) (Art.leaf k v)
     leaf-one k v g = ap (λ (x : List ℕ). freeing x (Art.leaf k v)) (prefix-some (length p) some g)
 
     -- "(and a Prefix above joins as well, the lower body then freed)"
@@ -164,7 +164,7 @@ module _ (s : ℕ) (p : List ℕ) (h : ℕ) (deep : Touch) where
           (λ t i. rw t (le-ltb (chain (length p - 1)) (chain (length p)) (omega arith)))
 
 -- "Both non-empty: one more Prefix. One: the old body is rewritten. None: it is freed."
-pub cut-touch : (E : Edition) (s o : ℕ) (p : List ℕ) (l : Lay) (h d : ℕ) (k v : List ℕ) → IsNode l → 1 ≤ length p → length p ≤ prefixMost
+pub cut-touch : (E : Edition) (s o : ℕ) (p : List ℕ) (l : Lay) (h d : ℕ) (k : List ℕ) (v : Value) → IsNode l → 1 ≤ length p → length p ≤ prefixMost
     → touchPut E (prefix s o p l) h d k v ≡ oneCut s p h (touchPut E l s (d + length p) k v) (shared p (drop d (E .walked k)))
 cut-touch E s o p l h d k v I some most =
     let q = shared p (drop d (E .walked k)) in

@@ -13,7 +13,7 @@ use lib.Dec.{ltb, eqb}
 use borrow.Author.Tests.{eq-eqb}
 use Rattle.layout.specs.Kind.{Leaf, Prefix, EmptyRoot, most, shrinkMark}
 use Rattle.model.specs.Strings.{pick, same, shared}
-use Rattle.model.specs.Edition.{Edition}
+use Rattle.model.specs.Edition.{Edition, Value, textOf}
 use Rattle.model.specs.Tree.{Art, chain, findTree, findKids}
 use Rattle.model.specs.State.{State, findIn, eraseFound, eraseIn, onErase}
 use Rattle.model.specs.Item.{onSlot, sum}
@@ -21,7 +21,7 @@ use Rattle.model.specs.Frame.{Lay, LayKids, art, artKids, Root, bare, tr
 use Rattle.model.specs.Frame.Lay.{leaf, prefix, node}
 use Rattle.model.specs.Frame.LayKids.{nil, kid}
 use Rattle.model.specs.Mark.{Mark, mark, marks, marksAll, rootMarks, count, In, slotIs}
-use Rattle.model.specs.Touch.{Touch, holder, chainSlots, chainLong, size, hasByte, without, touchPut, touchPutKids, putTouch, Above, held, under, next, chainAbove, top, lastOf, touchLone, touchLost, touchErase, touchEraseKids, touchChild, eraseTouch, Part, findLay, findLayKids, findAt, among}
+use Rattle.model.specs.Touch.{restamped, Touch, holder, chainSlots, chainLong, size, hasByte, without, touchPut, touchPutKids, putTouch, Above, held, under, next, chainAbove, top, lastOf, touchLone, touchLost, touchErase, touchEraseKids, touchChild, eraseTouch, Part, findLay, findLayKids, findAt, among}
 use Rattle.model.proofs.StringLaws.{clash, bool-cases, eqb-cases, same-true, same-refl}
 use Rattle.model.proofs.ItemLaws.{sum-app, slot-once}
 use Rattle.model.proofs.MarkLaws.{find, weight-in, only, leaf-marks, prefix-marks, node-marks, kid-marks, tree-marks, bare-marks}
@@ -106,12 +106,12 @@ module _ (E : Edition) (k x : List ℕ) (apart : same k x ≡ false) where
         (λ u h. omega (arith, prefix-marks (besides x u) p s o q l, each-chain (p ++ q) l u h))
     each-chain p (node s o kind ks) = each-none (λ u. 1 ≤ count (besides x u) (marks p (node s o kind ks)))
 
-    module _ (v : List ℕ) where
-      put-leaf : (s o e : ℕ) (k' v' : List ℕ) (h d : ℕ) (p : List ℕ) → Touches (Near h p (leaf s o e k' v')) (touchPut E (leaf s o e k' v') h d k v)
+    module _ (v : Value) where
+      put-leaf : (s o e : ℕ) (k' : List ℕ) (v' : Value) (h d : ℕ) (p : List ℕ) → Touches (Near h p (leaf s o e k' v')) (touchPut E (leaf s o e k' v') h d k v)
       put-leaf s o e k' v' h d p =
           let P = Near h p (leaf s o e k' v') in
           either P (same k k')
-          (λ t. record { goes = each-none P; rewrites = each-either P (eqb (length v) (length v')) [] (s ∷ []) (each-none P) (each-one P s (inr (omega (arith, leaf-marks (besides x s) p s o e k' v', own-leaf s k' t)))) })
+          (λ t. record { goes = each-none P; rewrites = let own = each-one P s (inr (omega (arith, leaf-marks (besides x s) p s o e k' v', own-leaf s k' t))) in each-either P (eqb (length (textOf v)) (length (textOf v'))) (restamped E s) (s ∷ []) (each-either P (eqb (E .stamps) 1) [] (s ∷ []) (each-none P) own) own })
           (λ t. record { goes = each-none P; rewrites = each-holder P h (inl refl) })
 
       put-prefix : (s o : ℕ) (q : List ℕ) (l : Lay) (h d : ℕ) (p : List ℕ) → Touches (Near s (p ++ q) l) (touchPut E l s (d + length q) k v) → Touches (Near h p (prefix s o q l)) (touchPut E (prefix s o q l) h d k v)
@@ -225,7 +225,7 @@ module _ (E : Edition) (k x : List ℕ) (apart : same k x ≡ false) where
         (λ t. rw t (omega (arith, kid-marks w p c j l ks, kid-marks w p c j l (without b ks), without-less w p b ks)))
 
     -- the key is found: its Leaf stands at the end of its path
-    found-leaf : (s o e : ℕ) (k' v' : List ℕ) (d : ℕ) (c : Part) → findLay E (leaf s o e k' v') d k ≡ some c → same k k' ≡ true
+    found-leaf : (s o e : ℕ) (k' : List ℕ) (v' : Value) (d : ℕ) (c : Part) → findLay E (leaf s o e k' v') d k ≡ some c → same k k' ≡ true
     found-leaf s o e k' v' d c h = bool-cases (same k k') (λ t. t) (λ t. let z : none ≡ some c = rw t at h in clash (cc))
 
     module _ (c : Part) where
@@ -315,7 +315,7 @@ module _ (E : Edition) (k x : List ℕ) (apart : same k x ≡ false) where
 module _ (E : Edition) (k : List ℕ) where
   mutual
     lay-none : (l : Lay) (d : ℕ) → findLay E l d k ≡ none → findTree E (art l) d k ≡ none
-    lay-none (leaf s o e k' v') d h = bool-cases (same k k') (λ t. let z : some (record { at = e + length k'; long = length v' }) ≡ none = rw t at h in clash (cc)) (λ t. rw t refl)
+    lay-none (leaf s o e k' v') d h = bool-cases (same k k') (λ t. let z : some (record { at = e + length k'; long = length (textOf v'); stamp = v' .stamp }) ≡ none = rw t at h in clash (cc)) (λ t. rw t refl)
     lay-none (prefix s o q l) d h =
         eqb-cases (shared q (drop d (E .walked k))) (length q) (λ t e. find-atop E q (art l) d k e ∙ lay-none l (d + length q) (rw t at h)) (λ t n. find-apart E q (art l) d k n)
     lay-none (node s o kind ks) d h = lays-none ks d h
@@ -330,7 +330,7 @@ module _ (E : Edition) (k : List ℕ) where
 
   absent8 : (s : State) (t : Option Art) → findIn E t k ≡ none → eraseIn E s k t .answer ≡ 8
   absent8 s none h = refl
-  absent8 s (some a) h = ap (λ (z : Option (List ℕ)). eraseFound E s k a z .answer) h
+  absent8 s (some a) h = ap (λ (z : Option Value). eraseFound E s k a z .answer) h
 
   pub erase-found : {f : List ℕ} {st : State} (w : Stands E f st) → onErase E st k .answer ≡ 0 → (c : Part) × (findAt E (w .root) k ≡ some c)
   erase-found {f} {st} w h = go (findAt E (w .root) k) refl
@@ -360,7 +360,7 @@ module _ {E : Edition} {f : List ℕ} {st : State} (w : Stands E f st) (k x : Li
   not-listed = untouched E k x apart (w .root) s there (omega (arith, slots-of s, slot-once (w .heap .sound) s)) no-zero
 
   -- neither a put nor an erase of k that is done frees or rewrites the Leaf of x
-  pub put-others : (v : List ℕ) → let t = putTouch E (w .root) k v in among s (t .goes ++ t .rewrites) ≡ false
+  pub put-others : (v : Value) → let t = putTouch E (w .root) k v in among s (t .goes ++ t .rewrites) ≡ false
   put-others v = not-listed (putTouch E (w .root) k v) (put-root E k x apart f v (w .root) (w .rootAt))
 
   pub erase-others : onErase E st k .answer ≡ 0 → let t = eraseTouch E (w .root) k in among s (t .goes ++ t .rewrites) ≡ false

@@ -12,7 +12,7 @@ use Rattle.layout.specs.Kind.Inner.{node4, node16, node48, node256}
 use Rattle.layout.specs.Entry.{entryOf}
 use Rattle.layout.proofs.KindLaws.{inner-range, size-eighth}
 use Rattle.model.specs.Strings.{All, Byte}
-use Rattle.model.specs.Edition.{Edition}
+use Rattle.model.specs.Edition.{Edition, Value, textOf}
 use Rattle.model.specs.Tree.{Art, Kids, count, extentOf, chain}
 use Rattle.model.specs.Tree.Art.{leaf, prefix, node}
 use Rattle.model.specs.Tree.Kids.{nil, kid}
@@ -51,8 +51,8 @@ length-node kind bs ss node256 e o =
     length-append (padded 8 (digits 2 (length bs))) (numbers 4 (spread 256 0 bs ss))
     ∙ ap (λ (z : ℕ). 8 + z) (length-numbers (spread 256 0 bs ss) ∙ ap (λ (z : ℕ). 4 * z) (length-spread 256 0 bs ss))
 
-pub extent-fits : (k v : List ℕ) → length (k ++ v) ≤ extentOf k v
-extent-fits k v = let n = length-append k v in omega arith
+pub extent-fits : (k : List ℕ) (v : Value) → length (k ++ textOf v) ≤ extentOf k v
+extent-fits k v = let n = length-append k (textOf v) in omega arith
 
 pub take-short : (n : ℕ) (p : List ℕ) → length (take n p) ≤ n
 take-short zero p = omega arith
@@ -76,7 +76,7 @@ length-chain-entries (suc n) o = ap suc (length-chain-entries n (o + 128))
 module _ (E : Edition) where
   mutual
     pub length-bodies : (a : Art) (path : List ℕ) → Well E a path → (s o : ℕ) → length (bodies a s o) ≡ size a
-    length-bodies (leaf k v) path h s o = part (padded 16 (digits 4 (o + 16) ++ digits 2 (length k) ++ digits 2 (length v))) 16 (extentOf k v) (k ++ v) refl (extent-fits k v)
+    length-bodies (leaf k v) path h s o = part (padded 16 (digits 4 (o + 16) ++ digits 2 (length k) ++ digits 2 (length (textOf v)) ++ digits 8 (v .stamp))) 16 (extentOf k v) (k ++ textOf v) refl (extent-fits k v)
     length-bodies (prefix p a) path h s o =
         let n = chain (length p) in
         length-append (chainBodies n p s) (bodies a (s + n) (o + n * 128)) ∙ rw (length-chain n p s, length-bodies a (path ++ p) (h .1) (s + n) (o + n * 128))
@@ -176,10 +176,12 @@ module _ (E : Edition) where
   mutual
     pub all-bodies : (a : Art) (path : List ℕ) → Well E a path → (s o : ℕ) → All Byte (bodies a s o)
     all-bodies (leaf k v) path h s o =
-        let D = digits 4 (o + 16) ++ digits 2 (length k) ++ digits 2 (length v) in
-        all-append Byte (padded 16 D) (padded (extentOf k v) (k ++ v))
-        (all-padded 16 D (all-three (digits 4 (o + 16)) (digits 2 (length k)) (digits 2 (length v)) (all-digits 4 (o + 16)) (all-digits 2 (length k)) (all-digits 2 (length v))))
-        (all-padded (extentOf k v) (k ++ v) (all-append Byte k v (h .starts .legal .bytes) (h .fits .bytes)))
+        let C = digits 4 (o + 16) ++ digits 2 (length k) ++ digits 2 (length (textOf v)) in
+        let D = C ++ digits 8 (v .stamp) in
+        all-append Byte (padded 16 D) (padded (extentOf k v) (k ++ textOf v))
+        (all-padded 16 D (all-append Byte C (digits 8 (v .stamp))
+        (all-three (digits 4 (o + 16)) (digits 2 (length k)) (digits 2 (length (textOf v))) (all-digits 4 (o + 16)) (all-digits 2 (length k)) (all-digits 2 (length (textOf v)))) (all-digits 8 (v .stamp))))
+        (all-padded (extentOf k v) (k ++ textOf v) (all-append Byte k (textOf v) (h .starts .legal .bytes) (h .fits .bytes)))
     all-bodies (prefix p a) path h s o =
         let n = chain (length p) in
         all-append Byte (chainBodies n p s) (bodies a (s + n) (o + n * 128)) (all-chain n p s (h .0 .chars)) (all-bodies a (path ++ p) (h .1) (s + n) (o + n * 128))
@@ -221,7 +223,7 @@ eighths a b h g = omega arith
 module _ (E : Edition) where
   mutual
     pub size-eight : (a : Art) (path : List ℕ) → Well E a path → size a % 8 ≡ 0
-    size-eight (leaf k v) path h = up (length k + length v)
+    size-eight (leaf k v) path h = up (length k + length (textOf v))
       where
         up : (n : ℕ) → (16 + (n + 7) / 8 * 8) % 8 ≡ 0
         up n = omega arith

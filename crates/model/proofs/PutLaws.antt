@@ -14,7 +14,7 @@ use borrow.Author.Tests.{ne-eqb}
 use Rattle.layout.specs.Kind.{Node4, Node48, most, kindUp}
 use Rattle.layout.specs.Kind.Inner.{node4}
 use Rattle.model.specs.Strings.{same, Parted, Byte}
-use Rattle.model.specs.Edition.{Edition, Legal, LegalValue, Lawful}
+use Rattle.model.specs.Edition.{Edition, Legal, LegalValue, Lawful, Value, textOf}
 use Rattle.model.specs.Tree.{Art, Kids, count, has, taken, placeIn, carried, asPrefix, fork, Change, over, putLeaf, cutPrefix, addChild, putTree, putKids, isInner}
 use Rattle.model.specs.Tree.Art.{leaf, prefix, node}
 use Rattle.model.specs.Tree.Kids.{nil, kid}
@@ -30,18 +30,18 @@ use Rattle.model.proofs.FindLaws.AtPrefix.{along, aside}
 use Rattle.model.proofs.KidsLaws.{carried-records, carried-has, kids-ahead, join-records, carried-well, joined-well, grown-well}
 
 -- what has to hold of a tree at a path after a put, of the tree of a frame, and of a run of children
-pub record PutOk (E : Edition) (a : Art) (path k v : List ℕ) (c : Change Art) : Type 0 where
+pub record PutOk (E : Edition) (a : Art) (path k : List ℕ) (v : Value) (c : Change Art) : Type 0 where
   pub well : Well E (c .now) path
   pub set : records (c .now) ≡ upsert k v (records a)
   pub new : c .fresh ≡ absent (lookup k (records a))
   pub inner : isInner a ≡ true → isInner (c .now) ≡ true
 
-pub record PutInOk (E : Edition) (t : Option Art) (k v : List ℕ) (c : Change Art) : Type 0 where
+pub record PutInOk (E : Edition) (t : Option Art) (k : List ℕ) (v : Value) (c : Change Art) : Type 0 where
   pub well : Well E (c .now) []
   pub set : records (c .now) ≡ upsert k v (recordsOf t)
   pub new : c .fresh ≡ absent (lookup k (recordsOf t))
 
-pub record PutKidsOk (E : Edition) (ks : Kids) (path : List ℕ) (lo : ℕ) (k v : List ℕ) (c : Change Kids) : Type 0 where
+pub record PutKidsOk (E : Edition) (ks : Kids) (path : List ℕ) (lo : ℕ) (k : List ℕ) (v : Value) (c : Change Kids) : Type 0 where
   pub well : WellKids E (c .now) path lo
   pub set : recordsKids (c .now) ≡ upsert k v (recordsKids ks)
   pub new : c .fresh ≡ absent (lookup k (recordsKids ks))
@@ -72,13 +72,13 @@ module _ {E : Edition} (L : Lawful E) where
       (record { some = omega arith; chars = all-right Byte path (x ∷ p) (inside-bytes L (path ++ x ∷ p) i); inner = e }, h)
 
   -- ---- a key and a tree part after w
-  fork-well : (path w : List ℕ) (b c : ℕ) (k v : List ℕ) (y : Art) → Starts E (path ++ w ++ b ∷ []) k → LegalValue v → Well E y (path ++ w ++ c ∷ []) → b ≢ c → b < 256 → c < 256
+  fork-well : (path w : List ℕ) (b c : ℕ) (k : List ℕ) (v : Value) (y : Art) → Starts E (path ++ w ++ b ∷ []) k → LegalValue E v → Well E y (path ++ w ++ c ∷ []) → b ≢ c → b < 256 → c < 256
       → Well E (asPrefix w (fork b (leaf k v) c y)) path
   fork-well path w b c k v y s f h n l l' =
       as-prefix-well w (fork b (leaf k v) c y) path refl
       (joined-well L Node4 b (leaf k v) (kid c 0 y nil) (path ++ w) node4 (lit≤ tt) (lit< tt) (refl, tt) (zero-le, l', h, tt) l (record { starts = s; fits = f }) (rw (ne-eqb b c n)))
 
-  fork-records : (path w : List ℕ) (b c : ℕ) (k v : List ℕ) (y : Art) → Starts E (path ++ w ++ b ∷ []) k → Well E y (path ++ w ++ c ∷ []) → b ≢ c → c < 256
+  fork-records : (path w : List ℕ) (b c : ℕ) (k : List ℕ) (v : Value) (y : Art) → Starts E (path ++ w ++ b ∷ []) k → Well E y (path ++ w ++ c ∷ []) → b ≢ c → c < 256
       → records (asPrefix w (fork b (leaf k v) c y)) ≡ upsert k v (records y)
   fork-records path w b c k v y s h n l' =
       as-prefix-records w (fork b (leaf k v) c y)
@@ -87,12 +87,12 @@ module _ {E : Edition} (L : Lawful E) where
 
   -- ---- at a Leaf
 
-  put-leaf-same : (path k v k' v' : List ℕ) (d : ℕ) → Starts E path k → LegalValue v → same k k' ≡ true → PutOk E (leaf k' v') path k v (putLeaf E d k v k' v')
-  put-leaf-same path k v k' v' d h f e = bool-cases (eqb (length v) (length v'))
+  put-leaf-same : (path k : List ℕ) (v : Value) (k' : List ℕ) (v' : Value) (d : ℕ) → Starts E path k → LegalValue E v → same k k' ≡ true → PutOk E (leaf k' v') path k v (putLeaf E d k v k' v')
+  put-leaf-same path k v k' v' d h f e = bool-cases (eqb (length (textOf v)) (length (textOf v')))
       (λ t. rw (e, t) record { well = record { starts = h; fits = f }; set = rw e; new = rw e; inner = λ z. clash (cc) })
       (λ t. rw (e, t) record { well = record { starts = h; fits = f }; set = rw e; new = rw e; inner = λ z. clash (cc) })
 
-  put-leaf-apart : (path w : List ℕ) (b : ℕ) (s : List ℕ) (c : ℕ) (t k v k' v' : List ℕ) (d : ℕ) → LegalValue v → LegalValue v' → same k k' ≡ false
+  put-leaf-apart : (path w : List ℕ) (b : ℕ) (s : List ℕ) (c : ℕ) (t k : List ℕ) (v : Value) (k' : List ℕ) (v' : Value) (d : ℕ) → LegalValue E v → LegalValue E v' → same k k' ≡ false
       → Walk E path d k (w ++ b ∷ s) → Walk E path d k' (w ++ c ∷ t) → b ≢ c → PutOk E (leaf k' v') path k v (putLeaf E d k v k' v')
   put-leaf-apart path w b s c t k v k' v' d f f' e x y n =
       let x' = walk-skip w (b ∷ s) x in let y' = walk-skip w (c ∷ t) y in
@@ -105,7 +105,7 @@ module _ {E : Edition} (L : Lawful E) where
         inner = λ z. clash (cc);
       }
 
-  put-leaf : (path k v k' v' r : List ℕ) (d : ℕ) → Well E (leaf k' v') path → Walk E path d k r → LegalValue v → PutOk E (leaf k' v') path k v (putLeaf E d k v k' v')
+  put-leaf : (path k : List ℕ) (v : Value) (k' : List ℕ) (v' : Value) (r : List ℕ) (d : ℕ) → Well E (leaf k' v') path → Walk E path d k r → LegalValue E v → PutOk E (leaf k' v') path k v (putLeaf E d k v k' v')
   put-leaf path k v k' v' r d h w f = bool-cases (same k k')
       (λ e. put-leaf-same path k v k' v' d (walk-starts r w) f e)
       (λ e. go e (parted-from L path k k' r (h .starts .rest) (w .legal) (h .starts .legal) (same-false k k' e) (w .word) (h .starts .word)))
@@ -119,7 +119,7 @@ module _ {E : Edition} (L : Lawful E) where
 
   -- ---- at a Prefix that the key leaves
 
-  put-split : (p : List ℕ) (a : Art) (path w : List ℕ) (b : ℕ) (s : List ℕ) (c : ℕ) (t k v : List ℕ) (d : ℕ) → LegalValue v
+  put-split : (p : List ℕ) (a : Art) (path w : List ℕ) (b : ℕ) (s : List ℕ) (c : ℕ) (t k : List ℕ) (v : Value) (d : ℕ) → LegalValue E v
       → Walk E path d k (w ++ b ∷ s) → p ≡ w ++ c ∷ t → b ≢ c → Well E (prefix p a) path → PutOk E (prefix p a) path k v (cutPrefix E d k v p a)
   put-split p a path w b s c t k v d f x e n h =
       let x' = walk-skip w (b ∷ s) x in
@@ -138,7 +138,7 @@ module _ {E : Edition} (L : Lawful E) where
 
   -- ---- at an inner node without that byte
 
-  put-add : (kind : ℕ) (ks : Kids) (path : List ℕ) (b : ℕ) (s k v : List ℕ) (d : ℕ) → LegalValue v
+  put-add : (kind : ℕ) (ks : Kids) (path : List ℕ) (b : ℕ) (s k : List ℕ) (v : Value) (d : ℕ) → LegalValue E v
       → Walk E path d k (b ∷ s) → has b ks ≡ false → Well E (node kind ks) path → PutOk E (node kind ks) path k v (addChild E d k v kind ks)
   put-add kind ks path b s k v d f w e h =
       let sk = walk-starts s (walk-step b s w) in
@@ -165,7 +165,7 @@ module _ {E : Edition} (L : Lawful E) where
 
   -- ---- further down
 
-  put-under : (p : List ℕ) (a : Art) (path k v : List ℕ) (c : Change Art) → PrefixW p a → PutOk E a (path ++ p) k v c → PutOk E (prefix p a) path k v (over (λ x. prefix p x) c)
+  put-under : (p : List ℕ) (a : Art) (path k : List ℕ) (v : Value) (c : Change Art) → PrefixW p a → PutOk E a (path ++ p) k v c → PutOk E (prefix p a) path k v (over (λ x. prefix p x) c)
   put-under p a path k v c h o = record {
     well = (record { some = h .some; chars = h .chars; inner = o .inner (h .inner) }, o .well);
     set = o .set;
@@ -173,7 +173,7 @@ module _ {E : Edition} (L : Lawful E) where
     inner = λ z. clash (cc);
   }
 
-  put-in : (kind : ℕ) (ks : Kids) (path k v : List ℕ) (c : Change Kids) → NodeW kind ks → PutKidsOk E ks path 0 k v c → PutOk E (node kind ks) path k v (over (λ x. node kind x) c)
+  put-in : (kind : ℕ) (ks : Kids) (path k : List ℕ) (v : Value) (c : Change Kids) → NodeW kind ks → PutKidsOk E ks path 0 k v c → PutOk E (node kind ks) path k v (over (λ x. node kind x) c)
   put-in kind ks path k v c h o = record {
     well = (record { sort = h .sort; least = rw (o .size) (h .least); atMost = rw (o .size) (h .atMost); places = placed-as kind ks (c .now) (o .zeros) (o .distinct) (h .places) }, o .well);
     set = o .set;
@@ -181,7 +181,7 @@ module _ {E : Edition} (L : Lawful E) where
     inner = λ z. refl;
   }
 
-  put-here : (q j : ℕ) (a : Art) (ks : Kids) (path : List ℕ) (lo : ℕ) (k v : List ℕ) (b : ℕ) (c : Change Art) → WellKids E (kid q j a ks) path lo
+  put-here : (q j : ℕ) (a : Art) (ks : Kids) (path : List ℕ) (lo : ℕ) (k : List ℕ) (v : Value) (b : ℕ) (c : Change Art) → WellKids E (kid q j a ks) path lo
       → Starts E (path ++ b ∷ []) k → q ≡ b → PutOk E a (path ++ q ∷ []) k v c → PutKidsOk E (kid q j a ks) path lo k v (over (λ x. kid q j x ks) c)
   put-here q j a ks path lo k v b c h s e o =
       let ah = ahead-kids L ks path (suc q) b k (h .3) s (omega arith) in
@@ -201,7 +201,7 @@ module _ {E : Edition} (L : Lawful E) where
       (λ t q. omega arith)
       (λ t n. let on = has-ge ks path (suc c) b (h .3) (rw t at e) in omega arith)
 
-  put-on : (q j : ℕ) (a : Art) (ks : Kids) (path : List ℕ) (lo : ℕ) (k v : List ℕ) (b : ℕ) (c : Change Kids) → WellKids E (kid q j a ks) path lo
+  put-on : (q j : ℕ) (a : Art) (ks : Kids) (path : List ℕ) (lo : ℕ) (k : List ℕ) (v : Value) (b : ℕ) (c : Change Kids) → WellKids E (kid q j a ks) path lo
       → Starts E (path ++ b ∷ []) k → has b ks ≡ true → PutKidsOk E ks path (suc q) k v c → PutKidsOk E (kid q j a ks) path lo k v (over (λ xs. kid q j a xs) c)
   put-on q j a ks path lo k v b c h s e o =
       let l = has-ge ks path (suc q) b (h .3) e in
@@ -215,14 +215,14 @@ module _ {E : Edition} (L : Lawful E) where
         distinct = λ z. (z .0, z .1, o .places j ∙ z .2, o .distinct (z .3));
       }
 
-  put-at-prefix : (p : List ℕ) (a : Art) (path k v : List ℕ) (d : ℕ) → Well E (prefix p a) path → LegalValue v → AtPrefix E p path d k
+  put-at-prefix : (p : List ℕ) (a : Art) (path k : List ℕ) (v : Value) (d : ℕ) → Well E (prefix p a) path → LegalValue E v → AtPrefix E p path d k
       → ((r : List ℕ) → Walk E (path ++ p) (d + length p) k r → PutOk E a (path ++ p) k v (putTree E a (d + length p) k v))
       → PutOk E (prefix p a) path k v (putTree E (prefix p a) d k v)
   put-at-prefix p a path k v d h f (along r e w) ih = rw e (put-under p a path k v (putTree E a (d + length p) k v) (h .0) (ih r (walk-skip p r w)))
   put-at-prefix p a path k v d h f (aside x b s c t e w g n) ih = rw e (put-split p a path x b s c t k v d f w g n h)
 
   mutual
-    pub put-ok : (a : Art) (path : List ℕ) → Well E a path → (d : ℕ) (k v r : List ℕ) → Walk E path d k r → LegalValue v → PutOk E a path k v (putTree E a d k v)
+    pub put-ok : (a : Art) (path : List ℕ) → Well E a path → (d : ℕ) (k : List ℕ) (v : Value) (r : List ℕ) → Walk E path d k r → LegalValue E v → PutOk E a path k v (putTree E a d k v)
     put-ok (leaf l u) path h d k v r w f = put-leaf path k v l u r d h w f
     put-ok (prefix p a) path h d k v r w f =
         put-at-prefix p a path k v d h f (at-prefix L p path d k r (inner-inside L a (path ++ p) (h .0 .inner) (h .1)) w)
@@ -236,7 +236,7 @@ module _ {E : Edition} (L : Lawful E) where
         (λ e. let e' : has (getD (E .walked k) d 0) ks ≡ false = rw (walk-byte b s w') e in
         rw e' (put-add kind ks path b s k v d f w' e h))
 
-    pub put-kids-ok : (ks : Kids) (path : List ℕ) (lo : ℕ) → WellKids E ks path lo → (d : ℕ) (k v : List ℕ) (b : ℕ) (s : List ℕ) → Walk E path d k (b ∷ s) → LegalValue v
+    pub put-kids-ok : (ks : Kids) (path : List ℕ) (lo : ℕ) → WellKids E ks path lo → (d : ℕ) (k : List ℕ) (v : Value) (b : ℕ) (s : List ℕ) → Walk E path d k (b ∷ s) → LegalValue E v
         → has b ks ≡ true → PutKidsOk E ks path lo k v (putKids E ks d k v)
     put-kids-ok nil path lo h d k v b s w f e = clash (cc)
     put-kids-ok (kid c j a ks) path lo h d k v b s w f e =
@@ -248,10 +248,10 @@ module _ {E : Edition} (L : Lawful E) where
         rw (walk-byte b s w, t) (put-on c j a ks path lo k v b (putKids E ks d k v) h sk e' (put-kids-ok ks path (suc c) (h .3) d k v b s w f e')))
 
   -- a tree at the root
-  pub put-tree : (a : Art) (k v : List ℕ) → Well E a [] → Legal E k → LegalValue v → PutOk E a [] k v (putTree E a 0 k v)
+  pub put-tree : (a : Art) (k : List ℕ) (v : Value) → Well E a [] → Legal E k → LegalValue E v → PutOk E a [] k v (putTree E a 0 k v)
   put-tree a k v h l f = put-ok a [] h 0 k v (E .walked k) (walk-start k l) f
 
   -- and what stands at the root of any frame
-  pub put-in-ok : (t : Option Art) (k v : List ℕ) → TreeOk E t → Legal E k → LegalValue v → PutInOk E t k v (putIn E t k v)
+  pub put-in-ok : (t : Option Art) (k : List ℕ) (v : Value) → TreeOk E t → Legal E k → LegalValue E v → PutInOk E t k v (putIn E t k v)
   put-in-ok none k v h l f = record { well = record { starts = record { legal = l; rest = E .walked k; word = refl }; fits = f }; set = refl; new = refl }
   put-in-ok (some a) k v h l f = let o = put-tree a k v h l f in record { well = o .well; set = o .set; new = o .new }

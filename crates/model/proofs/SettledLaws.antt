@@ -15,7 +15,7 @@ use Rattle.layout.specs.Kind.{Leaf, Prefix, EmptyRoot, bodySize}
 use Rattle.layout.specs.Entry.{highOf}
 use Rattle.layout.proofs.NumberLaws.{le-inj}
 use Rattle.model.specs.Strings.{pick, same, shared}
-use Rattle.model.specs.Edition.{Edition}
+use Rattle.model.specs.Edition.{Edition, Value, textOf}
 use Rattle.model.specs.State.{State, Write, putChange, onWrite, onErase}
 use Rattle.model.specs.Tree.{up8, extentOf}
 use Rattle.model.specs.Item.{Item, body, extent, inside, onSlot, cover, onEntry, sum}
@@ -192,15 +192,15 @@ module _ (E : Edition) (f g : List ℕ) (F : Bytes f) (G : Bytes g) (a : ℕ) wh
   -- ---- the key's extent: key and value
 
   module _ (k : List ℕ) (c : Part) (low : c .at ≤ a + length k) (high : a < c .at + c .long) where
-    leaf-text : (p : List ℕ) (s o e : ℕ) (k' v' : List ℕ) (d : ℕ) → findLay E (leaf s o e k' v') d k ≡ some c → Tree E f p (leaf s o e k' v') → Tree E g p (leaf s o e k' v') → byteAt f a ≡ byteAt g a
+    leaf-text : (p : List ℕ) (s o e : ℕ) (k' : List ℕ) (v' : Value) (d : ℕ) → findLay E (leaf s o e k' v') d k ≡ some c → Tree E f p (leaf s o e k' v') → Tree E g p (leaf s o e k' v') → byteAt f a ≡ byteAt g a
     unfolding Tree
     leaf-text p s o e k' v' d h T U = bool-cases (same k k')
         (λ t.
-        let q : some (record { at = e + length k'; long = length v' }) ≡ some c = rw t at h in
+        let q : some (record { at = e + length k'; long = length (textOf v'); stamp = v' .stamp }) ≡ some c = rw t at h in
         let x : c .at ≡ e + length k' = ap (λ (z : Option Part). placed z) (sym q) in
-        let y : c .long ≡ length v' = ap (λ (z : Option Part). sized z) (sym q) in
+        let y : c .long ≡ length (textOf v') = ap (λ (z : Option Part). sized z) (sym q) in
         let n : length k ≡ length k' = ap length (same-true k k' t) in
-        let m = length-append k' v' in
+        let m = length-append k' (textOf v') in
         let z : e + (a - e) ≡ a = omega arith in
         let r : byteAt f (e + (a - e)) ≡ byteAt g (e + (a - e)) = T .1 .at .text (a - e) (omega arith) ∙ sym (U .1 .at .text (a - e) (omega arith)) in
         rw z at r)
@@ -440,7 +440,7 @@ text-or E f g F G a k r T U (some c) e p h =
 
 -- ---- put and erase
 
-module _ {E : Edition} {b : Write} {f k v : List ℕ} {n m : ℕ} {f' f'' : List ℕ} (P : WritePromise E b f k v n f') (Q : WritePromise E b f k v m f'') {s : State} (w : Stands E f s) (done : changes n ≡ true) where
+module _ {E : Edition} {b : Write} {f k : List ℕ} {v : Value} {n m : ℕ} {f' f'' : List ℕ} (P : WritePromise E b f k v n f') (Q : WritePromise E b f k v m f'') {s : State} (w : Stands E f s) (done : changes n ≡ true) where
   abbrev one : Stands E f' (onWrite E b s k v .state)
   one = P .after s w .0
 

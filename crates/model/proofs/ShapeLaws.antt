@@ -9,7 +9,7 @@ use lib.ListN.{length, take, drop, length-append}
 use lib.Seq.{take-append-seam, drop-append-seam}
 use Rattle.layout.specs.Place.{prefixMost}
 use Rattle.layout.specs.Kind.{Leaf, Prefix, EmptyRoot}
-use Rattle.model.specs.Edition.{Edition}
+use Rattle.model.specs.Edition.{Edition, Value}
 use Rattle.model.specs.Tree.{Art, Kids}
 use Rattle.model.specs.Frame.{Lay, LayKids, Root, bare, tree, atop, art, artKids, rootArt, RootAt, Tree, Trees}
 use Rattle.model.specs.Frame.Lay.{leaf, prefix, node}
@@ -72,7 +72,7 @@ unfolding Tree
 prefix-same E f g p p' s o q l s' o' q' l' T U e =
     atop-same q q' (art l) (art l') (below-hung q l (T .2)) (below-hung q' l' (U .2)) (tree-some E f (p ++ q) l (T .3)) (tree-some E g (p' ++ q') l' (U .3)) (T .1 .most) (U .1 .most) e
 
-pub atop-leaf : {A : Type 0} (p : List ℕ) (a : Art) (k v : List ℕ) → atop p a ≡ Art.leaf k v → A
+pub atop-leaf : {A : Type 0} (p : List ℕ) (a : Art) (k : List ℕ) (v : Value) → atop p a ≡ Art.leaf k v → A
 atop-leaf p (Art.leaf k' v') k v e = clash (cc)
 atop-leaf p (Art.prefix q a) k v e = clash (cc)
 atop-leaf p (Art.node kind ks) k v e = clash (cc)

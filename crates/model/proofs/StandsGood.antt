@@ -17,7 +17,7 @@ use Rattle.layout.specs.Kind.Inner.{node4, node16, node48, node256}
 use Rattle.layout.proofs.NumberLaws.{le-lt}
 use Rattle.layout.proofs.KindLaws.{range-inner}
 use Rattle.model.specs.Strings.{pick, All, Byte}
-use Rattle.model.specs.Edition.{Edition, Lawful}
+use Rattle.model.specs.Edition.{Edition, Lawful, Value, textOf}
 use Rattle.model.specs.Tree.{Art, count, taken}
 use Rattle.model.specs.Records.{Record, records, recordsKids, recordsOf}
 use Rattle.model.specs.State.{State, kinds}
@@ -47,17 +47,17 @@ bytes-text f o p B T = go p (λ i h. rw (sym (T i h)) (B (o + i)))
 
 -- ---- the tree is well formed
 
-pub leaf-well : (E : Edition) (f path : List ℕ) (o e : ℕ) (k v : List ℕ) → Bytes f → LeafOf E f path o e k v → LeafW E k v path
+pub leaf-well : (E : Edition) (f path : List ℕ) (o e : ℕ) (k : List ℕ) (v : Value) → Bytes f → LeafOf E f path o e k v → LeafW E k v path
 leaf-well E f path o e k v B L =
-    let b = bytes-text f e (k ++ v) B (L .at .text) in
+    let b = bytes-text f e (k ++ textOf v) B (L .at .text) in
     let n = L .at .valueLength in
     record {
       starts = record {
-        legal = record { passes = L .legal; bytes = all-left Byte k v b };
+        legal = record { passes = L .legal; bytes = all-left Byte k (textOf v) b };
         rest = drop (length path) (E .walked k);
         word = sym (take-append-drop (length path) (E .walked k)) ∙ ap (λ (p : List ℕ). p ++ drop (length path) (E .walked k)) (L .begins);
       };
-      fits = record { passes = omega (arith, le-lt 2 f (o + 6) B); bytes = all-right Byte k v b };
+      fits = record { passes = omega (arith, le-lt 2 f (o + 6) B); bytes = all-right Byte k (textOf v) b; stamp = L .stamped };
     }
 
 pub atop-well : (E : Edition) (p : List ℕ) (a : Art) (path : List ℕ) → 1 ≤ length p → All Byte p → Hung p a → Well E a (path ++ p) → Well E (atop p a) path

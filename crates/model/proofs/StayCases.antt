@@ -4,7 +4,7 @@ use mathlib.Core.Path.{_≡_, refl}
 use mathlib.Core.List.{List, [], _∷_, _++_}
 use mathlib.Core.Bool.{Bool, true, false}
 use mathlib.Core.Option.{some}
-use Rattle.model.specs.Edition.{edition1}
+use Rattle.model.specs.Edition.{edition1, unstamped}
 use Rattle.model.specs.Tree.{Left}
 use Rattle.model.specs.State.{putIn, eraseChange}
 use Rattle.model.specs.Frame.{Lay, LayKids, Root, bare, tree, art, rootArt}
@@ -15,8 +15,8 @@ use Rattle.model.specs.Touch.{putTouch, eraseTouch, stay}
 
 -- the clause of a put and of an erase; the trees are those of the model
 record Put (r : Root) (k : List ℕ) (r' : Root) (answer : Bool) : Type 0 where
-  pub model : rootArt r' ≡ some (putIn edition1 (rootArt r) k [] .now)
-  pub clause : stay (putTouch edition1 r k [] .goes) (rootMarks r) (rootMarks r') ≡ answer
+  pub model : rootArt r' ≡ some (putIn edition1 (rootArt r) k (unstamped []) .now)
+  pub clause : stay (putTouch edition1 r k (unstamped []) .goes) (rootMarks r) (rootMarks r') ≡ answer
 
 record Erase (l : Lay) (k : List ℕ) (l' : Lay) (answer : Bool) : Type 0 where
   pub model : eraseChange edition1 (art l) k .now ≡ Left.kept (art l')
@@ -26,7 +26,7 @@ record Erase (l : Lay) (k : List ℕ) (l' : Lay) (answer : Bool) : Type 0 where
 
 -- a Leaf with an empty value; n Leaves of slots s, .. under path p, at bytes b, .. and in places j, .. (0: none)
 abbrev lf : ℕ → List ℕ → Lay
-lf s k = leaf s 0 0 k []
+lf s k = leaf s 0 0 k (unstamped [])
 
 abbrev row : List ℕ → ℕ → ℕ → ℕ → LayKids → LayKids
 row p s b zero ks = ks

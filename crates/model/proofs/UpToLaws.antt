@@ -8,7 +8,7 @@ use native.Mathlib.Decide.{decLe}
 use lib.ListN.{length}
 use Rattle.layout.specs.Number.{byteAt, Bytes}
 use Rattle.layout.specs.Kind.{bodySize}
-use Rattle.model.specs.Edition.{Edition}
+use Rattle.model.specs.Edition.{Edition, Value, textOf}
 use Rattle.model.specs.State.{State, Write, putChange, onWrite, onErase}
 use Rattle.model.specs.Item.{Item, body, extent, onSlot, cover, sum}
 use Rattle.model.specs.Body.{LeafAt, PrefixAt}
@@ -31,7 +31,7 @@ use Rattle.model.proofs.KeptLaws.{still-there, kept-byte, not-gone, cov
 -- ---- body by body
 
 module _ (E : Edition) (f g : List ℕ) (F : Bytes f) (G : Bytes g) where
-  leaf-twins : (o e o' e' : ℕ) (k v k' v' : List ℕ) → k ≡ k' → v ≡ v' → LeafAt f o e k v → LeafAt g o' e' k' v' → LeafTwins f o e g o' e' (length k + length v)
+  leaf-twins : (o e o' e' : ℕ) (k : List ℕ) (v : Value) (k' : List ℕ) (v' : Value) → k ≡ k' → v ≡ v' → LeafAt f o e k v → LeafAt g o' e' k' v' → LeafTwins f o e g o' e' (length k + length (textOf v))
   leaf-twins o e o' e' k v k' v' ek ev A B =
       let B' : LeafAt g o' e' k v = rw (ek, ev) B in
       record { names = (A .extent, B .extent); copied = leaf-twin f g F G o o' e e' k v A B'; text = text-twin f g F G o o' e e' k v A B' }
@@ -151,7 +151,7 @@ module _ {E : Edition} {f f' f'' : List ℕ} {s s' : State} (w : Stands E f s) (
 
 -- ---- put and erase
 
-module _ {E : Edition} {a : Write} {f k v : List ℕ} {n m : ℕ} {f' f'' : List ℕ} (P : WritePromise E a f k v n f') (Q : WritePromise E a f k v m f'') {s : State} (w : Stands E f s) (done : changes n ≡ true) where
+module _ {E : Edition} {a : Write} {f k : List ℕ} {v : Value} {n m : ℕ} {f' f'' : List ℕ} (P : WritePromise E a f k v n f') (Q : WritePromise E a f k v m f'') {s : State} (w : Stands E f s) (done : changes n ≡ true) where
   abbrev one : Stands E f' (onWrite E a s k v .state)
   one = P .after s w .0
 

@@ -4,7 +4,7 @@ use mathlib.Core.Path.{_≡_, refl}
 use mathlib.Core.List.{List, [], _∷_, _++_}
 use lib.ListN.{length, replicate}
 use Rattle.layout.specs.Kind.{Leaf, Prefix, Node4}
-use Rattle.model.specs.Edition.{edition1, edition2, escaped}
+use Rattle.model.specs.Edition.{edition1, edition2, escaped, unstamped}
 use Rattle.model.specs.Tree.{Art, Change, Left, chain, cutPrefix, loneChild, underPrefix, idle}
 use Rattle.model.specs.Tree.Art.{leaf, prefix, node}
 use Rattle.model.specs.Tree.Kids.{nil, kid}
@@ -58,11 +58,11 @@ c6 = refl
 -- ---- cuts: a chain of p bytes cut after q: Prefixes taken, freed
 
 abbrev inner : Art
-inner = node 4 (kid 1 0 (leaf (1 ∷ []) []) (kid 2 0 (leaf (2 ∷ []) []) nil))
+inner = node 4 (kid 1 0 (leaf (1 ∷ []) (unstamped [])) (kid 2 0 (leaf (2 ∷ []) (unstamped [])) nil))
 
 -- the key whose walked string shares q bytes 9 with the chain, then has an 8
 abbrev cut : ℕ → ℕ → Change Art
-cut p q = cutPrefix edition2 0 (replicate q 9 ++ 8 ∷ []) [] (replicate p 9) inner
+cut p q = cutPrefix edition2 0 (replicate q 9 ++ 8 ∷ []) (unstamped []) (replicate p 9) inner
 
 -- 225 = 112 + 112 + 1; cut at 0: 224 = 112 + 112 stay: one fewer
 k1 : cut 225 0 .takes ≡ Leaf ∷ Node4 ∷ []
@@ -131,18 +131,18 @@ j6 : underPrefix (replicate 50 9) 8 inner (idle gone) .takes ≡ []
 j6 = refl
 
 -- a Leaf below 300 bytes: all three Prefixes go
-j7 : underPrefix (replicate 300 9) 8 (leaf (1 ∷ []) []) (idle gone) .frees ≡ Prefix ∷ Prefix ∷ Prefix ∷ []
+j7 : underPrefix (replicate 300 9) 8 (leaf (1 ∷ []) (unstamped [])) (idle gone) .frees ≡ Prefix ∷ Prefix ∷ Prefix ∷ []
 j7 = refl
 
 -- ---- a frame of edition 2: two keys of 200 bytes that part at the last (`table2` has U, B and X of these frames)
 
 abbrev s2 : Done
-s2 = callPut edition2 (callPut edition2 (formatted 4096 16) (replicate 199 97 ++ 120 ∷ []) (49 ∷ []) .state) (replicate 199 97 ++ 121 ∷ []) (50 ∷ [])
+s2 = callPut edition2 (callPut edition2 (formatted 4096 16) (replicate 199 97 ++ 120 ∷ []) (unstamped (49 ∷ [])) .state) (replicate 199 97 ++ 121 ∷ []) (unstamped (50 ∷ []))
 
 -- the erase of one frees its Leaf, the Node4 and both Prefixes
 f1 : callErase edition2 (s2 .state) (replicate 199 97 ++ 120 ∷ []) .state .free ≡ 0 ∷ 1 ∷ 2 ∷ 0 ∷ 1 ∷ 0 ∷ 0 ∷ 0 ∷ 1 ∷ []
 f1 = refl
 
 -- a third key that leaves the chain at byte 112, between its Prefixes: no Prefix more, and none freed
-f2 : callPut edition2 (s2 .state) (replicate 112 97 ++ 98 ∷ []) [] .state .free ≡ 0 ∷ 0 ∷ 0 ∷ 0 ∷ 0 ∷ 0 ∷ 0 ∷ 0 ∷ 1 ∷ []
+f2 : callPut edition2 (s2 .state) (replicate 112 97 ++ 98 ∷ []) (unstamped []) .state .free ≡ 0 ∷ 0 ∷ 0 ∷ 0 ∷ 0 ∷ 0 ∷ 0 ∷ 0 ∷ 1 ∷ []
 f2 = refl

@@ -112,6 +112,7 @@ pub record LeafOf (E : Edition) (f path : List ℕ) (o e : ℕ) (k : List ℕ) (
   pub eights : e % 8 ≡ 0
   pub legal : E .keyFault k ≡ 0
   pub begins : Begins (E .walked k) path
+  pub stamped : v .stamp < E .stamps
 
 unfoldable mutual
   -- the tree stands in f, and this path leads to it. "A Prefix has 1 to 112 bytes and its child is of kind 4 to 7."

@@ -144,7 +144,7 @@ abbrev mutual
 abbrev mutual
   pub bodies : Art → ℕ → ℕ → List ℕ
   bodies (leaf k v) s o =
-      padded (bodySize Leaf) (digits 4 (o + bodySize Leaf) ++ digits 2 (length k) ++ digits 2 (length (textOf v))) ++ padded (extentOf k v) (k ++ textOf v)
+      padded (bodySize Leaf) (digits 4 (o + bodySize Leaf) ++ digits 2 (length k) ++ digits 2 (length (textOf v)) ++ digits 8 (v .stamp)) ++ padded (extentOf k v) (k ++ textOf v)
   bodies (prefix p a) s o = chainBodies (chain (length p)) p s ++ bodies a (s + chain (length p)) (o + chain (length p) * bodySize Prefix)
   bodies (node kind ks) s o = nodeBody kind (bytesOf ks) (childSlots (s + 1) ks) ++ bodiesKids ks (s + 1) (o + bodySize kind)
 

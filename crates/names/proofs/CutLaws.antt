@@ -15,6 +15,7 @@ use Rattle.layout.specs.Place.{leafExtent, leafKey}
 use Rattle.layout.proofs.NumberLaws.{le1}
 use Rattle.pieces.specs.Decides.{Decides}
 use Rattle.pieces.specs.Range.{Alike}
+use Rattle.model.specs.Edition.{Value, textOf}
 use Rattle.model.specs.Body.{LeafAt}
 use Rattle.model.proofs.StringLaws.{bool-cases, eqb-cases, clash}
 use Rattle.listing.specs.Listing.{begins, upto, entryFor, delimiterOf}
@@ -169,24 +170,24 @@ of-key-some f p d k at n {c} e l h b C =
     }
 
 -- the key that a Leaf's body says
-leaf-key : {f k v : List ℕ} {o e : ℕ} (at n m : ℕ) → LeafAt f o e k v → at ≡ le 4 f (o + leafExtent) → n ≡ le 2 f (o + leafKey) → m ≡ n → (take m (drop at f) ≡ k) × (length k ≡ m) × (at + m ≤ length f)
+leaf-key : {f k : List ℕ} {v : Value} {o e : ℕ} (at n m : ℕ) → LeafAt f o e k v → at ≡ le 4 f (o + leafExtent) → n ≡ le 2 f (o + leafKey) → m ≡ n → (take m (drop at f) ≡ k) × (length k ≡ m) × (at + m ≤ length f)
 leaf-key {f} {k} {v} {o} {e} at n m A ea en em =
     let r = A .room in
     let a : at ≡ e = ea ∙ A .extent in
     let l : m ≡ length k = em ∙ en ∙ A .keyLength in
-    (rw (a, l) (text-part f e k (omega arith) (λ i h. A .text i (omega (arith, length-append k v)) ∙ List·getD-append k v 0 i h)), sym l, omega arith)
+    (rw (a, l) (text-part f e k (omega arith) (λ i h. A .text i (omega (arith, length-append k (textOf v))) ∙ List·getD-append k (textOf v) 0 i h)), sym l, omega arith)
 
 -- the part that is its key begins with the prefix, or not
 module _ (f p : List ℕ) (d : Option ℕ) (at n m o : ℕ) (ea : at ≡ le 4 f (o + leafExtent)) (en : n ≡ le 2 f (o + leafKey)) (em : m ≡ n) {b : Bool} (eb : b ≡ begins p (take m (drop at f))) where
   pub leaf-long : not b ≡ false → length p ≤ length (take m (drop at f))
   leaf-long t = begins-long p (take m (drop at f)) (sym eb ∙ not-false b t)
 
-  pub leaf-none : {r : Entry} → not b ≡ true → r .there ≡ false → (e : ℕ) (k v : List ℕ) → LeafAt f o e k v → OfKey f p d k r
+  pub leaf-none : {r : Entry} → not b ≡ true → r .there ≡ false → (e : ℕ) (k : List ℕ) (v : Value) → LeafAt f o e k v → OfKey f p d k r
   leaf-none t g e k v A =
       let L = leaf-key at n m A ea en em in
       of-key-none f p d k g (sym (rw (L .0) at eb) ∙ not-true b t)
 
-  pub leaf-some : {c : Cut} → not b ≡ false → CutAt (take m (drop at f)) (length p) d c → (e : ℕ) (k v : List ℕ) → LeafAt f o e k v → OfKey f p d k (record { there = true; at = at; long = c .long; tail = c .tail })
+  pub leaf-some : {c : Cut} → not b ≡ false → CutAt (take m (drop at f)) (length p) d c → (e : ℕ) (k : List ℕ) (v : Value) → LeafAt f o e k v → OfKey f p d k (record { there = true; at = at; long = c .long; tail = c .tail })
   leaf-some {c} t C e k v A =
       let L = leaf-key at n m A ea en em in
       of-key-some f p d k at m (L .0) (L .1) (L .2) (sym (rw (L .0) at eb) ∙ not-false b t) (rw (L .0) at C)

@@ -7,7 +7,7 @@ use mathlib.Core.Option.{Option, some}
 use lib.ListN.{length}
 use Rattle.layout.specs.Number.{Bytes}
 use Rattle.layout.specs.Kind.{Leaf, bodySize}
-use Rattle.model.specs.Edition.{Edition, Legal, Lawful}
+use Rattle.model.specs.Edition.{Edition, Legal, Lawful, Value}
 use Rattle.model.specs.Tree.{Art}
 use Rattle.model.specs.Records.{Record, records, recordsKids, AllKeys, Ascending}
 use Rattle.model.specs.Body.{LeafAt}
@@ -68,7 +68,7 @@ tree-records {E} L f path l B T =
 -- a Leaf's body and key in the frame
 record LeafHere (E : Edition) (f : List ℕ) (x : Leafy) : Type 0 where
   pub extent : ℕ
-  pub value : List ℕ
+  pub value : Value
   pub at : LeafAt f (x .place) extent (x .key) value
   pub room : x .place + bodySize Leaf ≤ length f
   pub legal : Legal E (x .key)
@@ -137,7 +137,7 @@ module _ {E : Edition} (N : Naming E) {f : List ℕ} (g : List ℕ) (t : ℕ) {r
     sought-leaf = record { extent = here .extent; key = placed .leaf .key; value = here .value; at = leaf-at; room = rw (placed .place) at (here .room); legal = here .legal }
 
     -- the first key that is
-    pub entry-there : (p : List ℕ) (d : Option ℕ) {r : Entry} → ((x : ℕ) (k v : List ℕ) → LeafAt f (s .place) x k v → OfKey f p d k r) → EntryFrom E f root p d g t r
+    pub entry-there : (p : List ℕ) (d : Option ℕ) {r : Entry} → ((x : ℕ) (k : List ℕ) (v : Value) → LeafAt f (s .place) x k v → OfKey f p d k r) → EntryFrom E f root p d g t r
     entry-there p d {r} O =
         of-sub S (λ (l : Lay). begins p g ≡ true → (z : Option (List ℕ)) → names d p (above g t (records (art l))) ≡ afterStart z (names d p (records (art l)))
         → Next E f p d (records (art l)) (afterStart z (names d p (records (art l)))) r)

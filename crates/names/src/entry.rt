@@ -7,7 +7,7 @@ ghost use mathlib.Core.Bool.{false};
 ghost use mathlib.Core.List.{List, _++_};
 ghost use Prim.Native.Nat.{ℕ, _+_, _≤_, _<_};
 ghost use lib.ListN.{length, take, drop};
-ghost use Rattle.model.specs.Edition.{editionOf, SomeEdition};
+ghost use Rattle.model.specs.Edition.{editionOf, SomeEdition, Value};
 ghost use Rattle.model.specs.Image.{digits};
 ghost use Rattle.model.specs.Body.{LeafAt};
 ghost use Rattle.listing.specs.Listing.{begins, delimiterOf};
@@ -96,7 +96,7 @@ pub fn ending(key: &[u8], from: usize, delimiter: usize) -> Cut
 // The entry of the key of the Leaf at a place, if it begins with the prefix.
 fn of_leaf(f: &[u8], place: usize, prefix: &[u8], delimiter: usize) -> Entry
     requires { ⌜ SomeEdition (λ E. LeafSome E (now f) place) ⌝ }
-    ensures { λ r. ⌜ ((e : ℕ) (k v : List ℕ) → LeafAt (now (f .entry)) place e k v → OfKey (now (f .entry)) (now (prefix .entry)) (delimiterOf delimiter) k r) ⌝ }
+    ensures { λ r. ⌜ ((e : ℕ) (k : List ℕ) (v : Value) → LeafAt (now (f .entry)) place e k v → OfKey (now (f .entry)) (now (prefix .entry)) (delimiterOf delimiter) k r) ⌝ }
 {
     let at = Leaf::extent(f, place);
     let end = at + Leaf::key_length(f, place);

@@ -11,6 +11,7 @@ use Rattle.layout.specs.Place.{entryAt}
 use Rattle.layout.specs.Kind.{Leaf, Prefix, bodySize}
 use Rattle.layout.specs.Entry.{entryOf}
 use Rattle.layout.proofs.KindLaws.{range-inner}
+use Rattle.model.specs.Edition.{Value, textOf}
 use Rattle.model.specs.Tree.{extentOf}
 use Rattle.model.specs.Tree.Art.{leaf}
 use Rattle.model.specs.Image.{digits, padded, size, bodies}
@@ -79,10 +80,10 @@ module _ {m : ℕ} {at : Next} {out : List ℕ} (R : Room 1 m at out) (e : ℕ) 
 
 -- ---- the kinds
 
-length-leaf : (s o : ℕ) (k v : List ℕ) → length (bodies (leaf k v) s o) ≡ size (leaf k v)
+length-leaf : (s o : ℕ) (k : List ℕ) (v : Value) → length (bodies (leaf k v) s o) ≡ size (leaf k v)
 length-leaf s o k v =
-    let D = digits 4 (o + bodySize Leaf) ++ digits 2 (length k) ++ digits 2 (length v) in
-    length-append (padded 16 D) (padded (extentOf k v) (k ++ v)) ∙ ap (λ (n : ℕ). 16 + n) (length-padded (extentOf k v) (k ++ v) (extent-fits k v))
+    let D = digits 4 (o + bodySize Leaf) ++ digits 2 (length k) ++ digits 2 (length (textOf v)) ++ digits 8 (v .stamp) in
+    length-append (padded 16 D) (padded (extentOf k v) (k ++ textOf v)) ∙ ap (λ (n : ℕ). 16 + n) (length-padded (extentOf k v) (k ++ textOf v) (extent-fits k v))
 
 pub length-prefix : (child : ℕ) (p : List ℕ) → length p ≤ 112 → length (padded 16 (digits 4 child ++ digits 2 (length p)) ++ padded 112 p) ≡ 128
 length-prefix child p h = length-append (padded 16 (digits 4 child ++ digits 2 (length p))) (padded 112 p) ∙ ap (λ (n : ℕ). 16 + n) (length-padded 112 p h)

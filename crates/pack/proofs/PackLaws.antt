@@ -37,7 +37,7 @@ lawful-ruled wiped {E} L =
       short = λ k h. L .short k (legal h);
       apart = λ k l t h g e. L .apart k l t (legal h) (legal g) e;
       order = λ w x y b s c t h g e f l. L .order w x y b s c t (legal h) (legal g) e f l;
-      fields = record { number = L .fields .number; keys = λ k h. L .fields .keys k (legal h); words = L .fields .words };
+      fields = record { number = L .fields .number; keys = λ k h. L .fields .keys k (legal h); words = L .fields .words; stamps = L .fields .stamps };
     }
   where
     legal : {k : List ℕ} → Legal (ruled wiped E) k → Legal E k

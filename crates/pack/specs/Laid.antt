@@ -8,6 +8,7 @@ use Rattle.layout.specs.Number.{byteAt}
 use Rattle.layout.specs.Place.{entryAt}
 use Rattle.layout.specs.Kind.{Leaf, Prefix, bodySize, most}
 use Rattle.layout.specs.Entry.{entryOf}
+use Rattle.model.specs.Edition.{Value}
 use Rattle.model.specs.Tree.Art.{leaf}
 use Rattle.model.specs.Image.{digits, numbers, padded, size, entries, bodies}
 use Rattle.model.specs.Body.{Has, LeafAt, PrefixAt}
@@ -39,13 +40,13 @@ pub record Laid (es bs : List ℕ) (at : Next) (o o' : List ℕ) (r : Next) : Ty
 pub record LeafFits (f : List ℕ) (o : ℕ) (out : List ℕ) (at : Next) : Type 0 where
   pub extent : ℕ
   pub key : List ℕ
-  pub value : List ℕ
+  pub value : Value
   pub inside : o + bodySize Leaf ≤ length f
   pub stands : LeafAt f o extent key value
   pub room : Room 1 (size (leaf key value)) at out
 
 pub record LeafLaid (f : List ℕ) (o : ℕ) (out : List ℕ) (at : Next) (out' : List ℕ) (r : Next) : Type 0 where
-  pub of : (e : ℕ) (k v : List ℕ) → LeafAt f o e k v → Laid (entries (leaf k v) (at .place)) (bodies (leaf k v) (at .slot) (at .place)) at out out' r
+  pub of : (e : ℕ) (k : List ℕ) (v : Value) → LeafAt f o e k v → Laid (entries (leaf k v) (at .place)) (bodies (leaf k v) (at .slot) (at .place)) at out out' r
 
 -- ---- a Prefix, whose child takes the next slot
 

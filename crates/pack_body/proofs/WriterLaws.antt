@@ -8,13 +8,14 @@ use lib.ListN.{length, take, drop, length-append, length-drop}
 use borrow.Rule.Slice.PartMut.{putMid, midOf}
 use lib.Seq.{length-take-le, ext-getD, getD-take, getD-drop}
 use Rattle.layout.specs.Number.{byteAt, le, put}
-use Rattle.layout.specs.Place.{leafExtent, leafKey, leafValue, prefixChild, dataStart}
+use Rattle.layout.specs.Place.{leafExtent, leafKey, leafValue, leafStamp, prefixChild, dataStart}
 use Rattle.layout.proofs.NumberLaws.{length-put, le-moved}
 use Rattle.fields.specs.Header.{putHeader}
 use Rattle.fields.specs.Body.{putLeafBody}
 use Rattle.fields.specs.declared.header.Header.{Header}
 use Rattle.fields.proofs.HeaderLaws.{length-putHeader, byte-putHeader}
 use Rattle.fields.proofs.BodyLaws.{length-putLeafBody, leaf-off}
+use Rattle.model.specs.Edition.{Value, textOf}
 use Rattle.model.specs.Tree.{up8, extentOf}
 use Rattle.model.specs.Tree.Art.{leaf}
 use Rattle.model.specs.Image.{digits, padded, size, bodies}
@@ -70,65 +71,65 @@ paste-as p q a b P = rw (sym a, sym b) P
 
 -- ---- a Leaf
 
-leaf-body : (m : List ℕ) (e k v : ℕ) → 16 ≤ length m → Has (putLeafBody m 0 e k v) 0 (padded 16 (digits 4 e ++ digits 2 k ++ digits 2 v))
+leaf-body : (m : List ℕ) (e k v t : ℕ) → 16 ≤ length m → Has (putLeafBody m 0 e k v t) 0 (padded 16 (digits 4 e ++ digits 2 k ++ digits 2 v ++ digits 8 t))
 unfolding putLeafBody
-leaf-body m e k v h =
-    let m1 = put 4 m 0 e in let m2 = put 2 m1 4 k in let m3 = put 2 m2 6 v in let m4 = put 4 m3 8 0 in
-    let l1 = length-put 4 m 0 e in let l2 = length-put 2 m1 4 k in let l3 = length-put 2 m2 6 v in let l4 = length-put 4 m3 8 0 in
-    let x1 = digits 4 e in let x2 = x1 ++ digits 2 k in let x3 = x2 ++ digits 2 v in let x4 = x3 ++ digits 4 0 in
-    has-more 4 m4 12 0 x4 refl (omega arith) (has-more 4 m3 8 0 x3 refl (omega arith) (has-more 2 m2 6 v x2 refl (omega arith) (has-more 2 m1 4 k x1 refl (omega arith) (has-put 4 m 0 e (omega arith)))))
+leaf-body m e k v t h =
+    let m1 = put 4 m 0 e in let m2 = put 2 m1 4 k in let m3 = put 2 m2 6 v in
+    let l1 = length-put 4 m 0 e in let l2 = length-put 2 m1 4 k in let l3 = length-put 2 m2 6 v in
+    let x1 = digits 4 e in let x2 = x1 ++ digits 2 k in let x3 = x2 ++ digits 2 v in
+    has-more 8 m3 8 t x3 refl (omega arith) (has-more 2 m2 6 v x2 refl (omega arith) (has-more 2 m1 4 k x1 refl (omega arith) (has-put 4 m 0 e (omega arith))))
 
-leaf-only : (m : List ℕ) (e k v : ℕ) → Only m (putLeafBody m 0 e k v) 0 16
-leaf-only m e k v = record { size = length-putLeafBody m 0 e k v; below = λ a l. absurd (omega arith); above = λ a l. leaf-off m 0 e k v a (inr (omega arith)) }
+leaf-only : (m : List ℕ) (e k v t : ℕ) → Only m (putLeafBody m 0 e k v t) 0 16
+leaf-only m e k v t = record { size = length-putLeafBody m 0 e k v t; below = λ a l. absurd (omega arith); above = λ a l. leaf-off m 0 e k v t a (inr (omega arith)) }
 
 -- the body, then key and value
-leaf-has : (m g : List ℕ) (at s : ℕ) (k v : List ℕ) → size (leaf k v) ≤ length m → Zero m 0 (size (leaf k v)) → Pasted (putLeafBody m 0 (at + 16) (length k) (length v)) g 16 (length (k ++ v)) (k ++ v)
+leaf-has : (m g : List ℕ) (at s : ℕ) (k : List ℕ) (v : Value) → size (leaf k v) ≤ length m → Zero m 0 (size (leaf k v)) → Pasted (putLeafBody m 0 (at + 16) (length k) (length (textOf v)) (v .stamp)) g 16 (length (k ++ textOf v)) (k ++ textOf v)
     → Has g 0 (bodies (leaf k v) s at)
 leaf-has m g at s k v room Z P =
-    let O = leaf-only m (at + 16) (length k) (length v) in
+    let O = leaf-only m (at + 16) (length k) (length (textOf v)) (v .stamp) in
     let long = O .size in
     let long' = P .only .size in
     let few = extent-fits k v in
-    let body = padded 16 (digits 4 (at + 16) ++ digits 2 (length k) ++ digits 2 (length v)) in
-    has-join body (padded (extentOf k v) (k ++ v)) 16 refl
-    (has-only (P .only) body (inl (omega arith)) (leaf-body m (at + 16) (length k) (length v) (omega arith)))
-    (has-padded (extentOf k v) (k ++ v) few (omega arith) (record { fits = omega arith; text = λ i l. P .text (16 + i) i l refl }) (λ i l.
-    let a = 16 + length (k ++ v) + i in
+    let body = padded 16 (digits 4 (at + 16) ++ digits 2 (length k) ++ digits 2 (length (textOf v)) ++ digits 8 (v .stamp)) in
+    has-join body (padded (extentOf k v) (k ++ textOf v)) 16 refl
+    (has-only (P .only) body (inl (omega arith)) (leaf-body m (at + 16) (length k) (length (textOf v)) (v .stamp) (omega arith)))
+    (has-padded (extentOf k v) (k ++ textOf v) few (omega arith) (record { fits = omega arith; text = λ i l. P .text (16 + i) i l refl }) (λ i l.
+    let a = 16 + length (k ++ textOf v) + i in
     P .only .above a (omega arith) ∙ O .above a (omega arith) ∙ zero-at m (size (leaf k v)) Z a (omega arith)))
 
 -- the extent's part has room for it
-pub leaf-lent : {f m h : List ℕ} {o at : ℕ} (C : LeafCopies f o m at) (x n w : ℕ) → x ≡ le 4 f (o + leafExtent) → n ≡ le 2 f (o + leafKey) → w ≡ le 2 f (o + leafValue)
-    → h ≡ putLeafBody m 0 (at + 16) n w → (16 + (length h - 16) ≤ length h) × (length (take (x + (n + w) - x) (drop x f)) ≤ length h - 16)
-leaf-lent {f} {m} {h} {o} {at} C x n w ex en ew eh =
+pub leaf-lent : {f m h : List ℕ} {o at : ℕ} (C : LeafCopies f o m at) (x n w t : ℕ) → x ≡ le 4 f (o + leafExtent) → n ≡ le 2 f (o + leafKey) → w ≡ le 2 f (o + leafValue)
+    → h ≡ putLeafBody m 0 (at + 16) n w t → (16 + (length h - 16) ≤ length h) × (length (take (x + (n + w) - x) (drop x f)) ≤ length h - 16)
+leaf-lent {f} {m} {h} {o} {at} C x n w t ex en ew eh =
     let L = C .stands in
-    let kv = length-append (C .key) (C .value) in
+    let kv = length-append (C .key) (textOf (C .value)) in
     let few = extent-fits (C .key) (C .value) in
     let room : 16 + extentOf (C .key) (C .value) ≤ length m = C .room in
-    let long : length h ≡ length m = rw eh (length-putLeafBody m 0 (at + 16) n w) in
+    let long : length h ≡ length m = rw eh (length-putLeafBody m 0 (at + 16) n w t) in
     let z : x + (n + w) - x ≡ n + w = omega arith in
     let all : length (take (n + w) (drop x f)) ≡ n + w = length-take-le (n + w) (drop x f) (omega (arith, length-drop x f, L .room, L .extent, L .keyLength, L .valueLength)) in
     (omega arith, rw z (omega (arith, all, room, few, kv, long, L .keyLength, L .valueLength)))
 
-pub leaf-copied : {f m h ys : List ℕ} {o at r : ℕ} (C : LeafCopies f o m at) (x n w : ℕ) → x ≡ le 4 f (o + leafExtent) → n ≡ le 2 f (o + leafKey) → w ≡ le 2 f (o + leafValue)
-    → h ≡ putLeafBody m 0 (at + 16) n w → Pasted (midOf 16 (length h - 16) h) ys 0 (length (take (x + (n + w) - x) (drop x f))) (take (x + (n + w) - x) (drop x f)) → r ≡ up8 (n + w)
+pub leaf-copied : {f m h ys : List ℕ} {o at r : ℕ} (C : LeafCopies f o m at) (x n w t : ℕ) → x ≡ le 4 f (o + leafExtent) → n ≡ le 2 f (o + leafKey) → w ≡ le 2 f (o + leafValue) → t ≡ le 8 f (o + leafStamp)
+    → h ≡ putLeafBody m 0 (at + 16) n w t → Pasted (midOf 16 (length h - 16) h) ys 0 (length (take (x + (n + w) - x) (drop x f))) (take (x + (n + w) - x) (drop x f)) → r ≡ up8 (n + w)
     → LeafCopied f o m (putMid 16 (length h - 16) h ys) at (16 + r)
-leaf-copied {f} {m} {h} {ys} {o} {at} {r} C x n w ex en ew eh lent er =
+leaf-copied {f} {m} {h} {ys} {o} {at} {r} C x n w t ex en ew et eh lent er =
     let g = putMid 16 (length h - 16) h ys in
-    let lies = leaf-lent C x n w ex en ew eh in
+    let lies = leaf-lent C x n w t ex en ew eh in
     let P : Pasted h g 16 (length (take (x + (n + w) - x) (drop x f))) (take (x + (n + w) - x) (drop x f)) = part-pasted 16 (length h - 16) h (lies .0) ys (take (x + (n + w) - x) (drop x f)) (lies .1) lent in
-    let of : (e : ℕ) (k v : List ℕ) → LeafAt f o e k v → (length k ≡ n) × (length v ≡ w) × (e ≡ x) = λ e k v L. (sym (en ∙ L .keyLength), sym (ew ∙ L .valueLength), sym (ex ∙ L .extent)) in
+    let of : (e : ℕ) (k : List ℕ) (v : Value) → LeafAt f o e k v → (length k ≡ n) × (length (textOf v) ≡ w) × (e ≡ x) × (v .stamp ≡ t) = λ e k v L. (sym (en ∙ L .keyLength), sym (ew ∙ L .valueLength), sym (ex ∙ L .extent), sym (et ∙ L .stamp)) in
     let mine = of (C .extent) (C .key) (C .value) (C .stands) in
     let all : size (leaf (C .key) (C .value)) ≡ 16 + up8 (n + w) = rw (mine .0, mine .1) in
     let room : 16 + up8 (n + w) ≤ length m = rw all at (C .room) in
     let Z : Zero m 0 (16 + up8 (n + w)) = rw all at (C .zeros) in
-    let is : (e : ℕ) (k v : List ℕ) → LeafAt f o e k v → Pasted (putLeafBody m 0 (at + 16) (length k) (length v)) g 16 (length (k ++ v)) (k ++ v) = λ e k v L.
+    let is : (e : ℕ) (k : List ℕ) (v : Value) → LeafAt f o e k v → Pasted (putLeafBody m 0 (at + 16) (length k) (length (textOf v)) (v .stamp)) g 16 (length (k ++ textOf v)) (k ++ textOf v) = λ e k v L.
     (let l = of e k v L in
-    let kv = length-append k v in
-    let T : Text f x (k ++ v) = rw (l .2) at (L .text) in
-    paste-as (take (x + (n + w) - x) (drop x f)) (k ++ v) (rw (l .0, l .1) eh) (taken f x (n + w) (k ++ v) (omega (arith, l .0, l .1)) (omega (arith, l .0, l .1, l .2, L .room)) T) P) in
+    let kv = length-append k (textOf v) in
+    let T : Text f x (k ++ textOf v) = rw (l .2) at (L .text) in
+    paste-as (take (x + (n + w) - x) (drop x f)) (k ++ textOf v) (rw (l .0, l .1, l .3) eh) (taken f x (n + w) (k ++ textOf v) (omega (arith, l .0, l .1)) (omega (arith, l .0, l .1, l .2, L .room)) T) P) in
     let Q = is (C .extent) (C .key) (C .value) (C .stands) in
     record {
-      only = only-then 0 (16 + r) (leaf-only m (at + 16) (length (C .key)) (length (C .value))) (Q .only) (omega arith) (omega arith) (omega arith) (omega (arith, extent-fits (C .key) (C .value), mine .0, mine .1));
+      only = only-then 0 (16 + r) (leaf-only m (at + 16) (length (C .key)) (length (textOf (C .value))) (C .value .stamp)) (Q .only) (omega arith) (omega arith) (omega arith) (omega (arith, extent-fits (C .key) (C .value), mine .0, mine .1));
       is = λ e k v L.
           let l = of e k v L in
           let same : size (leaf k v) ≡ 16 + up8 (n + w) = rw (l .0, l .1) in

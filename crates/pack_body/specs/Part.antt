@@ -8,7 +8,7 @@ use lib.Dec.{eqb}
 use Rattle.layout.specs.Place.{headerSize}
 use Rattle.layout.specs.Kind.{Leaf, Prefix, Node4, Node16, Node48, bodySize}
 use Rattle.model.specs.Strings.{pick}
-use Rattle.model.specs.Edition.{Edition}
+use Rattle.model.specs.Edition.{Edition, Value}
 use Rattle.model.specs.Tree.Art.{leaf}
 use Rattle.model.specs.Image.{digits, numbers, padded, spread, upFrom, size, bodies, header}
 use Rattle.model.specs.Body.{Zero, Has, LeafAt, PrefixAt}
@@ -27,7 +27,7 @@ pub record HeaderWritten (before after : List ℕ) (e f n b u r : ℕ) : Type 0 
 pub record LeafCopies (f : List ℕ) (o : ℕ) (part : List ℕ) (at : ℕ) : Type 0 where
   pub extent : ℕ
   pub key : List ℕ
-  pub value : List ℕ
+  pub value : Value
   pub inside : o + bodySize Leaf ≤ length f
   pub stands : LeafAt f o extent key value
   pub room : size (leaf key value) ≤ length part
@@ -37,7 +37,7 @@ pub record LeafCopies (f : List ℕ) (o : ℕ) (part : List ℕ) (at : ℕ) : Ty
 -- it takes r bytes
 pub record LeafCopied (f : List ℕ) (o : ℕ) (before after : List ℕ) (at r : ℕ) : Type 0 where
   pub only : Only before after 0 r
-  pub is : (e : ℕ) (k v : List ℕ) → LeafAt f o e k v → (r ≡ size (leaf k v)) × ((s : ℕ) → Has after 0 (bodies (leaf k v) s at))
+  pub is : (e : ℕ) (k : List ℕ) (v : Value) → LeafAt f o e k v → (r ≡ size (leaf k v)) × ((s : ℕ) → Has after 0 (bodies (leaf k v) s at))
 
 -- ---- a Prefix
 

@@ -11,7 +11,7 @@ use Rattle.layout.specs.Kind.{Leaf, Prefix, Node4, fewest, shrinkMark, kindDown
 use Rattle.layout.specs.Kind.Inner.{node4, node16, node48, node256}
 use Rattle.layout.specs.Entry.{highOf}
 use Rattle.layout.proofs.KindLaws.{range-inner}
-use Rattle.model.specs.Edition.{Edition, Lawful}
+use Rattle.model.specs.Edition.{Edition, Lawful, Value}
 use Rattle.model.specs.Tree.{Art, Kids, Change, Left, count, carried, chain, prefixes, extentOf, lessOne, eraseTree}
 use Rattle.model.specs.Tree.Left.{gone, kept}
 use Rattle.model.specs.State.{State, eraseChange}
@@ -56,7 +56,7 @@ use Rattle.plan.proofs.PutLaws.{inner-fits}
 planned : {E : Edition} {n : Needs} {k : List ℕ} {a : Art} (c : Change Left) (a' : Art) → eraseChange E a k ≡ withNow (kept a') c → Asks n (c .takes) (c .extent) → Erasing E k a n
 planned c a' e A = record { left = a'; leaves = ap (λ (x : Change Left). x .now) e; asks = rw e A }
 
-module _ {E : Edition} {k r : List ℕ} (kind : ℕ) (ls : LayKids) (b j : ℕ) (rs : LayKids) (up : List Step) (L : Leads E k up (b ∷ r)) (first : hasByte b ls ≡ false) (v : List ℕ) where
+module _ {E : Edition} {k r : List ℕ} (kind : ℕ) (ls : LayKids) (b j : ℕ) (rs : LayKids) (up : List Step) (L : Leads E k up (b ∷ r)) (first : hasByte b ls ≡ false) (v : Value) where
   abbrev stay : Kids
   stay = appKids (artKids ls) (artKids rs)
 
@@ -164,7 +164,7 @@ tree-same l m e = cc
 -- the node that holds the Leaf of k
 pub record Losing (E : Edition) (f k : List ℕ) (s : Spot) (l : Lay) : Type 0 where
   pub extent : ℕ
-  pub value : List ℕ
+  pub value : Value
   pub before : LayKids
   pub place : ℕ
   pub after : LayKids

@@ -12,8 +12,8 @@ use Rattle.layout.specs.Number.{le}
 use Rattle.layout.specs.Place.{leafValue}
 use Rattle.layout.specs.Kind.{Prefix, Node4, bodySize, most, kindUp}
 use Rattle.model.specs.Strings.{pick, same, shared}
-use Rattle.model.specs.Edition.{Edition}
-use Rattle.model.specs.Tree.{Art, Change, over, extentOf, chain, prefixes, putLeaf, cutPrefix, putTree}
+use Rattle.model.specs.Edition.{Edition, Value, textOf}
+use Rattle.model.specs.Tree.{Art, Change, over, up8, extentOf, chain, prefixes, putLeaf, cutPrefix, putTree}
 use Rattle.model.specs.State.{State, kinds, tally, putIn, putChange}
 use Rattle.model.specs.Item.{body}
 use Rattle.model.specs.Body.{InnerAt, PrefixAt}
@@ -122,10 +122,10 @@ up-kind = nine (λ k. kindUp k < 9) (omega arith) (omega arith) (omega arith) (o
 
 -- ---- the change of a put is that of the subtree where the descent ended
 
-root-tree : {E : Edition} {f : List ℕ} (k v : List ℕ) {st : State} (W : Stands E f st) → putChange E st k v ≡ putIn E (rootArt (W .root)) k v
+root-tree : {E : Edition} {f : List ℕ} (k : List ℕ) (v : Value) {st : State} (W : Stands E f st) → putChange E st k v ≡ putIn E (rootArt (W .root)) k v
 root-tree {E} k v W = ap (λ s. putIn E (s .tree) k v) (W .state)
 
-put-there : {E : Edition} {k : List ℕ} {l : Lay} {s : Spot} (v : List ℕ) (W : Way E k l s) (t : Lay) → HangsIn (W .steps) (art (W .sub)) → W .sub ≡ t → putTree E (art l) 0 k v ≡ over (artIn (W .steps)) (putTree E (art t) (s .depth) k v)
+put-there : {E : Edition} {k : List ℕ} {l : Lay} {s : Spot} (v : Value) (W : Way E k l s) (t : Lay) → HangsIn (W .steps) (art (W .sub)) → W .sub ≡ t → putTree E (art l) 0 k v ≡ over (artIn (W .steps)) (putTree E (art t) (s .depth) k v)
 put-there {E} {k} {l} {s} v W t H e =
     ap (λ x. putTree E x 0 k v) (ap art (W .whole) ∙ art-plug (W .steps) (W .sub)) ∙ plug-put (W .leads) v (art (W .sub)) H
     ∙ ap (λ x. over (artIn (W .steps)) (putTree E (art x) (length (pathOf (W .steps))) k v)) e
@@ -138,7 +138,7 @@ AsksFor n c = Asks n (c .takes) (c .extent)
 asks-as : {A B : Type 0} {n : Needs} (g : A → B) (c : Change B) (d : Change A) → c ≡ over g d → Asks n (d .takes) (d .extent) → Asks n (c .takes) (c .extent)
 asks-as g c d e A = rw e A
 
-asks-there : {E : Edition} {f k : List ℕ} {st : State} {s : Spot} {n : Needs} (v : List ℕ) (W : Stands E f st) (I : InTree E k (W .root) s) (t : Lay) → I .spot .way .sub ≡ t → (d : Change Art) → putTree E (art t) (s .depth) k v ≡ d
+asks-there : {E : Edition} {f k : List ℕ} {st : State} {s : Spot} {n : Needs} (v : Value) (W : Stands E f st) (I : InTree E k (W .root) s) (t : Lay) → I .spot .way .sub ≡ t → (d : Change Art) → putTree E (art t) (s .depth) k v ≡ d
     → Asks n (d .takes) (d .extent) → AsksFor n (putChange E st k v)
 asks-there {E} {f} {k} {st} {s} v W I t e d q A =
     let w = I .spot .way in
@@ -158,29 +158,29 @@ module _ {E : Edition} {f k : List ℕ} {st : State} {s : Spot} (W : Stands E f 
       let G : Going E f k s = record { st = st; stands = W; lay = I .lay; is = I .is; way = I .spot .way } in
       tree-as E f (pathOf (I .spot .way .steps)) (I .spot .way .sub) t e (hole E G .2)
 
-  pub asks-empty : {n : Needs} (v : List ℕ) → s .end ≡ 1 → Asks n (withLeaf []) (extentOf k v) → AsksFor n (putChange E st k v)
+  pub asks-empty : {n : Needs} (v : Value) → s .end ≡ 1 → Asks n (withLeaf []) (extentOf k v) → AsksFor n (putChange E st k v)
   asks-empty v e A = rw (root-tree k v W ∙ ap (λ r. putIn E (rootArt r) k v) (S .empty e)) A
 
-  pub asks-found : {n : Needs} (v : List ℕ) (m : ℕ) → s .end ≡ 2 → m ≡ le 2 f (s .here .place + leafValue) → Asks n [] (pick (eqb (length v) m) 0 (extentOf k v)) → AsksFor n (putChange E st k v)
+  pub asks-found : {n : Needs} (v : Value) (m : ℕ) → s .end ≡ 2 → m ≡ le 2 f (s .here .place + leafValue) → Asks n [] (pick (eqb (length (textOf v)) m) 0 (extentOf k v)) → AsksFor n (putChange E st k v)
   asks-found {n} v m e q A =
       let I = S .inTree (λ z. omega arith) in
       let F = I .spot .found e in
       let t = leaf (s .here .slot) (s .here .place) (F .extent) k (F .value) in
       let L = leaf-parts E f (pathOf (I .spot .way .steps)) (s .here .slot) (s .here .place) (F .extent) k (F .value) (stands-there I t (F .is)) .1 .at in
-      let y : m ≡ length (F .value) = q ∙ L .valueLength in
-      let B : Asks n [] (pick (eqb (length v) (length (F .value))) 0 (extentOf k v)) = rw y at A in
-      asks-there v W I t (F .is) (replaced (eqb (length v) (length (F .value))) (F .value)) (rw (same-refl k) refl) (both (eqb (length v) (length (F .value))) (F .value) B)
+      let y : m ≡ length (textOf (F .value)) = q ∙ L .valueLength in
+      let B : Asks n [] (pick (eqb (length (textOf v)) (length (textOf (F .value)))) 0 (extentOf k v)) = rw y at A in
+      asks-there v W I t (F .is) (replaced (eqb (length (textOf v)) (length (textOf (F .value)))) (F .value)) (rw (same-refl k) refl) (both (eqb (length (textOf v)) (length (textOf (F .value)))) (F .value) B)
     where
-      replaced : Bool → List ℕ → Change Art
+      replaced : Bool → Value → Change Art
       replaced b v' =
           pick b (record { now = Art.leaf k v; takes = []; frees = []; extent = 0; dead = 0; fresh = false })
           (record { now = Art.leaf k v; takes = []; frees = []; extent = extentOf k v; dead = extentOf k v'; fresh = false })
 
-      both : (b : Bool) (v' : List ℕ) → Asks n [] (pick b 0 (extentOf k v)) → AsksFor n (replaced b v')
+      both : (b : Bool) (v' : Value) → Asks n [] (pick b 0 (extentOf k v)) → AsksFor n (replaced b v')
       both true v' A = A
       both false v' A = A
 
-  pub asks-other : {n : Needs} (v : List ℕ) (m : ℕ) → s .end ≡ 3 → m ≡ chain (s .shared) → Asks n (withLeaf (forkTakes m)) (extentOf k v) → AsksFor n (putChange E st k v)
+  pub asks-other : {n : Needs} (v : Value) (m : ℕ) → s .end ≡ 3 → m ≡ chain (s .shared) → Asks n (withLeaf (forkTakes m)) (extentOf k v) → AsksFor n (putChange E st k v)
   asks-other v m e em A =
       let I = S .inTree (λ z. omega arith) in
       let F = I .spot .other e in
@@ -195,7 +195,7 @@ module _ {E : Edition} {f k : List ℕ} {st : State} {s : Spot} (W : Stands E f 
       let F = I .spot .missing e in
       (pairs (F .kids), node-parts E f (pathOf (I .spot .way .steps)) (s .here .slot) (s .here .place) (s .here .kind) (F .kids) (stands-there I (node (s .here .slot) (s .here .place) (s .here .kind) (F .kids)) (F .is)) .1 .inner)
 
-  pub asks-missing : {n : Needs} (v : List ℕ) (m : ℕ) → s .end ≡ 4 → ((ks : List (ℕ × ℕ)) → InnerAt f (s .here .place) (s .here .kind) ks → m ≡ length ks) → Asks n (withLeaf (growTakes m (s .here .kind))) (extentOf k v) → AsksFor n (putChange E st k v)
+  pub asks-missing : {n : Needs} (v : Value) (m : ℕ) → s .end ≡ 4 → ((ks : List (ℕ × ℕ)) → InnerAt f (s .here .place) (s .here .kind) ks → m ≡ length ks) → Asks n (withLeaf (growTakes m (s .here .kind))) (extentOf k v) → AsksFor n (putChange E st k v)
   asks-missing {n} v m e q A =
       let I = S .inTree (λ z. omega arith) in
       let F = I .spot .missing e in
@@ -221,7 +221,7 @@ module _ {E : Edition} {f k : List ℕ} {st : State} {s : Spot} (W : Stands E f 
       open-prefix (pathOf xs) [] [] (s .here .slot) (s .here .place) (F .bytes) (F .below) (work-open xs t [] (work-of W (plug xs t) er) refl .0)
 
   -- and the shared beginning from there on is cut
-  pub parted-put : (v : List ℕ) (I : InTree E k (W .root) s) (e : s .end ≡ 5) → let F = I .spot .parted e in
+  pub parted-put : (v : Value) (I : InTree E k (W .root) s) (e : s .end ≡ 5) → let F = I .spot .parted e in
       putTree E (art (prefix (s .here .slot) (s .here .place) (F .bytes) (F .below))) (s .depth) k v ≡ cutPrefix E (s .depth) k v (F .bytes ++ bytesOf (F .below)) (art (tipOf (F .below)))
   parted-put v I e =
       let F = I .spot .parted e in
@@ -238,7 +238,7 @@ module _ {E : Edition} {f k : List ℕ} {st : State} {s : Spot} (W : Stands E f 
           let w = drop (s .depth) (E .walked k) in
           (shared-off (F .bytes) (bytesOf (F .below)) w (λ y. omega (arith, F .shares, F .less)) ∙ sym (F .shares), F .less)
 
-  pub asks-parted : {n : Needs} (v : List ℕ) (m long : ℕ) → s .end ≡ 5 → Begun f (s .here .place) long → m ≡ chain (s .shared) + chain (long - suc (s .shared)) - chain long → Asks n (withLeaf (forkTakes m)) (extentOf k v)
+  pub asks-parted : {n : Needs} (v : Value) (m long : ℕ) → s .end ≡ 5 → Begun f (s .here .place) long → m ≡ chain (s .shared) + chain (long - suc (s .shared)) - chain long → Asks n (withLeaf (forkTakes m)) (extentOf k v)
       → AsksFor n (putChange E st k v)
   asks-parted {n} v m long e B em A =
       let I = S .inTree (λ z. omega arith) in
@@ -267,10 +267,10 @@ inner-fits {f} {o} {kind} ks N = let r = N .range in (omega (arith, inner-room k
 
 module _ {E : Edition} {f k v : List ℕ} {s : Spot} (P : PutFrom E f k v s) where
   pub size-fits : length k + length v < 4294967296
-  size-fits = omega (arith, P .lawful .fields .keys k (P .key), P .value .passes)
+  size-fits = omega (arith, P .lawful .fields .keys k (P .key), P .value)
 
-  pub extent-fits : {x : ℕ} → x ≡ extentOf k v → x < 4294967296
-  extent-fits e = omega (arith, P .lawful .fields .keys k (P .key), P .value .passes)
+  pub extent-fits : {x : ℕ} → x ≡ up8 (length k + length v) → x < 4294967296
+  extent-fits e = omega (arith, P .lawful .fields .keys k (P .key), P .value)
 
   pub leaf-room : s .end ≡ 2 → s .here .place + 16 ≤ length f
   leaf-room e = found-leaf E (P .stands) (P .spot) e .room

@@ -1,10 +1,11 @@
 -- The bodies that a put takes besides the Leaf, by what stands at the end of the descent; what the plan of a put counts on.
-use Prim.Native.Nat.{ℕ}
+use Prim.Native.Nat.{ℕ, _≤_}
 use mathlib.Core.List.{List, [], _∷_}
+use lib.ListN.{length}
 use lib.Dec.{ltb}
 use Rattle.layout.specs.Kind.{Leaf, Node4, most, kindUp}
 use Rattle.model.specs.Strings.{pick}
-use Rattle.model.specs.Edition.{Edition, Lawful, Legal, LegalValue}
+use Rattle.model.specs.Edition.{Edition, Lawful, Legal}
 use Rattle.model.specs.Tree.{prefixes}
 use Rattle.model.specs.State.{State, putChange}
 use Rattle.model.specs.Frame.{Stands}
@@ -38,8 +39,8 @@ module _ (E : Edition) where
     pub stands : Stands E f st
     pub spot : SpotAt E k (stands .root) s
     pub key : Legal E k
-    pub value : LegalValue v
+    pub value : length v ≤ 65535
 
-  -- the needs are those of the put
+  -- the needs are those of the put, whatever the stamp
   abbrev pub PutPlan : List ℕ → List ℕ → List ℕ → Spot → Needs → Type 0
-  PutPlan f k v s n = (st : State) (W : Stands E f st) → SpotAt E k (W .root) s → let c = putChange E st k v in Asks n (c .takes) (c .extent)
+  PutPlan f k v s n = (st : State) (W : Stands E f st) → SpotAt E k (W .root) s → (stamp : ℕ) → let c = putChange E st k (record { bytes = v; stamp = stamp }) in Asks n (c .takes) (c .extent)

@@ -8,7 +8,7 @@ use lib.ListN.{length, getD}
 use borrow.Author.Tests.{lt-ltb}
 use Rattle.layout.specs.Number.{Bytes}
 use Rattle.layout.specs.Kind.{Leaf, most}
-use Rattle.model.specs.Edition.{Edition}
+use Rattle.model.specs.Edition.{Edition, Value}
 use Rattle.model.specs.Tree.{Art, extentOf, newKey, join, placeIn}
 use Rattle.model.specs.State.{State, room, putChange}
 use Rattle.model.specs.Item.{body, cover, leafy}
@@ -51,7 +51,7 @@ pub one-row : (h : View) → length (h .lists) ≡ 8 → Booked h (taken h Leaf)
 unfolding takenAll
 one-row h e = booked-row h (Leaf ∷ []) (cons leaf-kind nil) e
 
-module _ {E : Edition} {f : List ℕ} {st : State} {S : Stands E f st} {k : List ℕ} {xs : List Step} {n o kind : ℕ} {ks : LayKids} {b : ℕ} {r : List ℕ} (P : Lacks S k xs n o kind ks b r) (v : List ℕ)
+module _ {E : Edition} {f : List ℕ} {st : State} {S : Stands E f st} {k : List ℕ} {xs : List Step} {n o kind : ℕ} {ks : LayKids} {b : ℕ} {r : List ℕ} (P : Lacks S k xs n o kind ks b r) (v : Value) (held : v .stamp < E .stamps)
     (few : length (pairs ks) < most kind) (fits : room st (putChange E st k v) ≡ true) where
   abbrev newArt : Art
   newArt = artIn xs (Art.node kind (join b (placeIn kind (artKids ks)) (Art.leaf k v) (artKids ks)))
@@ -67,7 +67,7 @@ module _ {E : Edition} {f : List ℕ} {st : State} {S : Stands E f st} {k : List
     t1 = leafIn (standsView S) l k v
 
     M : MadeLeaf E f f1 (standsView S) xs n ((pathOf xs, node n o kind ks) ∷ []) [] (pathOf xs ++ b ∷ []) l k v
-    M = make E (standsView S) xs n ((pathOf xs, node n o kind ks) ∷ []) [] (pathOf xs ++ b ∷ []) (lacks-work P) add-room (P .legal .passes) (leads-on (b ∷ []) r (P .leads))
+    M = make E (standsView S) xs n ((pathOf xs, node n o kind ks) ∷ []) [] (pathOf xs ++ b ∷ []) (lacks-work P) add-room (P .legal .passes) (leads-on (b ∷ []) r (P .leads)) held
 
     node-is : NodeOf f1 o kind ks
     node-is = open-node (pathOf xs) ((pathOf xs ++ b ∷ [], t1) ∷ []) [] n o kind ks (work-swap (pathOf xs ++ b ∷ []) t1 (pathOf xs) (node n o kind ks) [] (M .work)) .1
@@ -143,24 +143,24 @@ module _ {E : Edition} {f : List ℕ} {st : State} {S : Stands E f st} {k : List
 
 -- ---- at a spot
 
-module _ {E : Edition} {f k w v : List ℕ} {p : Spot} (A : Open E f k w v p) where
+module _ {E : Edition} {f k w : List ℕ} {v : Value} {p : Spot} (A : Open E f k w v p) where
   P0 : Lacks (A .put .ready .stands) k (A .put .way .steps) (p .here .slot) (p .here .place) (p .here .kind) (A .missing .kids) (A .missing .byte) (A .missing .after)
   P0 = lacks-of (A .put) (A .missing) (A .put .ready .stands)
 
   pub open-makes : Makes f k v
-  open-makes = ready-makes (A .put .ready) (A .put .ready .stands .heap) (add-room P0 v (A .few) (A .put .ready .room))
+  open-makes = ready-makes (A .put .ready) (A .put .ready .stands .heap) (add-room P0 v (A .put .ready .legalValue .stamp) (A .few) (A .put .ready .room))
 
   module _ {f1 : List ℕ} {l : ℕ} (make : NewLeaf f f1 k v l) where
     pub open-adds : NodeOpen f1 (p .here .place) (p .here .kind) × (1 ≤ l) × (l < 4294967296)
-    open-adds = add-open P0 v (A .few) (A .put .ready .room) make
+    open-adds = add-open P0 v (A .put .ready .legalValue .stamp) (A .few) (A .put .ready .room) make
 
     module _ {f2 : List ℕ} {b : ℕ} (eb : b ≡ getD w (p .depth) 0) (D : Added f1 f2 (p .here .place) (p .here .kind) b l) where
       added : Added f1 f2 (p .here .place) (p .here .kind) (A .missing .byte) l
       added = rw (eb ∙ spells-at (A .spells) (p .depth) ∙ byte-is (A .put) (A .missing)) at D
 
       pub open-counts : Counts f2
-      open-counts = add-counts P0 v (A .few) (A .put .ready .room) make added
+      open-counts = add-counts P0 v (A .put .ready .legalValue .stamp) (A .few) (A .put .ready .room) make added
 
       pub open-put : {f3 : List ℕ} → Counted f2 f3 → Bytes f3 → PutStep E f k v f3
       open-put count bytes =
-          record { after = λ s S. add-put (lacks-of (A .put) (A .missing) S) v (A .few) (same-room (A .put .ready .stands) S k v (A .put .ready .room)) make added count bytes }
+          record { after = λ s S. add-put (lacks-of (A .put) (A .missing) S) v (A .put .ready .legalValue .stamp) (A .few) (same-room (A .put .ready .stands) S k v (A .put .ready .room)) make added count bytes }

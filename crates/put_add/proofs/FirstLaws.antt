@@ -1,5 +1,5 @@
 -- The first record: what the calls of `first_record` ask, and that they make the model's put. Assumes nothing.
-use Prim.Native.Nat.{ℕ, _+_, _≤_}
+use Prim.Native.Nat.{ℕ, _+_, _<_, _≤_}
 use mathlib.Core.Path.{_≡_, refl, sym, ap, _∙_}
 use mathlib.Core.List.{List, [], _∷_, _++_}
 use mathlib.Core.Bool.{true}
@@ -8,7 +8,7 @@ use Rattle.layout.specs.Number.{le, Bytes}
 use Rattle.layout.specs.Place.{atRoot}
 use Rattle.layout.specs.Kind.{Leaf, EmptyRoot, Kind}
 use Rattle.layout.specs.Entry.{placeOf}
-use Rattle.model.specs.Edition.{Edition, Legal}
+use Rattle.model.specs.Edition.{Edition, Legal, Value}
 use Rattle.model.specs.Tree.{Art, extentOf, newKey}
 use Rattle.model.specs.State.{State, room, putChange, putIn}
 use Rattle.model.specs.Item.{Item, body, leafy, sum, Same}
@@ -53,7 +53,7 @@ root-link : Link [] atRoot
 unfolding Link
 root-link = refl
 
-module _ {E : Edition} {f : List ℕ} {st : State} (S : Stands E f st) {k : List ℕ} {n o : ℕ} (er : S .root ≡ bare n o) (legal : Legal E k) (v : List ℕ) (fits : room st (putChange E st k v) ≡ true) where
+module _ {E : Edition} {f : List ℕ} {st : State} (S : Stands E f st) {k : List ℕ} {n o : ℕ} (er : S .root ≡ bare n o) (legal : Legal E k) (v : Value) (held : v .stamp < E .stamps) (fits : room st (putChange E st k v) ≡ true) where
   change-is : putChange E st k v ≡ newKey k v (Art.leaf k v) [] (EmptyRoot ∷ [])
   change-is = ap (λ t. putIn E t k v) (ap (λ s. s .tree) (S .state) ∙ ap rootArt er)
 
@@ -68,7 +68,7 @@ module _ {E : Edition} {f : List ℕ} {st : State} (S : Stands E f st) {k : List
     h1 = leafView (standsView S) k v
 
     M : MadeLeaf E f f1 (standsView S) [] n [] (body n EmptyRoot o ∷ []) [] l k v
-    M = make E (standsView S) [] n [] (body n EmptyRoot o ∷ []) [] (work-bare S n o er) first-room (legal .passes) refl
+    M = make E (standsView S) [] n [] (body n EmptyRoot o ∷ []) [] (work-bare S n o er) first-room (legal .passes) refl held
 
     leaf-lies : Lies h1 l Leaf (placeFrom (standsView S) (listOf (standsView S) Leaf))
     leaf-lies =
@@ -134,12 +134,12 @@ module _ {E : Edition} {f : List ℕ} {st : State} (S : Stands E f st) {k : List
 
 -- ---- of an empty frame
 
-module _ {E : Edition} {f k v : List ℕ} (A : Vacant E f k v) where
+module _ {E : Edition} {f k : List ℕ} {v : Value} (A : Vacant E f k v) where
   fits0 : room (A .ready .st) (putChange E (A .ready .st) k v) ≡ true
   fits0 = A .ready .room
 
   pub vacant-makes : Makes f k v
-  vacant-makes = ready-makes (A .ready) (A .ready .stands .heap) (first-room (A .ready .stands) (A .is) (A .ready .legal) v fits0)
+  vacant-makes = ready-makes (A .ready) (A .ready .stands .heap) (first-room (A .ready .stands) (A .is) (A .ready .legal) v (A .ready .legalValue .stamp) fits0)
 
   module _ {f1 : List ℕ} {l : ℕ} (make : NewLeaf f f1 k v l) where
     module _ {f2 : List ℕ} (link : Relinked f1 f2 atRoot l) {n : ℕ} (en : n ≡ le 2 f atRoot) where
@@ -147,15 +147,15 @@ module _ {E : Edition} {f k v : List ℕ} (A : Vacant E f k v) where
       slot-is = en ∙ A .ready .stands .heap .header .rootAt ∙ A .ready .stands .rootIs ∙ ap rootSlot (A .is)
 
       pub vacant-frees : Frees f2 n EmptyRoot
-      vacant-frees = rw slot-is (first-frees (A .ready .stands) (A .is) (A .ready .legal) v fits0 make link)
+      vacant-frees = rw slot-is (first-frees (A .ready .stands) (A .is) (A .ready .legal) v (A .ready .legalValue .stamp) fits0 make link)
 
       module _ {f3 : List ℕ} (free : (h : View) (o : ℕ) (rest : List Item) → Heap f2 h → Same (h .owned) (body n EmptyRoot o ∷ rest) → placeOf f2 n ≡ o → Freed f2 f3 h n EmptyRoot o rest) where
         freed : (h : View) (o : ℕ) (rest : List Item) → Heap f2 h → Same (h .owned) (body (A .slot) EmptyRoot o ∷ rest) → placeOf f2 (A .slot) ≡ o → Freed f2 f3 h (A .slot) EmptyRoot o rest
         freed = rw slot-is at free
 
         pub vacant-counts : Counts f3
-        vacant-counts = first-counts (A .ready .stands) (A .is) (A .ready .legal) v fits0 make link freed
+        vacant-counts = first-counts (A .ready .stands) (A .is) (A .ready .legal) v (A .ready .legalValue .stamp) fits0 make link freed
 
         pub vacant-put : {f4 : List ℕ} → Counted f3 f4 → Bytes f4 → PutStep E f k v f4
         vacant-put count bytes =
-            record { after = λ s w. first-put w (same-root (A .ready .stands) w (A .is)) (A .ready .legal) v (same-room (A .ready .stands) w k v (A .ready .room)) make link freed count bytes }
+            record { after = λ s w. first-put w (same-root (A .ready .stands) w (A .is)) (A .ready .legal) v (A .ready .legalValue .stamp) (same-room (A .ready .stands) w k v (A .ready .room)) make link freed count bytes }

@@ -12,7 +12,7 @@ use Rattle.layout.specs.Number.{Bytes}
 use Rattle.layout.specs.Kind.{Leaf, Kind, bodySize, most, kindUp, Prefix}
 use Rattle.layout.specs.Entry.{placeOf}
 use Rattle.layout.proofs.KindLaws.{size-least}
-use Rattle.model.specs.Edition.{Edition}
+use Rattle.model.specs.Edition.{Edition, Value}
 use Rattle.model.specs.Tree.{Art, extentOf, newKey, join, placeIn, carried}
 use Rattle.model.specs.State.{State, room, putChange}
 use Rattle.model.specs.Item.{Item, body, extent, onSlot, cover, leafy, sum, Same}
@@ -62,7 +62,7 @@ two-row : (h : View) (k : ℕ) → Kind k → length (h .lists) ≡ 8 → Booked
 unfolding takenAll
 two-row h k K e = booked-as (booked-row h (k ∷ Leaf ∷ []) (cons K (cons leaf-kind nil)) e) (Leaf ∷ k ∷ []) [] (tally-turn k Leaf) (λ j. refl)
 
-module _ {E : Edition} {f : List ℕ} {st : State} {S : Stands E f st} {k : List ℕ} {xs : List Step} {n o kind : ℕ} {ks : LayKids} {b : ℕ} {r : List ℕ} (P : Lacks S k xs n o kind ks b r) (v : List ℕ)
+module _ {E : Edition} {f : List ℕ} {st : State} {S : Stands E f st} {k : List ℕ} {xs : List Step} {n o kind : ℕ} {ks : LayKids} {b : ℕ} {r : List ℕ} (P : Lacks S k xs n o kind ks b r) (v : Value) (held : v .stamp < E .stamps)
     (full : most kind ≤ length (pairs ks)) (fits : room st (putChange E st k v) ≡ true) where
   old-node : NodeOf f o kind ks
   old-node = open-node (pathOf xs) [] [] n o kind ks (lacks-work P) .1
@@ -130,7 +130,7 @@ module _ {E : Edition} {f : List ℕ} {st : State} {S : Stands E f st} {k : List
         h2 = leafView h1 k v
 
         M : MadeLeaf E f1 f2 h1 xs n ((pathOf xs, node n o kind ks) ∷ []) (body m up q ∷ []) (pathOf xs ++ b ∷ []) l k v
-        M = make E h1 xs n ((pathOf xs, node n o kind ks) ∷ []) (body m up q ∷ []) (pathOf xs ++ b ∷ []) W1 grow-room (P .legal .passes) (leads-on (b ∷ []) r (P .leads))
+        M = make E h1 xs n ((pathOf xs, node n o kind ks) ∷ []) (body m up q ∷ []) (pathOf xs ++ b ∷ []) W1 grow-room (P .legal .passes) (leads-on (b ∷ []) r (P .leads)) held
 
         -- the node is opened, in whichever frame the work stands
         opened : {g : List ℕ} → Work E g h2 xs n ((pathOf xs ++ b ∷ [], t1) ∷ (pathOf xs, node n o kind ks) ∷ []) (body m up q ∷ [])
@@ -322,7 +322,7 @@ module _ {E : Edition} {f : List ℕ} {st : State} {S : Stands E f st} {k : List
 
 -- ---- at a spot
 
-module _ {E : Edition} {f k w v : List ℕ} {p : Spot} (A : Full E f k w v p) where
+module _ {E : Edition} {f k w : List ℕ} {v : Value} {p : Spot} (A : Full E f k w v p) where
   P0 : Lacks (A .put .ready .stands) k (A .put .way .steps) (p .here .slot) (p .here .place) (p .here .kind) (A .missing .kids) (A .missing .byte) (A .missing .after)
   P0 = lacks-of (A .put) (A .missing) (A .put .ready .stands)
 
@@ -330,38 +330,38 @@ module _ {E : Edition} {f k w v : List ℕ} {p : Spot} (A : Full E f k w v p) wh
   fits0 = A .put .ready .room
 
   pub full-kind : p .here .kind < 9
-  full-kind = omega (arith, grow-kind P0 v (A .full) fits0 .1)
+  full-kind = omega (arith, grow-kind P0 v (A .put .ready .legalValue .stamp) (A .full) fits0 .1)
 
   module _ {up : ℕ} (eu : up ≡ kindUp (p .here .kind)) where
     pub full-takes : Takes f up
-    full-takes = grow-takes P0 v (A .full) fits0 eu
+    full-takes = grow-takes P0 v (A .put .ready .legalValue .stamp) (A .full) fits0 eu
 
     module _ {f1 : List ℕ} {m : ℕ} (took : (h : View) → Heap f h → Roomy h up → Took f f1 h up m) where
       pub full-makes : Makes f1 k v
-      full-makes = ready-makes (A .put .ready) (grow-heap P0 v (A .full) fits0 eu took) (grow-room P0 v (A .full) fits0 eu took)
+      full-makes = ready-makes (A .put .ready) (grow-heap P0 v (A .put .ready .legalValue .stamp) (A .full) fits0 eu took) (grow-room P0 v (A .put .ready .legalValue .stamp) (A .full) fits0 eu took)
 
       module _ {f2 : List ℕ} {l : ℕ} (make : NewLeaf f1 f2 k v l) where
         pub full-fills : Fills f2 (p .here .place) (p .here .kind) m up l
-        full-fills = grow-fills P0 v (A .full) fits0 eu took make
+        full-fills = grow-fills P0 v (A .put .ready .legalValue .stamp) (A .full) fits0 eu took make
 
         module _ {f3 : List ℕ} {b : ℕ} (eb : b ≡ getD w (p .depth) 0) (F : Filled f2 f3 (p .here .place) (p .here .kind) m up b l) where
           filled : Filled f2 f3 (p .here .place) (p .here .kind) m up (A .missing .byte) l
           filled = rw (eb ∙ spells-at (A .spells) (p .depth) ∙ byte-is (A .put) (A .missing)) at F
 
           pub full-link : (64 ≤ length f3) × (p .here .link + 4 ≤ length f3)
-          full-link = grow-link P0 v (A .full) fits0 eu took make filled (p .here .link) (A .put .way .linkIs)
+          full-link = grow-link P0 v (A .put .ready .legalValue .stamp) (A .full) fits0 eu took make filled (p .here .link) (A .put .way .linkIs)
 
           module _ {f4 : List ℕ} (link : Relinked f3 f4 (p .here .link) m) where
             pub full-frees : Frees f4 (p .here .slot) (p .here .kind)
-            full-frees = grow-frees P0 v (A .full) fits0 eu took make filled (p .here .link) (A .put .way .linkIs) link
+            full-frees = grow-frees P0 v (A .put .ready .legalValue .stamp) (A .full) fits0 eu took make filled (p .here .link) (A .put .way .linkIs) link
 
             module _ {f5 : List ℕ} (free : (h : View) (o : ℕ) (rest : List Item) → Heap f4 h → Same (h .owned) (body (p .here .slot) (p .here .kind) o ∷ rest) → placeOf f4 (p .here .slot) ≡ o
                 → Freed f4 f5 h (p .here .slot) (p .here .kind) o rest) where
               pub full-counts : Counts f5
-              full-counts = grow-counts P0 v (A .full) fits0 eu took make filled (p .here .link) (A .put .way .linkIs) link free
+              full-counts = grow-counts P0 v (A .put .ready .legalValue .stamp) (A .full) fits0 eu took make filled (p .here .link) (A .put .way .linkIs) link free
 
               pub full-put : {f6 : List ℕ} → Counted f5 f6 → Bytes f6 → PutStep E f k v f6
               full-put count bytes =
                   record {
-                    after = λ s S. grow-put (lacks-of (A .put) (A .missing) S) v (A .full) (same-room (A .put .ready .stands) S k v (A .put .ready .room)) eu took make filled (p .here .link) (A .put .way .linkIs) link free count bytes;
+                    after = λ s S. grow-put (lacks-of (A .put) (A .missing) S) v (A .put .ready .legalValue .stamp) (A .full) (same-room (A .put .ready .stands) S k v (A .put .ready .room)) eu took make filled (p .here .link) (A .put .way .linkIs) link free count bytes;
                   }

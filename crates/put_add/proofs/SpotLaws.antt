@@ -8,7 +8,7 @@ use mathlib.Core.Option.{some}
 use native.Mathlib.Omega.{arith}
 use lib.ListN.{length, getD, drop}
 use Rattle.layout.specs.Kind.{Leaf}
-use Rattle.model.specs.Edition.{Edition}
+use Rattle.model.specs.Edition.{Edition, Value}
 use Rattle.model.specs.Tree.{Art, extentOf, over, newKey, putTree}
 use Rattle.model.specs.State.{State, room, putChange, putIn}
 use Rattle.model.specs.Frame.{LayKids, artKids, tree, rootArt, View, Heap, Stands}
@@ -31,7 +31,7 @@ use Rattle.put_add.specs.Missing.{Lacks}
 
 -- ---- from the spot
 
-module _ {E : Edition} {f k v : List ℕ} {p : Spot} (A : PutAt E f k v p) (N : NoByte E k p (A .way .sub)) where
+module _ {E : Edition} {f k : List ℕ} {v : Value} {p : Spot} (A : PutAt E f k v p) (N : NoByte E k p (A .way .sub)) where
   rest-is : A .way .rest ≡ N .byte ∷ N .after
   rest-is = sym (leads-rest (A .way .leads)) ∙ ap (λ d. drop d (E .walked k)) (sym (A .way .deep)) ∙ N .next
 
@@ -56,7 +56,7 @@ module _ {E : Edition} {f : List ℕ} {st : State} {S : Stands E f st} {k : List
   lacks-byte = look-none b ks (P .absent)
 
   -- the change happens at the node
-  pub lacks-put : (v : List ℕ) {a : Art} {takes frees : List ℕ} → putTree E (Art.node kind (artKids ks)) (length (pathOf xs)) k v ≡ newKey k v a takes frees → putChange E st k v ≡ newKey k v (artIn xs a) takes frees
+  pub lacks-put : (v : Value) {a : Art} {takes frees : List ℕ} → putTree E (Art.node kind (artKids ks)) (length (pathOf xs)) k v ≡ newKey k v a takes frees → putChange E st k v ≡ newKey k v (artIn xs a) takes frees
   lacks-put v e =
       ap (λ t. putIn E t k v) (ap (λ s. s .tree) (S .state) ∙ ap rootArt (P .is) ∙ ap some (art-plug xs (node n o kind ks)))
       ∙ plug-put (P .leads) v (Art.node kind (artKids ks)) (hangs-in E f xs (node n o kind ks) (stands-tree S (plug xs (node n o kind ks)) (P .is))) ∙ ap (over (artIn xs)) e
@@ -65,8 +65,8 @@ module _ {E : Edition} {f : List ℕ} {st : State} {S : Stands E f st} {k : List
   pub lacks-work : Work E f (standsView S) xs n ((pathOf xs, node n o kind ks) ∷ []) []
   lacks-work = work-open xs (node n o kind ks) [] (work-of S (plug xs (node n o kind ks)) (P .is)) refl .0
 
--- ---- key and value fit their fields
+-- ---- key, value and stamp fit their fields
 
-pub ready-makes : {E : Edition} {f k v f1 : List ℕ} {h : View} → PutReady E f k v → Heap f1 h → RoomFor h (Leaf ∷ []) (extentOf k v) → Makes f1 k v
+pub ready-makes : {E : Edition} {f k : List ℕ} {v : Value} {f1 : List ℕ} {h : View} → PutReady E f k v → Heap f1 h → RoomFor h (Leaf ∷ []) (extentOf k v) → Makes f1 k v
 ready-makes {k = k} {h = h} A H R =
-    record { view = h; heap = H; room = R; keyFits = omega (arith, A .lawful .fields .keys k (A .legal)); valueFits = omega (arith, A .legalValue .passes) }
+    record { view = h; heap = H; room = R; keyFits = omega (arith, A .lawful .fields .keys k (A .legal)); valueFits = omega (arith, A .legalValue .passes); stampFits = let a = A .legalValue .stamp in let b = A .lawful .fields .stamps in omega arith }

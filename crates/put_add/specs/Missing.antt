@@ -5,7 +5,7 @@ use mathlib.Core.List.{List, _∷_}
 use mathlib.Core.Option.{none}
 use lib.ListN.{length}
 use Rattle.layout.specs.Kind.{most}
-use Rattle.model.specs.Edition.{Edition, Lawful, Legal}
+use Rattle.model.specs.Edition.{Edition, Lawful, Legal, Value}
 use Rattle.model.specs.State.{State}
 use Rattle.model.specs.Body.{lookKid}
 use Rattle.model.specs.Frame.{LayKids, pairs, bare, tree, Stands}
@@ -18,21 +18,21 @@ use Rattle.descent.specs.Spot.{NoByte}
 use Rattle.leaf_new.specs.Put.{PutReady, PutAt}
 
 -- w is what is read of the key; the node is not full
-pub record Open (E : Edition) (f k w v : List ℕ) (p : Spot) : Type 0 where
+pub record Open (E : Edition) (f k w : List ℕ) (v : Value) (p : Spot) : Type 0 where
   pub put : PutAt E f k v p
   pub spells : Spells E k w
   pub missing : NoByte E k p (put .way .sub)
   pub few : length (pairs (missing .kids)) < most (p .here .kind)
 
 -- the node is full
-pub record Full (E : Edition) (f k w v : List ℕ) (p : Spot) : Type 0 where
+pub record Full (E : Edition) (f k w : List ℕ) (v : Value) (p : Spot) : Type 0 where
   pub put : PutAt E f k v p
   pub spells : Spells E k w
   pub missing : NoByte E k p (put .way .sub)
   pub full : most (p .here .kind) ≤ length (pairs (missing .kids))
 
 -- the frame is empty
-pub record Vacant (E : Edition) (f k v : List ℕ) : Type 0 where
+pub record Vacant (E : Edition) (f k : List ℕ) (v : Value) : Type 0 where
   pub ready : PutReady E f k v
   pub slot : ℕ
   pub place : ℕ

@@ -10,7 +10,7 @@ use lib.Seq.{getD-drop}
 use lib.Dec.{eqb}
 use Rattle.layout.specs.Kind.{most}
 use Rattle.model.specs.Strings.{pick, same}
-use Rattle.model.specs.Edition.{Edition}
+use Rattle.model.specs.Edition.{Edition, Value, textOf}
 use Rattle.model.specs.Tree.{Art, Change, extentOf, putTree}
 use Rattle.model.specs.State.{State, putIn, putChange}
 use Rattle.model.specs.Frame.{Lay, Root, rootArt, tree, art, pairs, Stands}
@@ -25,7 +25,7 @@ use Rattle.leaf_new.proofs.DoneLaws.{change-is}
 use Rattle.plan.proofs.PutLaws.{parted-put}
 
 -- of a key that is there, whichever the lengths
-present : (k v : List ℕ) (a : Art) (b : Bool) (dead : ℕ)
+present : (k : List ℕ) (v : Value) (a : Art) (b : Bool) (dead : ℕ)
     → pick {X = Change Art} b (record { now = a; takes = []; frees = []; extent = 0; dead = 0; fresh = false }) (record { now = a; takes = []; frees = []; extent = extentOf k v; dead = dead; fresh = false }) .fresh ≡ false
 present k v a true dead = refl
 present k v a false dead = refl
@@ -33,7 +33,7 @@ present k v a false dead = refl
 head-byte : (d : ℕ) (w : List ℕ) {b : ℕ} {r : List ℕ} → drop d w ≡ b ∷ r → getD w d 0 ≡ b
 head-byte d w e = let z : d + 0 ≡ d = omega arith in ap (λ i. getD w i 0) (sym z) ∙ sym (getD-drop d w 0 0) ∙ ap (λ x. getD x 0 0) e
 
-module _ {E : Edition} {f k : List ℕ} {st : State} {p : Spot} (v : List ℕ) (w : Stands E f st) (S : SpotAt E k (w .root) p) where
+module _ {E : Edition} {f k : List ℕ} {st : State} {p : Spot} (v : Value) (w : Stands E f st) (S : SpotAt E k (w .root) p) where
   -- the change is that of the subtree where the descent ended
   there : {b : Bool} (I : InTree E k (w .root) p) (t : Lay) → I .spot .way .sub ≡ t → putTree E (art t) (p .depth) k v .fresh ≡ b → putChange E st k v .fresh ≡ b
   there {b} I t e L =
@@ -44,7 +44,7 @@ module _ {E : Edition} {f k : List ℕ} {st : State} {p : Spot} (v : List ℕ) (
   fresh-found e =
       let I = S .inTree (λ z. omega arith) in
       let F = I .spot .found e in
-      there I (leaf (p .here .slot) (p .here .place) (F .extent) k (F .value)) (F .is) (rw (same-refl k) (present k v (Art.leaf k v) (eqb (length v) (length (F .value))) (extentOf k (F .value))))
+      there I (leaf (p .here .slot) (p .here .place) (F .extent) k (F .value)) (F .is) (rw (same-refl k) (present k v (Art.leaf k v) (eqb (length (textOf v)) (length (textOf (F .value)))) (extentOf k (F .value))))
 
   fresh-other : p .end ≡ 3 → putChange E st k v .fresh ≡ true
   fresh-other e =

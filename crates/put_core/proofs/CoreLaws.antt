@@ -7,7 +7,7 @@ use native.Mathlib.Omega.{arith}
 use lib.ListN.{length}
 use Rattle.layout.specs.Kind.{most}
 use Rattle.model.specs.Strings.{pick}
-use Rattle.model.specs.Edition.{Edition}
+use Rattle.model.specs.Edition.{Edition, Value, textOf}
 use Rattle.model.specs.State.{State, Done, done, findIn, putChange, room, callPut, Write, new, replacing, either, callWrite}
 use Rattle.model.specs.Records.{absent}
 use Rattle.model.specs.Body.{InnerAt}
@@ -41,9 +41,9 @@ differ z = clash (cc)
 
 -- ---- what each edit counts on
 
-module _ {E : Edition} {f k word v : List ℕ} {p : Spot} (P : PutSpot E f k word v p) where
-  from-spot : PutFrom E f k v p
-  from-spot = record { lawful = P .ready .lawful; st = P .ready .st; stands = P .ready .stands; spot = P .spot; key = P .ready .legal; value = P .ready .legalValue }
+module _ {E : Edition} {f k word : List ℕ} {v : Value} {p : Spot} (P : PutSpot E f k word v p) where
+  from-spot : PutFrom E f k (textOf v) p
+  from-spot = record { lawful = P .ready .lawful; st = P .ready .st; stands = P .ready .stands; spot = P .spot; key = P .ready .legal; value = P .ready .legalValue .passes }
 
   abbrev put-at : InTree E k (P .ready .stands .root) p → PutAt E f k v p
   put-at I = record { ready = P .ready; lay = I .lay; is = I .is; way = I .spot .way }
@@ -65,7 +65,7 @@ module _ {E : Edition} {f k word v : List ℕ} {p : Spot} (P : PutSpot E f k wor
 
 -- ---- at an inner node without the byte
 
-module _ {E : Edition} {f k word v : List ℕ} {p : Spot} (A : AtNode E f k word v p) where
+module _ {E : Edition} {f k word : List ℕ} {v : Value} {p : Spot} (A : AtNode E f k word v p) where
   abbrev inside : InTree E k (A .put .ready .stands .root) p
   inside = A .put .spot .inTree (λ z. omega (arith, A .ends))
 
@@ -88,16 +88,16 @@ module _ {E : Edition} {f k word v : List ℕ} {p : Spot} (A : AtNode E f k word
 
 -- ---- the write
 
-module _ {E : Edition} {f k word v : List ℕ} {p : Spot} (A : AtSpot E f k word v p) where
+module _ {E : Edition} {f k word : List ℕ} {v : Value} {p : Spot} (A : AtSpot E f k word v p) where
   abbrev S : (s : State) (w : Stands E f s) → SpotAt E k (w .root) p
   S = A .spot
 
-  pub plans : PutFrom E f k v p
-  plans = let a = A .asked in record { lawful = a .lawful; st = a .st; stands = a .stands; spot = S (a .st) (a .stands); key = a .legal; value = a .legalValue }
+  pub plans : PutFrom E f k (textOf v) p
+  plans = let a = A .asked in record { lawful = a .lawful; st = a .st; stands = a .stands; spot = S (a .st) (a .stands); key = a .legal; value = a .legalValue .passes }
 
-  module _ {n : Needs} (N : PutPlan E f k v p n) {r : Room} (R : (E : Edition) (s : State) → Stands E f s → RoomOf r s n) {b : Bool} (F : (b ≡ true → Fit r n) × (Fit r n → b ≡ true)) where
+  module _ {n : Needs} (N : PutPlan E f k (textOf v) p n) {r : Room} (R : (E : Edition) (s : State) → Stands E f s → RoomOf r s n) {b : Bool} (F : (b ≡ true → Fit r n) × (Fit r n → b ≡ true)) where
     room-any : (s : State) (w : Stands E f s) → b ≡ room s (putChange E s k v)
-    room-any s w = fits-room (putChange E s k v) (N s w (S s w)) (R E s w) F
+    room-any s w = fits-room (putChange E s k v) (N s w (S s w) (v .stamp)) (R E s w) F
 
     pub spotted : 1 ≤ length k → b ≡ true → PutSpot E f k word v p
     spotted some e =
@@ -117,7 +117,7 @@ module _ {E : Edition} {f k word v : List ℕ} {p : Spot} (A : AtSpot E f k word
 -- ---- put, replacement and either of them, where the descent ended at p
 
 -- a number that changes nothing leaves the frame and its state
-pub left-same : (E : Edition) {f : List ℕ} (k v : List ℕ) (n : ℕ) {s : State} (w : Stands E f s) {d : Done} → changes n ≡ false → d ≡ done n s → Left E f k v n f s w d
+pub left-same : (E : Edition) {f : List ℕ} (k : List ℕ) (v : Value) (n : ℕ) {s : State} (w : Stands E f s) {d : Done} → changes n ≡ false → d ≡ done n s → Left E f k v n f s w d
 left-same E {f} k v n {s} w z e = subst (Left E f k v n f s w) (sym e) (w, λ t. absurd (differ (sym z ∙ t)))
 
 -- the two numbers of a put that is done
@@ -125,7 +125,7 @@ done-changes : (fresh : Bool) → changes (pick fresh 0 9) ≡ true
 done-changes true = refl
 done-changes false = refl
 
-module _ {E : Edition} {f k word v : List ℕ} {p : Spot} (A : AtSpot E f k word v p) where
+module _ {E : Edition} {f k word : List ℕ} {v : Value} {p : Spot} (A : AtSpot E f k word v p) where
   -- the key is there, or it is not
   found : p .end ≡ 2 → (s : State) → Stands E f s → putChange E s k v .fresh ≡ false
   found h s w = fresh-found v w (A .spot s w) h

@@ -9,7 +9,7 @@ use lib.Dec.{ltb, eqb}
 use borrow.Author.Tests.{ne-eqb, lt-ltb, le-ltb}
 use Rattle.layout.specs.Kind.{Leaf, Prefix, Node4}
 use Rattle.model.specs.Strings.{pick, shared, Parted}
-use Rattle.model.specs.Edition.{Edition}
+use Rattle.model.specs.Edition.{Edition, Value}
 use Rattle.model.specs.Tree.{chain, prefixes}
 use Rattle.model.specs.State.{State}
 use Rattle.model.specs.Item.{Item, sum}
@@ -49,7 +49,7 @@ chain-in (node s o kind ks) ss = tt
 
 -- ---- what is touched, by which parts are non-empty
 
-module _ (E : Edition) (k path : List ℕ) {r p : List ℕ} (e : E .walked k ≡ path ++ r) (Q : Parted r p) (v : List ℕ) (n o h : ℕ) (l : Lay) where
+module _ (E : Edition) (k path : List ℕ) {r p : List ℕ} (e : E .walked k ≡ path ++ r) (Q : Parted r p) (v : Value) (n o h : ℕ) (l : Lay) where
   -- the lists of a cut after q bytes
   abbrev cutLists : Touch → ℕ → Touch
   cutLists deep q =
@@ -86,7 +86,7 @@ module _ (E : Edition) (k path : List ℕ) {r p : List ℕ} (e : E .walked k ≡
 
 -- ---- at the spot
 
-module _ {E : Edition} {f k word v : List ℕ} {p : Spot} (A : AtPart E f k word v p) where
+module _ {E : Edition} {f k word : List ℕ} {v : Value} {p : Spot} (A : AtPart E f k word v p) where
   abbrev told : Touch
   told = touchPut E (old A) (holderOf (xs A)) (length (pathOf (xs A))) k v
 
@@ -235,7 +235,7 @@ module _ {E : Edition} {f k word v : List ℕ} {p : Spot} (A : AtPart E f k word
 
     -- above a Node4 with the new Leaf and the run of what is left
     module _ (g : List ℕ) (lay : Lay) (more : List (ℕ × ℕ)) (string : bytesOf lay ≡ left A) (tip : tipOf lay ≡ tipOf (below A)) (T : Tree E g low lay)
-        (run : _≡_ {A = List (ℕ × ℕ)} (bodiesOf lay) (bodiesOf (below A) ++ more)) (m place n' o' e' : ℕ) (v' : List ℕ) where
+        (run : _≡_ {A = List (ℕ × ℕ)} (bodiesOf lay) (bodiesOf (below A) ++ more)) (m place n' o' e' : ℕ) (v' : Value) where
       abbrev new : Lay
       new = leaf n' o' e' k v'
 

@@ -7,7 +7,7 @@ use lib.ListN.{length, getD, take, length-append}
 use Rattle.layout.specs.Number.{Bytes, byteAt}
 use Rattle.layout.specs.Place.{prefixBytes}
 use Rattle.layout.specs.Kind.{Leaf, Node4}
-use Rattle.model.specs.Edition.{Edition}
+use Rattle.model.specs.Edition.{Edition, Value}
 use Rattle.model.specs.Tree.{Art, Change, chain, prefixes, asPrefix, extentOf, fork, newKey, putTree}
 use Rattle.model.specs.State.{State}
 use Rattle.model.specs.Item.{Item, body, cover}
@@ -69,7 +69,7 @@ own-gone n o j [] [] l e u = u
 own-gone n o j (x ∷ []) [] l e u = u
 own-gone n o j (x ∷ y ∷ gone) [] l e u = absurd (omega (arith, ap length u, unwound-long gone (y ∷ x ∷ []), own-long n o j l))
 
-module _ {E : Edition} {f k word v : List ℕ} {p : Spot} (N : NoneBefore E f k word v p) where
+module _ {E : Edition} {f k word : List ℕ} {v : Value} {p : Spot} (N : NoneBefore E f k word v p) where
   abbrev A : AtPart E f k word v p
   A = N .at
 
@@ -200,7 +200,7 @@ module _ {E : Edition} {f k word v : List ℕ} {p : Spot} (N : NoneBefore E f k 
         begins = subst (λ y. Begins (E .walked k) (y ++ cut A .b ∷ [])) (ap (λ y. path ++ y) no-front ∙ append-nil path) (begins-here E k path (spelt A) (cut A))
 
         forked : {s : State} (w : Stands E f s) → Work E f3 (view3 w) (xs A) n ((path, knot w) ∷ []) (rowItems (ownRow n o j) [])
-        forked w = fork-work path [] (place4 w) (rest w) (ready w) G (sym (dropped w .slot)) (room-leaf w) (A .put .ready .legal .passes) begins
+        forked w = fork-work path [] (place4 w) (rest w) (ready w) G (sym (dropped w .slot)) (room-leaf w) (A .put .ready .legal .passes) begins (A .put .ready .legalValue .stamp)
 
         pub first-relinks : (64 ≤ length f3) × (p .here .link + 4 ≤ length f3)
         first-relinks = relink-ok (p .here .link) (A .put .way .linkIs) (forked (w0 A))
@@ -275,7 +275,7 @@ module _ {E : Edition} {f k word v : List ℕ} {p : Spot} (N : NoneBefore E f k 
               since : {s : State} (w : Stands E f s) → Since f (standsView w) f5 (shrunk w .view) (taken-bs w) rewritten (rowItems (ownRow n o j) []) (extents w)
               since w =
                   let Z1 = since-changed (dropped w .changed) (λ a. omega arith) (since-take node4-kind (w .heap) (since-rows (w .heap) (bodiesOf (old A))) (took w)) in
-                  let Z3 = fork-since path [] (place4 w) (rest w) (ready w) G (sym (dropped w .slot)) (room-leaf w) (A .put .ready .legal .passes) begins Z1 (λ a. omega (arith, sum-cons (cover a) (b4 w) [])) in
+                  let Z3 = fork-since path [] (place4 w) (rest w) (ready w) G (sym (dropped w .slot)) (room-leaf w) (A .put .ready .legal .passes) begins (A .put .ready .legalValue .stamp) Z1 (λ a. omega (arith, sum-cons (cover a) (b4 w) [])) in
                   let Z4 = since-link m (p .here .link) (xs A) (A .put .way .linkIs) (forked w) R Z3 in
                   subst (λ (y : List (ℕ × ℕ)). Since f (standsView w) f5 (shrunk w .view) (taken-bs w) rewritten (rowItems y []) (extents w)) (gone-is w)
                   (shrunk w .since f (standsView w) (taken-bs w) rewritten [] (extents w) Z4)

@@ -10,7 +10,7 @@ use borrow.Author.Tests.{ne-eqb}
 use Rattle.layout.specs.Place.{prefixMost}
 use Rattle.layout.specs.Kind.{Node4}
 use Rattle.model.specs.Strings.{shared, Parted}
-use Rattle.model.specs.Edition.{Edition}
+use Rattle.model.specs.Edition.{Edition, Value}
 use Rattle.model.specs.Tree.{Art, Change, chain, prefixes, asPrefix, fork, newKey, putTree}
 use Rattle.model.proofs.StringLaws.{shared-at}
 use Rattle.model.proofs.PutLaws.{drop-past}
@@ -19,7 +19,7 @@ use Rattle.model.proofs.ChainLaws.{as-some}
 -- ---- the change
 
 -- the change of `cutPrefix`, from the rest of the walked string
-abbrev cutAt : List ℕ → List ℕ → List ℕ → Art → List ℕ → Change Art
+abbrev cutAt : List ℕ → Value → List ℕ → Art → List ℕ → Change Art
 cutAt k v p a r =
     let q = shared p r in
     let after = drop (suc q) p in
@@ -29,28 +29,28 @@ cutAt k v p a r =
     (prefixes (chain (length p) - (chain q + chain (length after))))
 
 -- the same, from the parts
-abbrev pub madeOf : List ℕ → List ℕ → ℕ → ℕ → Art → List ℕ → List ℕ → Change Art
+abbrev pub madeOf : List ℕ → Value → ℕ → ℕ → Art → List ℕ → List ℕ → Change Art
 madeOf k v b c a w t =
     newKey k v
     (asPrefix w (fork b (Art.leaf k v) c (asPrefix t a)))
     (Node4 ∷ prefixes (chain (length w) + chain (length t) - chain (length w + suc (length t))))
     (prefixes (chain (length w + suc (length t)) - (chain (length w) + chain (length t))))
 
-cut-at : (k v : List ℕ) (a : Art) (w : List ℕ) (b : ℕ) (s : List ℕ) (c : ℕ) (t : List ℕ) → (b ≡ c → ⊥) → cutAt k v (w ++ c ∷ t) a (w ++ b ∷ s) ≡ madeOf k v b c a w t
+cut-at : (k : List ℕ) (v : Value) (a : Art) (w : List ℕ) (b : ℕ) (s : List ℕ) (c : ℕ) (t : List ℕ) → (b ≡ c → ⊥) → cutAt k v (w ++ c ∷ t) a (w ++ b ∷ s) ≡ madeOf k v b c a w t
 cut-at k v a w b s c t n = rw (shared-at w c t b s (λ q. n (sym q)), drop-past w c t, take-append-seam w (c ∷ t), getD-append-seam w b s 0, getD-append-seam w c t 0, length-append w (c ∷ t)) refl
 
 -- with m Prefixes taken and n freed
-made-as : (k v : List ℕ) (b c : ℕ) (a : Art) (w t : List ℕ) (m n : ℕ) → chain (length w) + chain (length t) - chain (length w + suc (length t)) ≡ m
+made-as : (k : List ℕ) (v : Value) (b c : ℕ) (a : Art) (w t : List ℕ) (m n : ℕ) → chain (length w) + chain (length t) - chain (length w + suc (length t)) ≡ m
     → chain (length w + suc (length t)) - (chain (length w) + chain (length t)) ≡ n
     → madeOf k v b c a w t ≡ newKey k v (asPrefix w (fork b (Art.leaf k v) c (asPrefix t a))) (Node4 ∷ prefixes m) (prefixes n)
 made-as k v b c a w t m n em en = rw (em, en)
 
 -- no part before: j Prefixes fewer
-pub made-first : (k v : List ℕ) (b c : ℕ) (a : Art) (t : List ℕ) (j : ℕ) → chain (length t) + j ≡ chain (suc (length t)) → madeOf k v b c a [] t ≡ newKey k v (fork b (Art.leaf k v) c (asPrefix t a)) (Node4 ∷ []) (prefixes j)
+pub made-first : (k : List ℕ) (v : Value) (b c : ℕ) (a : Art) (t : List ℕ) (j : ℕ) → chain (length t) + j ≡ chain (suc (length t)) → madeOf k v b c a [] t ≡ newKey k v (fork b (Art.leaf k v) c (asPrefix t a)) (Node4 ∷ []) (prefixes j)
 made-first k v b c a t j e = made-as k v b c a [] t 0 j (omega arith) (omega arith)
 
 -- a part before, of one Prefix: i Prefixes more
-pub made-within : (k v : List ℕ) (b c : ℕ) (a : Art) (w t : List ℕ) (i : ℕ) → 1 ≤ length w → length w < prefixMost → chain (length t) + 1 ≡ chain (length w + suc (length t)) + i
+pub made-within : (k : List ℕ) (v : Value) (b c : ℕ) (a : Art) (w t : List ℕ) (i : ℕ) → 1 ≤ length w → length w < prefixMost → chain (length t) + 1 ≡ chain (length w + suc (length t)) + i
     → madeOf k v b c a w t ≡ newKey k v (Art.prefix w (fork b (Art.leaf k v) c (asPrefix t a))) (Node4 ∷ prefixes i) []
 made-within k v b c a w t i some less e =
     made-as k v b c a w t i 0 (omega arith) (omega arith) ∙ ap (λ x. newKey k v x (Node4 ∷ prefixes i) []) (as-some w (fork b (Art.leaf k v) c (asPrefix t a)) some)
@@ -77,7 +77,7 @@ module _ (E : Edition) (k path : List ℕ) {r p : List ℕ} (e : E .walked k ≡
   parts-here : shared p (drop (length path) (E .walked k)) ≡ length p → ⊥
   parts-here q = omega (arith, q, shares-is, length-is)
 
-  pub put-parts : (v : List ℕ) (a : Art) → putTree E (Art.prefix p a) (length path) k v ≡ madeOf k v (Q .b) (Q .c) a (Q .w) (Q .t)
+  pub put-parts : (v : Value) (a : Art) → putTree E (Art.prefix p a) (length path) k v ≡ madeOf k v (Q .b) (Q .c) a (Q .w) (Q .t)
   put-parts v a =
       rw (ne-eqb (shared p (drop (length path) (E .walked k))) (length p) parts-here)
       (ap (cutAt k v p a) here-left ∙ ap (λ x. cutAt k v x a (Q .w ++ Q .b ∷ Q .s)) (Q .right) ∙ cut-at k v a (Q .w) (Q .b) (Q .s) (Q .c) (Q .t) (Q .apart))

@@ -9,7 +9,7 @@ use Rattle.layout.specs.Number.{byteAt}
 use Rattle.layout.specs.Place.{prefixBytes}
 use Rattle.layout.specs.Kind.{Leaf, Prefix, Node4, Kind}
 use Rattle.model.specs.Strings.{shared, Parted}
-use Rattle.model.specs.Edition.{Edition}
+use Rattle.model.specs.Edition.{Edition, Value}
 use Rattle.model.specs.Tree.{Art, chain, extentOf, putTree}
 use Rattle.model.specs.State.{State}
 use Rattle.model.specs.Item.{Item, body, leafy, sum}
@@ -61,13 +61,13 @@ pub run-leaves : (t u : Lay) → tipOf t ≡ tipOf u → sum leafy (items t) ≡
 run-leaves t u e = omega (arith, run-sum leafy t, run-sum leafy u, row-leafy (bodiesOf t), row-leafy (bodiesOf u), ap (λ y. sum leafy (items y)) e)
 
 -- the Node4 with a new Leaf
-pub fork-leaves : (h : View) (k v : List ℕ) (n m o b c : ℕ) (u : Lay) → sum leafy (items (node m o Node4 (forkKids b (leafIn h n k v) c u))) ≡ sum leafy (items u) + 1
+pub fork-leaves : (h : View) (k : List ℕ) (v : Value) (n m o b c : ℕ) (u : Lay) → sum leafy (items (node m o Node4 (forkKids b (leafIn h n k v) c u))) ≡ sum leafy (items u) + 1
 fork-leaves h k v n m o b c u =
     omega (arith, fork-sum leafy m o b (leafIn h n k v) c u, leafy-not m Node4 o (omega arith), leafy-leaf n (placeFrom h (listOf h Leaf)) (taken h Leaf .nums .B) k v)
 
 -- ---- at the spot
 
-module _ {E : Edition} {f k word v : List ℕ} {p : Spot} (A : AtPart E f k word v p) where
+module _ {E : Edition} {f k word : List ℕ} {v : Value} {p : Spot} (A : AtPart E f k word v p) where
   abbrev pub xs : List Step
   xs = A .put .way .steps
 
@@ -193,4 +193,4 @@ module _ {E : Edition} {f k word v : List ℕ} {p : Spot} (A : AtPart E f k word
 
   -- what `fork` asks of the work
   pub forks-of : {f1 : List ℕ} {h : View} {ys : List Step} {s m o : ℕ} {ts : List (List ℕ × Lay)} {loose : List Item} → Work E f1 h ys s ts (body m Node4 o ∷ loose) → RoomFor h (Leaf ∷ []) (extentOf k v) → Forks f1 k v m
-  forks-of W R = record { edition = E; lawful = A .put .ready .lawful; view = _; steps = _; top = _; trees = _; loose = _; place = _; work = W; room = R; legal = A .put .ready .legal; short = A .put .ready .legalValue .passes }
+  forks-of W R = record { edition = E; lawful = A .put .ready .lawful; view = _; steps = _; top = _; trees = _; loose = _; place = _; work = W; room = R; legal = A .put .ready .legal; short = A .put .ready .legalValue .passes; stamped = A .put .ready .legalValue .stamp }

@@ -7,7 +7,7 @@ use lib.ListN.{length, getD, take, length-append}
 use Rattle.layout.specs.Number.{Bytes, byteAt}
 use Rattle.layout.specs.Place.{prefixBytes}
 use Rattle.layout.specs.Kind.{Leaf, Prefix, Node4}
-use Rattle.model.specs.Edition.{Edition}
+use Rattle.model.specs.Edition.{Edition, Value}
 use Rattle.model.specs.Tree.{Art, Change, chain, prefixes, asPrefix, extentOf, fork, newKey, putTree}
 use Rattle.model.specs.State.{State}
 use Rattle.model.specs.Item.{Item, body, cover, leafy}
@@ -54,7 +54,7 @@ use Rattle.put_cut.proofs.ModelLaws.{made-within, here-left}
 use Rattle.put_cut.proofs.SpotLaws.{takes-of, took-of, run-leaves, fork-leaves, xs, text, below, old, own, w0, root-at, opened, parts, old-run, old-many, cut, left, all-cut, spelt, shares, old-put, past-is, upto-is, before-is, few-bodies, prefix-room, bytes-differ, forks-of}
 use Rattle.put_cut.proofs.CutLaws.{within-accounts, within-stays, within-last}
 
-module _ {E : Edition} {f k word v : List ℕ} {p : Spot} (N : SomeBefore E f k word v p) where
+module _ {E : Edition} {f k word : List ℕ} {v : Value} {p : Spot} (N : SomeBefore E f k word v p) where
   abbrev A : AtPart E f k word v p
   A = N .at
 
@@ -187,7 +187,7 @@ module _ {E : Edition} {f k word v : List ℕ} {p : Spot} (N : SomeBefore E f k 
         view3 w = leafView (view2 w) k v
 
         forked : {s : State} (w : Stands E f s) → Work E f3 (view3 w) (under n o (text A) ∷ xs A) (slotOf (below A)) ((path ++ cut A .w, knot w) ∷ []) []
-        forked w = fork-work (path ++ cut A .w) [] (place4 w) (rest w) (ready w) G (sym (split w .slot)) (room-leaf w) (A .put .ready .legal .passes) (begins-here E k path (spelt A) (cut A))
+        forked w = fork-work (path ++ cut A .w) [] (place4 w) (rest w) (ready w) G (sym (split w .slot)) (room-leaf w) (A .put .ready .legal .passes) (begins-here E k path (spelt A) (cut A)) (A .put .ready .legalValue .stamp)
 
         -- the Prefix's own body, as it was
         loosed : {s : State} (w : Stands E f s) → Work E f3 (view3 w) (xs A) n ((path ++ cut A .w, knot w) ∷ []) (own A ∷ []) × PrefixAt f3 o (text A) (slotOf (below A))
@@ -231,7 +231,7 @@ module _ {E : Edition} {f k word v : List ℕ} {p : Spot} (N : SomeBefore E f k 
           since w =
               let Z1 = since-take node4-kind (w .heap) (since-rows (w .heap) (bodiesOf (old A))) (took w) in
               let Z2 = split w .since f (standsView w) (b4 w ∷ []) rewritten [] Z1 (λ a. omega (arith, sum-cons (cover a) (own A) (rowItems (bodiesOf (below A)) []))) in
-              let Z3 = fork-since (path ++ cut A .w) [] (place4 w) (rest w) (ready w) G (sym (split w .slot)) (room-leaf w) (A .put .ready .legal .passes) (begins-here E k path (spelt A) (cut A)) Z2
+              let Z3 = fork-since (path ++ cut A .w) [] (place4 w) (rest w) (ready w) G (sym (split w .slot)) (room-leaf w) (A .put .ready .legal .passes) (begins-here E k path (spelt A) (cut A)) (A .put .ready .legalValue .stamp) Z2
               (λ a. omega (arith, sum-row (cover a) (split w .new) (b4 w ∷ []), sum-cons (cover a) (b4 w) [])) in
               since-write (Y .0) (λ a l u. omega (arith, cover-body a n Prefix o (omega arith) (omega arith), sum-cons (cover a) (own A) (rowItems (bodiesOf (below A)) []))) Z3
 

@@ -7,7 +7,7 @@ use lib.ListN.{length, getD, take, drop}
 use Rattle.layout.specs.Number.{Bytes}
 use Rattle.layout.specs.Kind.{Leaf, Node4}
 use Rattle.model.specs.Strings.{Parted, Byte, shared}
-use Rattle.model.specs.Edition.{Edition, Legal}
+use Rattle.model.specs.Edition.{Edition, Legal, Value, textOf}
 use Rattle.model.specs.Tree.{extentOf, chain, prefixes}
 use Rattle.model.specs.State.{State}
 use Rattle.model.specs.Item.{Item, body}
@@ -54,7 +54,7 @@ pub count-ok : {E : Edition} {f0 f f' : List ℕ} {st : State} {h : View} {xs : 
     → (1 ≤ m) × (m < 65536) → Relinked f f' at m → h .nums .R ≡ w .nums .R → Counts f'
 count-ok {xs = xs} {at = at} {m = m} w L W fits R e = counts-of w (relinked m (fits .0) (fits .1) at xs L W R .heap) e
 
-module _ {E : Edition} {f k word v : List ℕ} {p : Spot} (A : AtOther E f k word v p) where
+module _ {E : Edition} {f k word : List ℕ} {v : Value} {p : Spot} (A : AtOther E f k word v p) where
   abbrev xs : List Step
   xs = A .put .way .steps
 
@@ -63,6 +63,9 @@ module _ {E : Edition} {f k word v : List ℕ} {p : Spot} (A : AtOther E f k wor
 
   root-at : (s : State) (w : Stands E f s) → w .root ≡ tree (plug xs old)
   root-at s w = any-root (A .put) s w ∙ ap (λ (t : Lay). tree (plug xs t)) (A .other .is)
+
+  held : v .stamp < E .stamps
+  held = A .put .ready .legalValue .stamp
 
   abbrev w0 : Stands E f (A .put .ready .st)
   w0 = A .put .ready .stands
@@ -81,7 +84,7 @@ module _ {E : Edition} {f k word v : List ℕ} {p : Spot} (A : AtOther E f k wor
       }
 
   old-legal : Legal E (A .other .key)
-  old-legal = record { passes = leaf-of .legal; bytes = all-left Byte (A .other .key) (A .other .value) (bytes-text f (A .other .extent) (A .other .key ++ A .other .value) (w0 .bytes) (leaf-of .at .text)) }
+  old-legal = record { passes = leaf-of .legal; bytes = all-left Byte (A .other .key) (textOf (A .other .value)) (bytes-text f (A .other .extent) (A .other .key ++ textOf (A .other .value)) (w0 .bytes) (leaf-of .at .text)) }
 
   old-word : E .walked (A .other .key) ≡ pathOf xs ++ drop (length (pathOf xs)) (E .walked (A .other .key))
   old-word = begins-word (E .walked (A .other .key)) (pathOf xs) (leaf-of .begins)
@@ -117,7 +120,7 @@ module _ {E : Edition} {f k word v : List ℕ} {p : Spot} (A : AtOther E f k wor
   pub to-low : p .depth + p .shared < 512
   to-low = let a = shares in let d = A .put .way .deep in omega (arith, part-low E k (pathOf xs) (A .put .way .leads .word) Q, word-fits (A .put .ready .lawful) k (A .put .ready .legal))
 
-  module _ {b c : ℕ} (eb : b ≡ getD word (p .depth + p .shared) 0) (ec : (e : ℕ) (k' v' : List ℕ) → LeafAt f (p .here .place) e k' v' → c ≡ getD (E .walked k') (p .depth + p .shared) 0) where
+  module _ {b c : ℕ} (eb : b ≡ getD word (p .depth + p .shared) 0) (ec : (e : ℕ) (k' : List ℕ) (v' : Value) → LeafAt f (p .here .place) e k' v' → c ≡ getD (E .walked k') (p .depth + p .shared) 0) where
     new-byte : b ≡ Q .b
     new-byte =
         eb ∙ spells-at (A .spells) (p .depth + p .shared) ∙ ap (λ i. getD (E .walked k) (i + p .shared) 0) (A .put .way .deep) ∙ ap (λ i. getD (E .walked k) (length (pathOf xs) + i) 0) shares
@@ -152,17 +155,17 @@ module _ {E : Edition} {f k word v : List ℕ} {p : Spot} (A : AtOther E f k wor
     room-of : (s : State) (w : Stands E f s) → RoomFor (standsView w) (splitKinds many) (extentOf k v)
     room-of s w =
         room-same (standsView w) (Leaf ∷ Node4 ∷ prefixes many) (splitKinds many) (λ j. sym (split-tally many j)) (extentOf k v)
-        (room-is k v w (made (beside s w) v) xs (change-is k v w xs old (root-at s w) (A .put .way .leads) (put-made (beside s w) v)) (any-room (A .put) s w))
+        (room-is k v w (made (beside s w) v held) xs (change-is k v w xs old (root-at s w) (A .put .way .leads) (put-made (beside s w) v held)) (any-room (A .put) s w))
 
     pub takes-node : Takes f Node4
-    takes-node = let s0 = A .put .ready .st in record { view = standsView w0; heap = w0 .heap; kind = node4-kind; room = room-node (beside s0 w0) v (room-of s0 w0) }
+    takes-node = let s0 = A .put .ready .st in record { view = standsView w0; heap = w0 .heap; kind = node4-kind; room = room-node (beside s0 w0) v held (room-of s0 w0) }
 
     pub shared-short : p .shared < 65536
     shared-short = let t = to-low in omega arith
 
     module _ {f1 : List ℕ} {m : ℕ} (took : (h : View) → Heap f h → Roomy h Node4 → Took f f1 h Node4 m) where
       took-node : (s : State) (w : Stands E f s) → Took f f1 (standsView w) Node4 m
-      took-node s w = took (standsView w) (w .heap) (room-node (beside s w) v (room-of s w))
+      took-node s w = took (standsView w) (w .heap) (room-node (beside s w) v held (room-of s w))
 
       module _ {need : ℕ} (en : need ≡ chain (p .shared)) where
         same-many : need - 0 ≡ many
@@ -183,7 +186,7 @@ module _ {E : Edition} {f k word v : List ℕ} {p : Spot} (A : AtOther E f k wor
               kinds = Leaf ∷ [];
               extent = extentOf k v;
               grows = subst (λ y. Grows E f1 (nodeView (standsView w0)) xs (p .here .slot) ((pathOf xs, old) ∷ []) [] (body m Node4 (place4 s0 w0) ∷ []) row 0 y (Leaf ∷ []) (extentOf k v)) (sym same-many)
-                  (grows (beside s0 w0) v (room-of s0 w0) (took-node s0 w0) row);
+                  (grows (beside s0 w0) v held (room-of s0 w0) (took-node s0 w0) row);
               long = omega arith;
               short = omega arith;
             }
@@ -192,7 +195,7 @@ module _ {E : Edition} {f k word v : List ℕ} {p : Spot} (A : AtOther E f k wor
           grown : (s : State) (w : Stands E f s) → Grown E f1 f2 (nodeView (standsView w)) xs (p .here .slot) ((pathOf xs, old) ∷ []) [] (body m Node4 (place4 s w) ∷ []) row many
           grown s w =
               let Z' = subst (λ y. RowTaken f1 f2 row0 row 0 y y) same-many Z in
-              Z' E (nodeView (standsView w)) xs (p .here .slot) ((pathOf xs, old) ∷ []) [] (body m Node4 (place4 s w) ∷ []) (Leaf ∷ []) (extentOf k v) (grows (beside s w) v (room-of s w) (took-node s w) row0)
+              Z' E (nodeView (standsView w)) xs (p .here .slot) ((pathOf xs, old) ∷ []) [] (body m Node4 (place4 s w) ∷ []) (Leaf ∷ []) (extentOf k v) (grows (beside s w) v held (room-of s w) (took-node s w) row0)
 
           pub forks : Forks f2 k v m × (b ≡ c → ⊥) × (1 ≤ p .here .slot) × (p .here .slot < 4294967296)
           forks =
@@ -206,10 +209,11 @@ module _ {E : Edition} {f k word v : List ℕ} {p : Spot} (A : AtOther E f k wor
                   trees = _;
                   loose = _;
                   place = _;
-                  work = taken-row (beside s0 w0) v (room-of s0 w0) (took-node s0 w0) (grown s0 w0);
-                  room = room-leaf (beside s0 w0) v (room-of s0 w0) (took-node s0 w0) (grown s0 w0);
+                  work = taken-row (beside s0 w0) v held (room-of s0 w0) (took-node s0 w0) (grown s0 w0);
+                  room = room-leaf (beside s0 w0) v held (room-of s0 w0) (took-node s0 w0) (grown s0 w0);
                   legal = A .put .ready .legal;
                   short = A .put .ready .legalValue .passes;
+                  stamped = held;
                 },
                 bytes-differ,
                 slot-in .0,
@@ -225,10 +229,10 @@ module _ {E : Edition} {f k word v : List ℕ} {p : Spot} (A : AtOther E f k wor
 
             -- the Node4 and what stands below it
             abbrev tip : (s : State) (w : Stands E f s) → Lay
-            tip s w = knot (beside s w) v (room-of s w) (took-node s w) (grown s w) (forked-as G)
+            tip s w = knot (beside s w) v held (room-of s w) (took-node s w) (grown s w) (forked-as G)
 
             readied : (s : State) (w : Stands E f s) → Ready E f3 (leafView (rowView (standsView w) many) k v) xs (p .here .slot) (pathOf xs) (Q .w) (tip s w) [] (grown s w .new) [] row m
-            readied s w = ready (beside s w) v (room-of s w) (took-node s w) (grown s w) (forked-as G)
+            readied s w = ready (beside s w) v held (room-of s w) (took-node s w) (grown s w) (forked-as G)
 
             pub writes : length row ≡ 5 → Writes f3 row (take (to - p .depth) (drop (p .depth) word)) m
             writes l =
@@ -259,7 +263,7 @@ module _ {E : Edition} {f k word v : List ℕ} {p : Spot} (A : AtOther E f k wor
                   Y' E (leafView (rowView (standsView w) many) k v) xs (p .here .slot) (pathOf xs) (tip s w) [] (grown s w .new) [] (readied s w)
 
               written-work : (s : State) (w : Stands E f s) → Work E f4 (leafView (rowView (standsView w) many) k v) xs (p .here .slot) ((pathOf xs, written-row s w .lay) ∷ []) []
-              written-work s w = raised (beside s w) v (room-of s w) (took-node s w) (grown s w) (forked-as G) (written-row s w)
+              written-work s w = raised (beside s w) v held (room-of s w) (took-node s w) (grown s w) (forked-as G) (written-row s w)
 
               pub relinks : (64 ≤ length f4) × (p .here .link + 4 ≤ length f4)
               relinks = relink-ok (p .here .link) (A .put .way .linkIs) (written-work (A .put .ready .st) w0)
@@ -268,7 +272,7 @@ module _ {E : Edition} {f k word v : List ℕ} {p : Spot} (A : AtOther E f k wor
                 pub counts : Counts f5
                 counts =
                     let s0 = A .put .ready .st in
-                    count-ok w0 (A .put .way .linkIs) (written-work s0 w0) (top-fits (beside s0 w0) v (room-of s0 w0) (took-node s0 w0) (grown s0 w0) (forked-as G) (written-row s0 w0)) R
+                    count-ok w0 (A .put .way .linkIs) (written-work s0 w0) (top-fits (beside s0 w0) v held (room-of s0 w0) (took-node s0 w0) (grown s0 w0) (forked-as G) (written-row s0 w0)) R
                     (booked-all (standsView w0) many k v (w0 .heap .lists .eight) .R)
 
                 pub ends : {g : List ℕ} → Counted f5 g → Bytes g → PutStep E f k v g
@@ -276,5 +280,5 @@ module _ {E : Edition} {f k word v : List ℕ} {p : Spot} (A : AtOther E f k wor
                     record {
                       after = λ s w.
                           put-done f g k v w xs old (root-at s w) (A .put .way .leads)
-                          (split-all (beside s w) v (room-of s w) (took-node s w) (grown s w) (forked-as G) (written-row s w) R C by) (any-room (A .put) s w);
+                          (split-all (beside s w) v held (room-of s w) (took-node s w) (grown s w) (forked-as G) (written-row s w) R C by) (any-room (A .put) s w);
                     }

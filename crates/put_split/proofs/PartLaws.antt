@@ -10,7 +10,7 @@ use Rattle.layout.specs.Number.{le}
 use Rattle.layout.specs.Place.{entryAt, leafExtent, leafKey}
 use Rattle.layout.specs.Kind.{Leaf, Node4}
 use Rattle.layout.specs.Entry.{placeOf}
-use Rattle.model.specs.Edition.{editionOf}
+use Rattle.model.specs.Edition.{editionOf, Value, textOf}
 use Rattle.model.specs.Item.{body}
 use Rattle.model.specs.Body.{InnerAt, LeafAt, lookKid}
 use Rattle.model.proofs.UniqueLaws.{look-nil}
@@ -58,24 +58,24 @@ open-none E = record { kids = []; node = E .inner; few = omega arith }
 
 module _ {f : List ℕ} {o from m : ℕ} (ee : from ≡ le 4 f (o + leafExtent)) (en : m ≡ le 2 f (o + leafKey)) where
   -- its bytes in the frame
-  pub key-part : (e : ℕ) (k v : List ℕ) → LeafAt f o e k v → take m (drop from f) ≡ k
+  pub key-part : (e : ℕ) (k : List ℕ) (v : Value) → LeafAt f o e k v → take m (drop from f) ≡ k
   key-part e k v L =
       let q : from ≡ e = ee ∙ L .extent in
       let l : m ≡ length k = en ∙ L .keyLength in
-      rw (q, l) (text-part f e k (omega (arith, L .room)) (text-left f e k v (L .text)))
+      rw (q, l) (text-part f e k (omega (arith, L .room)) (text-left f e k (textOf v) (L .text)))
 
-  pub byte-of : (n d : ℕ) {r : ℕ} → r ≡ getD (editionOf n .walked (take m (drop from f))) d 0 → (e : ℕ) (k v : List ℕ) → LeafAt f o e k v → r ≡ getD (editionOf n .walked k) d 0
+  pub byte-of : (n d : ℕ) {r : ℕ} → r ≡ getD (editionOf n .walked (take m (drop from f))) d 0 → (e : ℕ) (k : List ℕ) (v : Value) → LeafAt f o e k v → r ≡ getD (editionOf n .walked k) d 0
   byte-of n d er e k v L = er ∙ ap (λ y. getD (editionOf n .walked y) d 0) (key-part e k v L)
 
 -- ---- the Node4 with a new Leaf
 
-module _ {f k v : List ℕ} {n : ℕ} (P : Forks f k v n) where
+module _ {f k : List ℕ} {v : Value} {n : ℕ} (P : Forks f k v n) where
   pub fork-makes : Makes f k v
-  fork-makes = record { view = P .view; heap = P .work .heap; room = P .room; keyFits = omega (arith, P .lawful .fields .keys k (P .legal)); valueFits = omega (arith, P .short) }
+  fork-makes = record { view = P .view; heap = P .work .heap; room = P .room; keyFits = omega (arith, P .lawful .fields .keys k (P .legal)); valueFits = omega (arith, P .short); stampFits = let a = P .stamped in let b = P .lawful .fields .stamps in omega arith }
 
   module _ {mid : List ℕ} {leaf : ℕ} (M : NewLeaf f mid k v leaf) where
     made : MadeLeaf (P .edition) f mid (P .view) (P .steps) (P .top) (P .trees) (body n Node4 (P .place) ∷ P .loose) [] leaf k v
-    made = M (P .edition) (P .view) (P .steps) (P .top) (P .trees) (body n Node4 (P .place) ∷ P .loose) [] (P .work) (P .room) (P .legal .passes) refl
+    made = M (P .edition) (P .view) (P .steps) (P .top) (P .trees) (body n Node4 (P .place) ∷ P .loose) [] (P .work) (P .room) (P .legal .passes) refl (P .stamped)
 
     fork-lies : Lies (leafView (P .view) k v) n Node4 (P .place)
     fork-lies = lies n Node4 (P .place) _ (made .work .heap) (first-owns (made .work)) (omega arith) (omega arith)

@@ -9,7 +9,7 @@ use lib.ListN.{length, drop}
 use lib.Seq.{drop-append-seam}
 use Rattle.layout.specs.Number.{Bytes}
 use Rattle.layout.specs.Kind.{Leaf, Prefix, Node4}
-use Rattle.model.specs.Edition.{Edition}
+use Rattle.model.specs.Edition.{Edition, Value}
 use Rattle.model.specs.Tree.{Art, extentOf, Change, asPrefix, fork, newKey, chain, prefixes, putTree}
 use Rattle.model.specs.State.{State, tally}
 use Rattle.model.specs.Item.{Item, body, cover, leafy, sum}
@@ -54,7 +54,7 @@ two-kinds = Kinds.cons node4-kind (Kinds.cons leaf-kind Kinds.nil)
 pub three-kinds : Kinds (Node4 ∷ Prefix ∷ Leaf ∷ [])
 three-kinds = Kinds.cons node4-kind (Kinds.cons prefix-kind (Kinds.cons leaf-kind Kinds.nil))
 
-module _ (h : View) (k v : List ℕ) (e8 : length (h .lists) ≡ 8) where
+module _ (h : View) (k : List ℕ) (v : Value) (e8 : length (h .lists) ≡ 8) where
   row-two : Booked h (taken (taken h Node4) Leaf) (Node4 ∷ Leaf ∷ []) [] 0 0 (h .nums .R)
   unfolding takenAll
   row-two = booked-row h (Node4 ∷ Leaf ∷ []) two-kinds e8
@@ -92,7 +92,7 @@ nodeView h = taken h Node4
 abbrev pub rowView : View → ℕ → View
 rowView h n = takenAll (nodeView h) (prefixes n)
 
-module _ (h : View) (n : ℕ) (k v : List ℕ) (e8 : length (h .lists) ≡ 8) where
+module _ (h : View) (n : ℕ) (k : List ℕ) (v : Value) (e8 : length (h .lists) ≡ 8) where
   row-all : Booked h (taken (rowView h n) Leaf) (splitKinds n) [] 0 0 (h .nums .R)
   unfolding takenAll
   row-all = subst (λ y. Booked h y (splitKinds n) [] 0 0 (h .nums .R)) (taken-app (prefixes n) (Leaf ∷ []) (nodeView h)) (booked-row h (splitKinds n) (split-kinds n) e8)
@@ -105,7 +105,7 @@ module _ (h : View) (n : ℕ) (k v : List ℕ) (e8 : length (h .lists) ≡ 8) wh
 
 -- ---- at a Leaf of another key
 
-module _ {E : Edition} {f : List ℕ} {st : State} {w : Stands E f st} {k : List ℕ} {xs : List Step} {n o e : ℕ} {k' v' : List ℕ} {at : ℕ} (P : Beside w k xs n o e k' v' at) (v : List ℕ) where
+module _ {E : Edition} {f : List ℕ} {st : State} {w : Stands E f st} {k : List ℕ} {xs : List Step} {n o e : ℕ} {k' : List ℕ} {v' : Value} {at : ℕ} (P : Beside w k xs n o e k' v' at) (v : Value) (held : v .stamp < E .stamps) where
   abbrev many : ℕ
   many = chain (length (P .parted .w))
 
@@ -158,7 +158,7 @@ module _ {E : Edition} {f : List ℕ} {st : State} {w : Stands E f st} {k : List
           knot = node m place4 Node4 (forkKids (P .parted .b) new (P .parted .c) old)
 
           forked-node : Work E f3 (leafView view2 k v) xs n ((pathOf xs ++ P .parted .w, knot) ∷ []) (rowItems (Z .new) [])
-          forked-node = fork-work (pathOf xs ++ P .parted .w) [] place4 old taken-row G refl room-leaf (P .legal) (begins-here E k (pathOf xs) (P .word) (P .parted))
+          forked-node = fork-work (pathOf xs ++ P .parted .w) [] place4 old taken-row G refl room-leaf (P .legal) (begins-here E k (pathOf xs) (P .word) (P .parted)) held
 
           pub ready : Ready E f3 (leafView view2 k v) xs n (pathOf xs) (P .parted .w) knot [] (Z .new) [] row m
           ready = record { work = forked-node; named = subst (Named row) (append-nil (Z .new)) (Z .named); many = Z .many; slot = refl; node = λ q. tt }
@@ -184,7 +184,7 @@ module _ {E : Edition} {f : List ℕ} {st : State} {w : Stands E f st} {k : List
                 let deep : drop d (E .walked k) ≡ P .parted .w ++ (P .parted .b ∷ P .parted .s) = ap (drop d) (P .word) ∙ drop-append-seam (pathOf xs) (P .rest) ∙ P .parted .left in
                 let split-sum : (z : Item → ℕ) → sum z row-bs ≡ z b4 + sum z (rowItems (Z .new) []) = λ z. omega (arith, row-behind z b4 [] (Z .new), sum-cons z b4 (rowItems (Z .new) [])) in
                 let Z2 = Z .since f h0 (b4 ∷ []) [] [] (since-take node4-kind (w .heap) (since-start (w .heap)) T) in
-                let Z3 = fork-since (pathOf xs ++ P .parted .w) [] place4 old taken-row G refl room-leaf (P .legal) (begins-here E k (pathOf xs) (P .word) (P .parted)) Z2
+                let Z3 = fork-since (pathOf xs ++ P .parted .w) [] place4 old taken-row G refl room-leaf (P .legal) (begins-here E k (pathOf xs) (P .word) (P .parted)) held Z2
                 (λ a. omega (arith, split-sum (cover a))) in
                 let Z4 = raised-since Y Z3 (λ a. omega (arith, sum-cons (cover a) b1 row-bs, split-sum (cover a))) in
                 record {

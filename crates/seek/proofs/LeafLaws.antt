@@ -10,6 +10,7 @@ use lib.Dec.{leb, ltb, eqb, lit≤}
 use borrow.Author.Tests.{le-leb}
 use Rattle.layout.specs.Number.{le}
 use Rattle.layout.specs.Place.{leafExtent, leafKey}
+use Rattle.model.specs.Edition.{Value, textOf}
 use Rattle.model.specs.Body.{Text, LeafAt}
 use Rattle.model.proofs.StringLaws.{bool-cases, eqb-cases}
 use Rattle.keys.proofs.KeyLaws.{text-part}
@@ -17,10 +18,10 @@ use Rattle.listing.specs.Seek.{weigh, reach}
 use Rattle.seek.specs.Seek.{Tail, behindText}
 
 -- a Leaf's key in its extent
-pub key-there : {f : List ℕ} {o e : ℕ} {k v : List ℕ} → LeafAt f o e k v → Text f e k
-key-there {f} {o} {e} {k} {v} A i h = A .text i (omega (arith, length-append k v)) ∙ List·getD-append k v 0 i h
+pub key-there : {f : List ℕ} {o e : ℕ} {k : List ℕ} {v : Value} → LeafAt f o e k v → Text f e k
+key-there {f} {o} {e} {k} {v} A i h = A .text i (omega (arith, length-append k (textOf v))) ∙ List·getD-append k (textOf v) 0 i h
 
-key-text : {f : List ℕ} {o e : ℕ} {k v : List ℕ} → LeafAt f o e k v → take (length k) (drop e f) ≡ k
+key-text : {f : List ℕ} {o e : ℕ} {k : List ℕ} {v : Value} → LeafAt f o e k v → take (length k) (drop e f) ≡ k
 key-text {f} {o} {e} {k} {v} A = let r = A .room in text-part f e k (omega arith) (key-there A)
 
 -- ---- weighed
@@ -70,7 +71,7 @@ key-same [] t (y ∷ k) w h = bool-cases (leb (behindText t) y)
 key-same (x ∷ g) t [] w h = absurd (omega arith)
 key-same (x ∷ g) t (y ∷ k) w h = key-open x y g (behindText t) k w (λ e u v. rw (e, u) (key-same g t k v (omega arith)))
 
-module _ {f : List ℕ} {o e : ℕ} {k v : List ℕ} (A : LeafAt f o e k v) (text : List ℕ) (tail w n from : ℕ) {b : ℕ} (eb : b ≡ behindText tail)
+module _ {f : List ℕ} {o e : ℕ} {k : List ℕ} {v : Value} (A : LeafAt f o e k v) (text : List ℕ) (tail w n from : ℕ) {b : ℕ} (eb : b ≡ behindText tail)
     (ef : from ≡ le 4 f (o + leafExtent)) (en : n ≡ le 2 f (o + leafKey)) (ew : w ≡ weigh (drop 0 text) b (take n (drop from f))) where
   whole : w ≡ weigh text (behindText tail) k
   whole = ew ∙ rw (eb, ef ∙ A .extent, en ∙ A .keyLength, key-text A)

@@ -14,7 +14,7 @@ use Rattle.layout.specs.Number.{le}
 use Rattle.layout.specs.Place.{prefixChild, prefixLength, prefixBytes}
 use Rattle.layout.specs.Kind.{Leaf, Prefix}
 use Rattle.layout.specs.Entry.{highOf, placeOf}
-use Rattle.model.specs.Edition.{Edition}
+use Rattle.model.specs.Edition.{Edition, Value}
 use Rattle.model.specs.Body.{InnerAt, Asc, lookKid, LeafAt, PrefixAt}
 use Rattle.model.specs.Frame.{Lay, LayKids, slotOf, pairs, Tree, Trees}
 use Rattle.model.specs.Frame.Lay.{leaf, prefix, node}
@@ -113,13 +113,13 @@ module _ {E : Edition} {f g w : List ℕ} {t s s' d : ℕ} {p : Spare} (K : Seek
     pub leaf-some : LeafSome E f o
     leaf-some = leaf-is .0
 
-    pub leaf-hit : ((e : ℕ) (k v : List ℕ) → LeafAt f o e k v → true ≡ reach g t k) → SoughtAt E f g t s (record { found = true; place = o })
+    pub leaf-hit : ((e : ℕ) (k : List ℕ) (v : Value) → LeafAt f o e k v → true ≡ reach g t k) → SoughtAt E f g t s (record { found = true; place = o })
     leaf-hit H =
         let L = leaf-is .0 in
         let r = H (L .extent) (L .key) (L .value) (L .at) in
         stood (rw (leaf-is .1, ← r)) (record { there = λ _. record { leaf = record { place = o; key = L .key }; is = rw (leaf-is .1); place = refl }; gone = λ z. clash (cc) })
 
-    pub leaf-miss : {r : Sought} → ((e : ℕ) (k v : List ℕ) → LeafAt f o e k v → false ≡ reach g t k) → Is (K .spare) r → SoughtAt E f g t s r
+    pub leaf-miss : {r : Sought} → ((e : ℕ) (k : List ℕ) (v : Value) → LeafAt f o e k v → false ≡ reach g t k) → Is (K .spare) r → SoughtAt E f g t s r
     leaf-miss H i =
         let L = leaf-is .0 in
         let r = H (L .extent) (L .key) (L .value) (L .at) in

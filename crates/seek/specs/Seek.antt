@@ -8,7 +8,7 @@ use mathlib.Core.Logic.{_⊎_}
 use lib.ListN.{length}
 use lib.Dec.{eqb}
 use Rattle.model.specs.Strings.{pick}
-use Rattle.model.specs.Edition.{Edition, Legal}
+use Rattle.model.specs.Edition.{Edition, Legal, Value}
 use Rattle.model.specs.Body.{InnerAt, LeafAt}
 use Rattle.model.specs.Frame.{Lay, slotOf, Tree}
 use Rattle.node.specs.Kids.{nextKid}
@@ -66,7 +66,7 @@ pub record Falls (E : Edition) (f : List ℕ) (p : Spare) : Type 0 where
 pub record LeafSome (E : Edition) (f : List ℕ) (o : ℕ) : Type 0 where
   pub extent : ℕ
   pub key : List ℕ
-  pub value : List ℕ
+  pub value : Value
   pub at : LeafAt f o extent key value
   pub room : o + 16 ≤ length f
   pub legal : Legal E key

@@ -13,7 +13,7 @@ ghost use Rattle.inner.specs.Inner.{NodeSome};
 ghost use Rattle.seek.specs.Sub.{Sub, FirstAt};
 ghost use mathlib.Core.List.{List};
 ghost use mathlib.Core.Option.{Option};
-ghost use Rattle.model.specs.Edition.{Edition, SomeEdition};
+ghost use Rattle.model.specs.Edition.{Edition, SomeEdition, Value};
 ghost use Rattle.model.specs.Body.{LeafAt};
 ghost use Rattle.listing.specs.Seek.{Leafy, weigh, reach};
 ghost use Rattle.seek.specs.Seek.{SoughtAt, Guided, Nearer, Fallback, Falls, LeafSome, Is, Tail, behindText};
@@ -146,7 +146,7 @@ fn behind(tail: usize) -> usize
 // The key of the Leaf at a place is at or above the bound.
 fn leaf_reaches(f: &[u8], place: usize, text: &[u8], tail: usize) -> bool
     requires { ⌜ SomeEdition (λ E. LeafSome E (now f) place) × Tail tail ⌝ }
-    ensures { λ r. ⌜ ((e : ℕ) (k v : List ℕ) → LeafAt (now (f .entry)) place e k v → r ≡ reach (now (text .entry)) tail k) ⌝ }
+    ensures { λ r. ⌜ ((e : ℕ) (k : List ℕ) (v : Value) → LeafAt (now (f .entry)) place e k v → r ≡ reach (now (text .entry)) tail k) ⌝ }
 {
     let from = Leaf::extent(f, place);
     let n = Leaf::key_length(f, place);

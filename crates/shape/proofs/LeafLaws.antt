@@ -7,22 +7,23 @@ use mathlib.Core.Logic.{⊎-elim}
 use native.Mathlib.Omega.{arith}
 use lib.ListN.{length, getD, take, drop, length-append, length-take, length-drop, List·getD-eq-default}
 use lib.Seq.{getD-take, getD-drop, length-take-le}
-use Rattle.layout.specs.Number.{byteAt, le}
-use Rattle.layout.specs.Place.{leafExtent, leafKey, leafValue, leafZero}
-use Rattle.layout.proofs.NumberLaws.{lt-or-le}
-use Rattle.model.specs.Edition.{Edition, edition1, edition2, editionOf}
+use Rattle.layout.specs.Number.{byteAt, le, Bytes}
+use Rattle.layout.specs.Place.{leafExtent, leafKey, leafValue, leafStamp}
+use Rattle.layout.proofs.NumberLaws.{lt-or-le, le-lt}
+use Rattle.model.specs.Edition.{Edition, edition1, edition2, editionOf, Value, textOf}
 use Rattle.model.specs.Tree.{up8}
 use Rattle.model.specs.Body.{LeafAt}
 use Rattle.model.specs.Frame.{Begins}
 use Rattle.model.proofs.Edition1.{positive-at, at-positive, Key1, key-passes, key-taken, walked-at}
-use Rattle.model.proofs.Edition2.{edition-two}
+use Rattle.model.proofs.Edition2.{lawfulOf, edition-two}
 use Rattle.pieces.specs.Decides.{Decides}
-use Rattle.pieces.specs.Range.{Blank, Clean, Alike}
+use Rattle.pieces.specs.Range.{Clean, Alike}
+use Rattle.keys.specs.Word.{Spelt}
 use Rattle.keys.proofs.KeyLaws.{text-part, of-two, of-other}
 use Rattle.shape.specs.Shape.{ExtentFits, Ends, Under, LeafHere, LeafTold}
 use Rattle.pieces.proofs.DecideLaws.{clash, handed}
-use Rattle.shape.proofs.ZeroLaws.{blank-zero, zero-blank}
-use Rattle.shape.proofs.BytesLaws.{bytesFrom, bytes-long, bytes-text, bytes-append, text-left, BeginsAt, begins-at, at-begins}
+use Rattle.shape.proofs.BytesLaws as here
+use Rattle.shape.proofs.BytesLaws.{bytesFrom, bytes-long, bytes-append, text-left, BeginsAt, begins-at, at-begins}
 
 -- ---- the key
 
@@ -120,6 +121,15 @@ under-two n h D = rw (of-two n h) D
 pub under-other : (n : ℕ) {path key : List ℕ} {r : Bool} → (n ≡ 2 → ⊥) → Decides (Under edition1 path key) r → Decides (Under (editionOf n) path key) r
 under-other n h D = rw (of-other n h) D
 
+-- ---- the stamp, by the edition
+
+-- every number of eight bytes is one in edition 2, and 0 alone in edition 1
+pub stamp-second : (n : ℕ) (f : List ℕ) (o : ℕ) → Bytes f → n ≡ 2 → le 8 f o < editionOf n .stamps
+stamp-second n f o B e = rw (e, edition-two) (le-lt 8 f o B)
+
+pub stamp-other : (n : ℕ) {s : ℕ} {r : Bool} → (n ≡ 2 → ⊥) → Decides (s ≡ 0) r → Decides (s < editionOf n .stamps) r
+stamp-other n h D = rw (of-other n h) (handed D (λ z. omega arith) (λ l. omega arith))
+
 -- ---- the Leaf
 
 -- its fields read, and the size of its extent
@@ -140,12 +150,12 @@ module _ {E : Edition} (f path : List ℕ) (o d b e k v size : ℕ) (R : LeafRea
   pub leaf-extent : (x n : ℕ) → LeafHere E f path o d b x n → ExtentFits e size d b
   leaf-extent x n L =
       let at = L .is .at in
-      let z : k + v ≡ length (L .key) + length (L .value) = omega arith in
+      let z : k + v ≡ length (L .key) + length (textOf (L .value)) = omega arith in
       let s : size ≡ n = R .rounded ∙ rw z (sym (L .long)) in
       record { eights = omega (arith, L .is .eights); low = omega arith; high = omega arith }
 
-  pub leaf-blank : (x n : ℕ) → LeafHere E f path o d b x n → Blank f (o + leafZero) (o + leafZero + 8)
-  leaf-blank x n L = zero-blank f (o + leafZero) 8 (L .is .at .zeros)
+  pub leaf-stamp : (x n : ℕ) → LeafHere E f path o d b x n → le 8 f (o + leafStamp) < E .stamps
+  leaf-stamp x n L = rw (L .is .at .stamp) (L .is .stamped)
 
   pub leaf-key : (x n : ℕ) → LeafHere E f path o d b x n → Under E path (take k (drop e f))
   leaf-key x n L =
@@ -153,32 +163,32 @@ module _ {E : Edition} (f path : List ℕ) (o d b e k v size : ℕ) (R : LeafRea
       let key = L .key in
       let q : x ≡ e = cc in
       let m : length key ≡ k = cc in
-      let t : take (length key) (drop x f) ≡ key = text-part f x key (omega (arith, at .room)) (text-left f x key (L .value) (at .text)) in
+      let t : take (length key) (drop x f) ≡ key = text-part f x key (omega (arith, at .room)) (text-left f x key (textOf (L .value)) (at .text)) in
       let is : take k (drop e f) ≡ key = rw (m, q) at t in
       record { legal = rw is (L .is .legal); begins = rw is (L .is .begins) }
 
-  pub leaf-end : b ≤ length f → ExtentFits e size d b → Blank f (o + leafZero) (o + leafZero + 8) → Under E path (take k (drop e f)) → LeafTold E f path o d b true e size
+  pub leaf-end : b ≤ length f → ExtentFits e size d b → le 8 f (o + leafStamp) < E .stamps → Under E path (take k (drop e f)) → LeafTold E f path o d b true e size
   leaf-end room X Z U =
       let key = bytesFrom f e k in
-      let value = bytesFrom f (e + k) v in
+      let value : Value = record { bytes = bytesFrom f (e + k) v; stamp = le 8 f (o + leafStamp) } in
       let m = bytes-long f e k in
       let w = bytes-long f (e + k) v in
       let is : take k (drop e f) ≡ key
-      = ap (λ (x : ℕ). take x (drop e f)) (sym m) ∙ text-part f e key (omega (arith, leaf-room R room X)) (bytes-text f e k) in
+      = ap (λ (x : ℕ). take x (drop e f)) (sym m) ∙ text-part f e key (omega (arith, leaf-room R room X)) (here.bytes-text f e k) in
       let at : LeafAt f o e key value
       = record {
         room = let r = R .rounded in let h = X .high in omega arith;
         extent = cc;
         keyLength = cc;
         valueLength = cc;
-        zeros = blank-zero f (o + leafZero) 8 Z;
-        text = rw (← bytes-append f e k v) (bytes-text f e (k + v));
+        stamp = refl;
+        text = rw (← bytes-append f e k v) (here.bytes-text f e (k + v));
       } in
       let l : LeafHere E f path o d b e size
       = record {
         key = key;
         value = value;
-        is = record { at = at; eights = X .eights; legal = rw is at (U .legal); begins = rw is at (U .begins) };
+        is = record { at = at; eights = X .eights; legal = rw is at (U .legal); begins = rw is at (U .begins); stamped = Z };
         long = R .rounded ∙ rw (m, w) refl;
         low = X .low;
         high = X .high;

@@ -6,7 +6,7 @@ use mathlib.Core.Bool.{Bool, true, false}
 use lib.ListN.{length, getD}
 use Rattle.layout.specs.Number.{le}
 use Rattle.layout.specs.Place.{atF, atN, atB, atU, atR, atX, atRoot, dataStart}
-use Rattle.model.specs.Edition.{Edition}
+use Rattle.model.specs.Edition.{Edition, Value}
 use Rattle.model.specs.Tree.{extentOf}
 use Rattle.model.specs.Body.{PrefixAt}
 use Rattle.model.specs.Frame.{Numbers, FrameLength, SlotCapacity, Header, Begins, LeafOf}
@@ -72,7 +72,7 @@ pub record Under (E : Edition) (path key : List ℕ) : Type 0 where
 -- a Leaf to which the path leads, with an extent of the size at e, between d and b
 pub record LeafHere (E : Edition) (f path : List ℕ) (o d b e size : ℕ) : Type 0 where
   pub key : List ℕ
-  pub value : List ℕ
+  pub value : Value
   pub is : LeafOf E f path o e key value
   pub long : size ≡ extentOf key value
   pub low : d ≤ e

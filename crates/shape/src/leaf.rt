@@ -3,6 +3,8 @@ use fields::body::Leaf;
 ghost use Prim.Native.Nat.{ℕ, _+_, _≤_, _<_};
 ghost use mathlib.Core.List.{[]};
 ghost use lib.ListN.{length, take, drop};
+ghost use Rattle.layout.specs.Number.{le};
+ghost use Rattle.layout.specs.Place.{leafStamp};
 ghost use Rattle.pieces.specs.Decides.{Decides};
 ghost use Rattle.model.specs.Edition.{edition1, edition2, editionOf};
 ghost use Rattle.shape.specs.Shape.{ExtentFits, Ends, Under, LeafTold};
@@ -93,6 +95,17 @@ fn key_good(f: &[u8], e: usize, k: usize, path: &[u8], depth: usize, edition: us
     plain_good(f, e, k, path, depth)
 }
 
+// The Leaf at o has a stamp of the edition: edition 1 keeps zero there, and in edition 2 every number of eight bytes is one.
+fn stamp_good(f: &[u8], o: usize, edition: usize) -> bool
+    requires { ⌜ o + 16 ≤ length (now f) ⌝ }
+    ensures { λ r. ⌜ Decides (le 8 (now (f .entry)) (o + leafStamp) < editionOf edition .stamps) r ⌝ }
+{
+    if edition == keys::SECOND {
+        return true;
+    }
+    Leaf::unstamped(f, o)
+}
+
 // The body at o is a Leaf's whose extent lies between d and b, and the path leads to it.
 pub fn leaf_good(
     f: &[u8],
@@ -117,7 +130,7 @@ pub fn leaf_good(
     if !extent_fits(e, size, d, b) {
         return none;
     }
-    if !Leaf::zeros_good(f, o) {
+    if !stamp_good(f, o, edition) {
         return none;
     }
     if !key_good(f, e, k, path, depth, edition) {
@@ -146,7 +159,7 @@ pub fn lone_good(f: &[u8], o: usize, d: usize, b: usize, edition: usize) -> Leaf
     if !extent_fits(e, size, d, b) {
         return none;
     }
-    if !Leaf::zeros_good(f, o) {
+    if !stamp_good(f, o, edition) {
         return none;
     }
     if keys::fault(&f[e..e + k], edition) != 0 {

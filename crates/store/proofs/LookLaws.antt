@@ -42,7 +42,7 @@ module _ (E : Edition) (f k : List ℕ) where
   refused-frame n p ne =
       record {
         told = p .told;
-        zeros = λ z. (refl, refl);
+        zeros = λ z. (refl, refl, refl);
         unvisited = λ z y. refl;
         found = λ s w. absurd (ne (p .good0 (s, w)));
         value = λ s w e. absurd (ne (p .good0 (s, w)));
@@ -53,7 +53,7 @@ module _ (E : Edition) (f k : List ℕ) where
   refused-key g ne =
       record {
         told = told-good E f (E .keyFault k) g;
-        zeros = λ z. (refl, refl);
+        zeros = λ z. (refl, refl, refl);
         unvisited = λ z y. refl;
         found = λ s w. key-found (E .keyFault k) (findAt E (w .root) k) (visitsIn E (rootArt (w .root)) k) ne;
         value = λ s w e. absurd (ne e);
@@ -75,8 +75,8 @@ module _ (E : Edition) (f k : List ℕ) where
         value = λ s w q. h s w ∙ in-part p;
       }
     where
-      both-zero : (p : Option Part) → (foundOf p v .number ≡ 0 → ⊥) → (foundOf p v .place ≡ 0) × (foundOf p v .long ≡ 0)
-      both-zero none z = (refl, refl)
+      both-zero : (p : Option Part) → (foundOf p v .number ≡ 0 → ⊥) → (foundOf p v .place ≡ 0) × (foundOf p v .long ≡ 0) × (foundOf p v .stamp ≡ 0)
+      both-zero none z = (refl, refl, refl)
       both-zero (some p) z = absurd (z refl)
 
       answered : {A : Type 0} (p : Option Part) → (foundOf p v .number ≡ 0 → ⊥) → (foundOf p v .number ≡ 8 → ⊥) → A
@@ -86,7 +86,7 @@ module _ (E : Edition) (f k : List ℕ) where
       legal-found : (n : ℕ) (p q : Option Part) (u : ℕ) → n ≡ 0 → p ≡ q → v ≡ u → foundOf p v ≡ pick (eqb n 0) (foundOf q u) (notFound n 0)
       legal-found n p q u z y x = rw (eq-eqb n 0 z) (ap (λ (o : Option Part). foundOf o v) y ∙ ap (foundOf q) x)
 
-      in-part : (p : Option Part) → valueIn f p ≡ pick (eqb (foundOf p v .number) 0) (some (take (foundOf p v .long) (drop (foundOf p v .place) f))) none
+      in-part : (p : Option Part) → valueIn f p ≡ pick (eqb (foundOf p v .number) 0) (some (record { bytes = take (foundOf p v .long) (drop (foundOf p v .place) f); stamp = foundOf p v .stamp })) none
       in-part none = refl
       in-part (some p) = refl
 
@@ -146,7 +146,7 @@ module _ (ed : ℕ) (f k : List ℕ) (n : ℕ) (given : CheckPromise (editionOf 
       let x = key-four ed k b' (λ y. a (q ∙ y)) in rw x at (refused-key E f k (good z) b')
 
   pub end-found : n ≡ 0 → (e : ℕ) → e ≡ E .keyFault k → e ≡ 0 → (v : Held) → ((s : State) (w : Stands E f s) → Looked E f k s (w .root) v) → v .found ≡ true
-      → LookUpPromise E f k (record { number = 0; place = v .place; long = v .length; slots = v .slots })
+      → LookUpPromise E f k (record { number = 0; place = v .place; long = v .length; slots = v .slots; stamp = v .stamp })
   end-found z e q h v L t = rw t at (looked-up E f k v (good z) (sym q ∙ h) L)
 
   pub end-absent : n ≡ 0 → (e : ℕ) → e ≡ E .keyFault k → e ≡ 0 → (v : Held) → ((s : State) (w : Stands E f s) → Looked E f k s (w .root) v) → v .found ≡ false

@@ -1,4 +1,4 @@
-// The check, and look-up: the number with the value's place and length and the slots visited, or the value itself as a part of the lent frame.
+// The check, and look-up: the number with the value's place and length, the slots visited and the stamp, or the value itself as a part of the lent frame.
 use answers::Check;
 use answers::LookUp;
 use answers::Refusal;
@@ -41,7 +41,7 @@ pub fn look_up(frame: &[u8], key: &[u8], edition: usize) -> LookUp
     }
     let v = lookup::find(frame, key, edition);
     if v.found {
-        return LookUp::Found(v.place, v.length, v.slots);
+        return LookUp::Found(v.place, v.length, v.slots, v.stamp);
     }
     LookUp::Absent(v.slots)
 }

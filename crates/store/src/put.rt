@@ -3,10 +3,12 @@ use answers::Put;
 use answers::PutOrReplace;
 use answers::Refusal;
 use answers::Replace;
+ghost use mathlib.Core.Path.{_≡_};
+ghost use Prim.Native.Nat.{_<_};
 ghost use Rattle.answers.specs.Number.{putNumber, replaceNumber, putOrReplaceNumber};
 ghost use Rattle.model.specs.Edition.{editionOf};
 ghost use Rattle.model.specs.Promise.{PutPromise, ReplacePromise, PutOrReplacePromise};
-ghost use Rattle.store.specs.Write.{Barred};
+ghost use Rattle.store.specs.Write.{stampFor, valueFor, Barred};
 
 // "A value has 0 to 65,535 bytes."
 const LONGEST_VALUE: usize = 65535;
@@ -40,32 +42,48 @@ fn against(frame: &[u8], key: &[u8], value: &[u8], edition: usize) -> Bar
     Bar::Nothing
 }
 
-pub fn put(frame: &mut [u8], key: &[u8], value: &[u8], edition: usize) -> Put
-    ensures { λ r. ⌜ PutPromise (editionOf edition) (now (frame .entry)) (now (key .entry)) (now (value .entry)) (putNumber r) (now (frame .exit)) ⌝ }
+// "Edition 1 keeps zero there", whatever is passed.
+fn stamp_for(stamp: usize, edition: usize) -> usize
+    ensures { λ r. ⌜ (r ≡ stampFor (editionOf edition) stamp) × (r < editionOf edition .stamps) ⌝ }
+{
+    if edition == keys::SECOND {
+        return stamp;
+    }
+    0
+}
+
+pub fn put(frame: &mut [u8], key: &[u8], value: &[u8], stamp: usize, edition: usize) -> Put
+    ensures { λ r. ⌜ PutPromise (editionOf edition) (now (frame .entry)) (now (key .entry)) (valueFor (editionOf edition) (now (value .entry)) stamp) (putNumber r) (now (frame .exit)) ⌝ }
 {
     let bar = against(frame, key, value, edition);
     let Bar::Refused(r) = bar else {
-        return put_core::put_new(frame, key, value, edition);
+        return put_core::put_new(frame, key, value, stamp_for(stamp, edition), edition);
     };
     Put::Refused(r)
 }
 
-pub fn replace(frame: &mut [u8], key: &[u8], value: &[u8], edition: usize) -> Replace
-    ensures { λ r. ⌜ ReplacePromise (editionOf edition) (now (frame .entry)) (now (key .entry)) (now (value .entry)) (replaceNumber r) (now (frame .exit)) ⌝ }
+pub fn replace(frame: &mut [u8], key: &[u8], value: &[u8], stamp: usize, edition: usize) -> Replace
+    ensures { λ r. ⌜ ReplacePromise (editionOf edition) (now (frame .entry)) (now (key .entry)) (valueFor (editionOf edition) (now (value .entry)) stamp) (replaceNumber r) (now (frame .exit)) ⌝ }
 {
     let bar = against(frame, key, value, edition);
     let Bar::Refused(r) = bar else {
-        return put_core::replace(frame, key, value, edition);
+        return put_core::replace(frame, key, value, stamp_for(stamp, edition), edition);
     };
     Replace::Refused(r)
 }
 
-pub fn put_or_replace(frame: &mut [u8], key: &[u8], value: &[u8], edition: usize) -> PutOrReplace
-    ensures { λ r. ⌜ PutOrReplacePromise (editionOf edition) (now (frame .entry)) (now (key .entry)) (now (value .entry)) (putOrReplaceNumber r) (now (frame .exit)) ⌝ }
+pub fn put_or_replace(
+    frame: &mut [u8],
+    key: &[u8],
+    value: &[u8],
+    stamp: usize,
+    edition: usize,
+) -> PutOrReplace
+    ensures { λ r. ⌜ PutOrReplacePromise (editionOf edition) (now (frame .entry)) (now (key .entry)) (valueFor (editionOf edition) (now (value .entry)) stamp) (putOrReplaceNumber r) (now (frame .exit)) ⌝ }
 {
     let bar = against(frame, key, value, edition);
     let Bar::Refused(r) = bar else {
-        return put_core::put_or_replace(frame, key, value, edition);
+        return put_core::put_or_replace(frame, key, value, stamp_for(stamp, edition), edition);
     };
     PutOrReplace::Refused(r)
 }

@@ -47,7 +47,7 @@ returns-3 c =
     let g = z .args .second .now in
     let b = z .args .batch .now in
     let lent = z .args .answers .now in
-    no-batch _ f g b lent (standing _ f [] _ (c .before .before .before .before .check .ensures) (c .before .before .before .if1 .left)) (c .before .before .if2 .left) (not-laid b _ (c .before .well-laid .ensures) (c .if3 .taken))
+    no-batch _ f g b lent (standing _ f [] _ (c .before .before .before .before .check .ensures) (c .before .before .before .if1 .left)) (c .before .before .if2 .left) (not-laid _ b _ (c .before .well-laid .ensures) (c .if3 .taken))
 
 paste-requires : tie.Need-paste-requires
 paste-requires c κs = omega arith
@@ -59,7 +59,7 @@ trial-requires c κs =
     let g = z .args .second .now in
     let b = z .args .batch .now in
     let lent = z .args .answers .now in
-    ready-second _ (pasted-all g _ f (c .before .before .before .paste .ensures) (c .before .before .before .before .before .before .before .before .if2 .left)) (standing _ f [] _ (c .before .before .before .before .before .before .before .before .before .before .check .ensures) (c .before .before .before .before .before .before .before .before .before .if1 .left)) (is-laid b _ (c .before .before .before .before .before .before .before .well-laid .ensures) (c .before .before .before .before .before .before .if3 .left))
+    ready-second _ (pasted-all g _ f (c .before .before .before .paste .ensures) (c .before .before .before .before .before .before .before .before .if2 .left)) (standing _ f [] _ (c .before .before .before .before .before .before .before .before .before .before .check .ensures) (c .before .before .before .before .before .before .before .before .before .if1 .left)) (is-laid _ b _ (c .before .before .before .before .before .before .before .well-laid .ensures) (c .before .before .before .before .before .before .if3 .left))
 
 same-length-4 : tie.Need-same-length-4
 same-length-4 c = search needs
@@ -76,7 +76,7 @@ returns-4 c =
     let lent = z .args .answers .now in
     let e = c .before .before .before .before .before .before .before .before .before .before .before .before .before .if2 .left in
     let p = pasted-all g _ f (c .before .before .before .before .before .before .before .before .paste .ensures) e in
-    halted-at _ f g b lent (standing _ f [] _ (c .before .before .before .before .before .before .before .before .before .before .before .before .before .before .before .check .ensures) (c .before .before .before .before .before .before .before .before .before .before .before .before .before .before .if1 .left)) e (is-laid b _ (c .before .before .before .before .before .before .before .before .before .before .before .before .well-laid .ensures) (c .before .before .before .before .before .before .before .before .before .before .before .if3 .left)) (c .before .before .before .before .trial .result) _ (tried-as p (c .before .before .before .before .trial .ensures)) (c .if4 .taken)
+    halted-at _ f g b lent (standing _ f [] _ (c .before .before .before .before .before .before .before .before .before .before .before .before .before .before .before .check .ensures) (c .before .before .before .before .before .before .before .before .before .before .before .before .before .before .if1 .left)) e (is-laid _ b _ (c .before .before .before .before .before .before .before .before .before .before .before .before .well-laid .ensures) (c .before .before .before .before .before .before .before .before .before .before .before .if3 .left)) (c .before .before .before .before .trial .result) _ (tried-as p (c .before .before .before .before .trial .ensures)) (c .if4 .taken)
 
 carry-out-requires : tie.Need-carry-out-requires
 carry-out-requires c κs =
@@ -85,7 +85,7 @@ carry-out-requires c κs =
     let g = z .args .second .now in
     let b = z .args .batch .now in
     let lent = z .args .answers .now in
-    ready (standing _ f [] _ (c .before .before .before .before .before .before .before .before .before .before .before .before .before .before .before .before .before .check .ensures) (c .before .before .before .before .before .before .before .before .before .before .before .before .before .before .before .before .if1 .left)) (is-laid b _ (c .before .before .before .before .before .before .before .before .before .before .before .before .before .before .well-laid .ensures) (c .before .before .before .before .before .before .before .before .before .before .before .before .before .if3 .left))
+    ready (standing _ f [] _ (c .before .before .before .before .before .before .before .before .before .before .before .before .before .before .before .before .before .check .ensures) (c .before .before .before .before .before .before .before .before .before .before .before .before .before .before .before .before .if1 .left)) (is-laid _ b _ (c .before .before .before .before .before .before .before .before .before .before .before .before .before .before .well-laid .ensures) (c .before .before .before .before .before .before .before .before .before .before .before .before .before .if3 .left))
 
 paste-requires-2 : tie.Need-paste-requires-2
 paste-requires-2 c κs = omega arith
@@ -111,7 +111,7 @@ returns-5 c =
     let out = c .before .before .before .before .before .before .before .before .before .carry-out .ensures in
     let trial = c .before .before .before .before .before .before .before .before .before .before .before .before .before .before .before .before .trial in
     let q = pasted-all _ _ _ (c .before .before .paste2 .ensures) (omega arith) in
-    carried _ f g b lent (standing _ f [] _ (c .before .before .before .before .before .before .before .before .before .before .before .before .before .before .before .before .before .before .before .before .before .before .before .before .before .before .before .check .ensures) (c .before .before .before .before .before .before .before .before .before .before .before .before .before .before .before .before .before .before .before .before .before .before .before .before .before .before .if1 .left)) e (is-laid b _ (c .before .before .before .before .before .before .before .before .before .before .before .before .before .before .before .before .before .before .before .before .before .before .before .before .well-laid .ensures) (c .before .before .before .before .before .before .before .before .before .before .before .before .before .before .before .before .before .before .before .before .before .before .before .if3 .left)) (trial .result) _ (tried-as p (trial .ensures)) (c .before .before .before .before .before .before .before .before .before .before .before .before .if4 .left) (out .numbers) _ (out .all) _ _ (out .tells) q
+    carried _ f g b lent (standing _ f [] _ (c .before .before .before .before .before .before .before .before .before .before .before .before .before .before .before .before .before .before .before .before .before .before .before .before .before .before .before .check .ensures) (c .before .before .before .before .before .before .before .before .before .before .before .before .before .before .before .before .before .before .before .before .before .before .before .before .before .before .if1 .left)) e (is-laid _ b _ (c .before .before .before .before .before .before .before .before .before .before .before .before .before .before .before .before .before .before .before .before .before .before .before .before .well-laid .ensures) (c .before .before .before .before .before .before .before .before .before .before .before .before .before .before .before .before .before .before .before .before .before .before .before .if3 .left)) (trial .result) _ (tried-as p (trial .ensures)) (c .before .before .before .before .before .before .before .before .before .before .before .before .if4 .left) (out .numbers) _ (out .all) _ _ (out .tells) q
 
 pub apply-spec : {M : Type 1} → statement M
 apply-spec =

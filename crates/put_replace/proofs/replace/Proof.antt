@@ -1,7 +1,7 @@
 -- `replace` meets its contract: each need is one law of ReplaceLaws. Assumes nothing.
 use native.Mathlib.Omega.{arith}
 use borrow.Author.Needs.{needs}
-use Rattle.put_replace.proofs.ReplaceLaws.{body-room, lengths, paste-ok, ends-same, extend-ok, write-ok, retire-ok, ends-other}
+use Rattle.put_replace.proofs.ReplaceLaws.{body-room, stamp-fits, lengths, paste-ok, restamp-ok, ends-same, extend-ok, write-ok, retire-ok, ends-other}
 use Rattle.put_replace.proofs.replace.Statement.{statement}
 use Rattle.put_replace.proofs.replace.Tie as tie
 
@@ -21,14 +21,23 @@ paste-requires c κs =
     let z = m .before .before .before .before .before .before in
     paste-ok (z .pre .holds) (m .value-length .ensures .0) (q .extent .ensures .0) (omega arith)
 
+restamp-requires : tie.Need-restamp-requires
+restamp-requires c κs =
+    let p = c .before .before .before in
+    let q = p .before .before .before in
+    let m = q .before .before in
+    let z = m .before .before .before .before .before .before in
+    (restamp-ok (z .pre .holds) (m .value-length .ensures .0) (q .extent .ensures .0) (omega arith) (p .paste .ensures), stamp-fits (z .pre .holds))
+
 same-length : tie.Need-same-length
 same-length c = search needs
 
 returns : tie.Need-returns
 returns c = λ E A.
-    let q = c .before .before .before .before .before in
+    let p = c .before .before .before .before .before .before in
+    let q = p .before .before .before in
     let m = q .before .before in
-    ends-same A (m .value-length .ensures .0) (q .extent .ensures .0) (omega arith) (c .before .before .paste .ensures) (λ a. omega (arith, c .slice-known2 .given a))
+    ends-same A (m .value-length .ensures .0) (q .extent .ensures .0) (omega arith) (p .paste .ensures) (c .before .before .restamp .ensures) (λ a. omega (arith, c .slice-known3 .given a))
 
 extend-requires : tie.Need-extend-requires
 extend-requires c κs =
@@ -71,7 +80,7 @@ returns-2 c = λ E A.
     let x = y .before .before .before .before in
     let e = x .before .before .before in
     let m = e .before .before in
-    ends-other A (m .value-length .ensures .0) (λ q. omega arith) (x .extend .ensures) (y .write .ensures) (r .rounded .ensures) (e .extent .ensures .0) (c .before .before .retire .ensures) (λ a. omega (arith, c .slice-known5 .given a))
+    ends-other A (m .value-length .ensures .0) (λ q. omega arith) (x .extend .ensures) (y .write .ensures) (r .rounded .ensures) (e .extent .ensures .0) (c .before .before .retire .ensures) (λ a. omega (arith, c .slice-known6 .given a))
 
 pub replace-spec : {M : Type 1} → statement M
 replace-spec =
@@ -81,6 +90,7 @@ replace-spec =
     extent-requires
     add-paste
     paste-requires
+    restamp-requires
     same-length
     returns
     extend-requires

@@ -1,14 +1,19 @@
--- `change`: the call of the kind, with the key and the value that stand in the batch. Assumes nothing.
+-- `change`: the call of the kind, with the key, the value and the stamp that stand in the batch. Assumes nothing.
 use Prim.Native.Nat.{_+_, _-_}
 use mathlib.Core.Path.{refl, sym, _∙_}
 use native.Mathlib.Omega.{arith}
-use Rattle.batch.proofs.ChangeLaws.{call-put, call-replace, call-erase, key-part, value-part}
+use Rattle.model.specs.Edition.{editionOf}
+use Rattle.batch.proofs.LayoutLaws.{key-behind}
+use Rattle.batch.proofs.ChangeLaws.{call-put, call-replace, call-erase, key-part, text-part}
 use borrow.Author.Needs.{needs}
 use Rattle.batch.proofs.change.change.Statement.{statement}
 use Rattle.batch.proofs.change.change.Tie as tie
 
 kind-requires : tie.Need-kind-requires
-kind-requires c κs = search needs
+kind-requires c κs = let z = c .before .before in (z .pre .1 .near, omega (arith, key-behind (editionOf (z .args .edition)), z .pre .1 .head))
+
+at-key-requires : tie.Need-at-key-requires
+at-key-requires c κs = search needs
 
 add-from : tie.Need-add-from
 add-from c = search needs
@@ -24,6 +29,9 @@ value-length-requires c κs = search needs
 
 add-end : tie.Need-add-end
 add-end c = search needs
+
+stamp-requires : tie.Need-stamp-requires
+stamp-requires c κs = search needs
 
 sub-put : tie.Need-sub-put
 sub-put c = search needs
@@ -51,16 +59,21 @@ same-length c = search needs
 
 returns : tie.Need-returns
 returns c =
-    let z = c .before .before .before .before .before .before .before .before .before .before .before .before in
+    let z = c .before .before .before .before .before .before .before .before .before .before .before .before .before .before in
     let b = z .args .b .now in
     let o = z .args .o in
-    let kind = c .before .before .before .before .before .before .before .before .before .kind .ensures .0 in
-    let kl = c .before .before .before .before .before .before .before .before .key-length in
-    let vl = c .before .before .before .before .before .before .before .value-length in
+    let kind = c .before .before .before .before .before .before .before .before .before .before .before .kind .ensures .0 in
+    let at = c .before .before .before .before .before .before .before .before .before .before .at-key in
+    let kl = c .before .before .before .before .before .before .before .before .before .key-length in
+    let vl = c .before .before .before .before .before .before .before .before .value-length in
     let made = c .before .before .put in
-    let from = o + 8 in
-    let to = from + kl .result in
-    (call-put _ _ b o _ _ (sym kind ∙ c .before .before .before .before .before .before .if1 .taken) (made .ensures .0) (key-part b o (kl .result) (vl .result) (kl .ensures .0) (to - from) (omega arith)) (value-part b o (kl .result) (vl .result) (kl .ensures .0) (vl .ensures .0) (to + vl .result - to) to (omega arith) refl), made .ensures .1)
+    let from = o + at .result in
+    let to = from + kl .result in (
+      call-put _ _ b o _ _ (sym kind ∙ c .before .before .before .before .before .before .if1 .taken) (made .ensures .0)
+          (key-part _ b o (at .result) (kl .result) (vl .result) (at .ensures .0) (kl .ensures .0) (to - from) (omega arith))
+          (text-part _ b o (at .result) (kl .result) (vl .result) (at .ensures .0) (kl .ensures .0) (vl .ensures .0) (to + vl .result - to) to (omega arith) refl) (c .before .before .before .before .before .before .before .stamp .ensures .0),
+      made .ensures .1,
+    )
 
 sub-replace : tie.Need-sub-replace
 sub-replace c = search needs
@@ -88,16 +101,21 @@ same-length-2 c = search needs
 
 returns-2 : tie.Need-returns-2
 returns-2 c =
-    let z = c .before .before .before .before .before .before .before .before .before .before .before .before .before in
+    let z = c .before .before .before .before .before .before .before .before .before .before .before .before .before .before .before in
     let b = z .args .b .now in
     let o = z .args .o in
-    let kind = c .before .before .before .before .before .before .before .before .before .before .kind .ensures .0 in
-    let kl = c .before .before .before .before .before .before .before .before .before .key-length in
-    let vl = c .before .before .before .before .before .before .before .before .value-length in
+    let kind = c .before .before .before .before .before .before .before .before .before .before .before .before .kind .ensures .0 in
+    let at = c .before .before .before .before .before .before .before .before .before .before .before .at-key in
+    let kl = c .before .before .before .before .before .before .before .before .before .before .key-length in
+    let vl = c .before .before .before .before .before .before .before .before .before .value-length in
     let made = c .before .before .replace in
-    let from = o + 8 in
-    let to = from + kl .result in
-    (call-replace _ _ b o _ _ (λ e. c .before .before .before .before .before .before .before .if1 .left (kind ∙ e)) (sym kind ∙ c .before .before .before .before .before .before .if2 .taken) (made .ensures .0) (key-part b o (kl .result) (vl .result) (kl .ensures .0) (to - from) (omega arith)) (value-part b o (kl .result) (vl .result) (kl .ensures .0) (vl .ensures .0) (to + vl .result - to) to (omega arith) refl), made .ensures .1)
+    let from = o + at .result in
+    let to = from + kl .result in (
+      call-replace _ _ b o _ _ (λ e. c .before .before .before .before .before .before .before .if1 .left (kind ∙ e)) (sym kind ∙ c .before .before .before .before .before .before .if2 .taken) (made .ensures .0)
+          (key-part _ b o (at .result) (kl .result) (vl .result) (at .ensures .0) (kl .ensures .0) (to - from) (omega arith))
+          (text-part _ b o (at .result) (kl .result) (vl .result) (at .ensures .0) (kl .ensures .0) (vl .ensures .0) (to + vl .result - to) to (omega arith) refl) (c .before .before .before .before .before .before .before .before .stamp .ensures .0),
+      made .ensures .1,
+    )
 
 sub-erase : tie.Need-sub-erase
 sub-erase c = search needs
@@ -116,27 +134,33 @@ same-length-3 c = search needs
 
 returns-3 : tie.Need-returns-3
 returns-3 c =
-    let z = c .before .before .before .before .before .before .before .before .before .before .before .before in
+    let z = c .before .before .before .before .before .before .before .before .before .before .before .before .before .before in
     let b = z .args .b .now in
     let o = z .args .o in
-    let kind = c .before .before .before .before .before .before .before .before .before .kind .ensures .0 in
-    let kl = c .before .before .before .before .before .before .before .before .key-length in
-    let vl = c .before .before .before .before .before .before .before .value-length in
+    let kind = c .before .before .before .before .before .before .before .before .before .before .before .kind .ensures .0 in
+    let at = c .before .before .before .before .before .before .before .before .before .before .at-key in
+    let kl = c .before .before .before .before .before .before .before .before .before .key-length in
+    let vl = c .before .before .before .before .before .before .before .before .value-length in
     let made = c .before .before .erase in
-    let from = o + 8 in
-    let to = from + kl .result in
-    (call-erase _ _ b o _ _ (λ e. c .before .before .before .before .before .before .if1 .left (kind ∙ e)) (λ e. c .before .before .before .before .before .if2 .left (kind ∙ e)) (made .ensures .0) (key-part b o (kl .result) (vl .result) (kl .ensures .0) (to - from) (omega arith)), made .ensures .1)
+    let from = o + at .result in
+    let to = from + kl .result in (
+      call-erase _ _ b o _ _ (λ e. c .before .before .before .before .before .before .if1 .left (kind ∙ e)) (λ e. c .before .before .before .before .before .if2 .left (kind ∙ e)) (made .ensures .0)
+          (key-part _ b o (at .result) (kl .result) (vl .result) (at .ensures .0) (kl .ensures .0) (to - from) (omega arith)),
+      made .ensures .1,
+    )
 
 pub change-spec : {M : Type 1} → statement M
 change-spec =
     tie.close
     (tie.spec
     kind-requires
+    at-key-requires
     add-from
     key-length-requires
     add-to
     value-length-requires
     add-end
+    stamp-requires
     sub-put
     part-put-start
     part-put-end

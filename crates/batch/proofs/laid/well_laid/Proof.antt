@@ -1,6 +1,7 @@
 -- `well_laid`: what is left of the changes is laid exactly if the whole is. Assumes nothing.
 use Prim.Native.Nat.{_-_, _≤_}
 use mathlib.Core.Path.{_≡_, refl, sym, _∙_}
+use Rattle.model.specs.Edition.{editionOf}
 use Rattle.batch.specs.Layout.{changesFrom, changesOf, laid}
 use Rattle.batch.proofs.LayoutLaws.{passed, sound-is, sound-not, on, left-bad, left-none, countless, offsetless, first}
 use native.Mathlib.Omega.{arith}
@@ -9,13 +10,13 @@ use Rattle.batch.proofs.laid.well_laid.Statement.{statement}
 use Rattle.batch.proofs.laid.well_laid.Tie as tie
 
 abbrev Inv-loop : tie.InvT-loop
-Inv-loop b n low₀ i₀ low i = (i ≤ n) × (laid (changesOf b) ≡ laid (changesFrom b (n - i) i low))
+Inv-loop b edition n low₀ i₀ low i = (i ≤ n) × (laid (changesOf (editionOf edition) b) ≡ laid (changesFrom (editionOf edition) b (n - i) i low))
 
 abbrev μ-loop : tie.MeasureT-loop
-μ-loop b n low₀ i₀ low i = n - i
+μ-loop b edition n low₀ i₀ low i = n - i
 
 returns : tie.Need-returns Inv-loop μ-loop
-returns c = countless (c .before .before .args .b .now) (omega arith)
+returns c = countless _ (c .before .before .args .b .now) (omega arith)
 
 count-requires : tie.Need-count-requires Inv-loop μ-loop
 count-requires c κs = search needs
@@ -30,13 +31,13 @@ returns-2 : tie.Need-returns-2 Inv-loop μ-loop
 returns-2 c =
     let b = c .before .before .before .before .args .b .now in
     let n = c .before .count .ensures .0 in
-    offsetless b (omega arith) (omega arith)
+    offsetless _ b (omega arith) (omega arith)
 
 loop-holds : tie.Need-loop-holds Inv-loop μ-loop
 loop-holds c =
     let b = c .before .before .before .before .args .b .now in
     let n = c .before .count in
-    (omega arith, first b (n .result) _ (n .ensures .0) refl (omega arith) (omega arith))
+    (omega arith, first _ b (n .result) _ (n .ensures .0) refl (omega arith) (omega arith))
 
 offset-requires : tie.Need-offset-requires Inv-loop μ-loop
 offset-requires c κs = search needs
@@ -50,10 +51,10 @@ returns-3 c =
     let n = c .before .before .before .before .before .before .count .result in
     let b = c .before .before .before .before .before .before .before .before .before .args .b .now in
     let o = c .before .before .offset in
-    sym (l .inv .1 ∙ left-bad b (n - l .i) (l .i) (l .low) (omega arith) (sound-not b (l .low) (l .i) (o .result) (o .ensures .0) (c .before .is-sound .ensures) (c .if3 .taken)))
+    sym (l .inv .1 ∙ left-bad _ b (n - l .i) (l .i) (l .low) (omega arith) (sound-not _ b (l .low) (l .i) (o .result) (o .ensures .0) (c .before .is-sound .ensures) (c .if3 .taken)))
 
 end-requires : tie.Need-end-requires Inv-loop μ-loop
-end-requires c κs = let h = passed _ _ _ (c .before .is-sound .ensures) (c .if3 .left) in (omega arith, omega arith)
+end-requires c κs = let h = passed _ _ _ _ (c .before .is-sound .ensures) (c .if3 .left) in (omega arith, omega arith)
 
 add-i : tie.Need-add-i Inv-loop μ-loop
 add-i c = search needs
@@ -67,15 +68,15 @@ loop-again c =
     let n = c .before .before .before .before .before .before .before .count .result in
     let b = c .before .before .before .before .before .before .before .before .before .before .args .b .now in
     let o = c .before .before .before .offset in
-    let s = sound-is b (l .low) (l .i) (o .result) (o .ensures .0) (c .before .before .is-sound .ensures) (c .before .if3 .left) in
-    (omega arith, l .inv .1 ∙ on b n (l .i) (l .low) (o .result) (c .end .result) (omega arith) (o .ensures .0) s (c .end .ensures))
+    let s = sound-is _ b (l .low) (l .i) (o .result) (o .ensures .0) (c .before .before .is-sound .ensures) (c .before .if3 .left) in
+    (omega arith, l .inv .1 ∙ on _ b n (l .i) (l .low) (o .result) (c .end .result) (omega arith) (o .ensures .0) s (c .end .ensures))
 
 returns-4 : tie.Need-returns-4 Inv-loop μ-loop
 returns-4 c =
     let l = c .before .loop in
     let n = c .before .before .before .count .result in
     let b = c .before .before .before .before .before .before .args .b .now in
-    sym (l .inv .1 ∙ left-none b (n - l .i) (l .i) (l .low) (omega arith))
+    sym (l .inv .1 ∙ left-none _ b (n - l .i) (l .i) (l .low) (omega arith))
 
 pub well-laid-spec : {M : Type 1} → statement M
 well-laid-spec =

@@ -19,7 +19,7 @@ abbrev μ-loop : tie.MeasureT-loop
 μ-loop f₀ b edition n i₀ f i = n - i
 
 count-requires : tie.Need-count-requires Inv-loop μ-loop
-count-requires c κs = let z = c .before .before in headed-of (z .args .b .now) (z .pre .whole) .count
+count-requires c κs = let z = c .before .before in headed-of _ (z .args .b .now) (z .pre .whole) .count
 
 loop-holds : tie.Need-loop-holds Inv-loop μ-loop
 loop-holds c = let z = c .before .before .before in (refl, trial-start (z .args .f .now) (z .args .b .now) (z .pre))
@@ -27,7 +27,7 @@ loop-holds c = let z = c .before .before .before in (refl, trial-start (z .args 
 offset-requires : tie.Need-offset-requires Inv-loop μ-loop
 offset-requires c κs =
     let z = c .before .before .before .before .before in
-    let H = headed-of (z .args .b .now) (z .pre .whole) in
+    let H = headed-of _ (z .args .b .now) (z .pre .whole) in
     let n = c .before .before .count in
     (omega arith, omega (arith, H .offsets, n .ensures .0))
 

@@ -1,6 +1,9 @@
 -- The calls in the one order on the frame, in the other on its copy, and demand 3 speaks of them. Assumes nothing.
 use mathlib.Core.Path.{refl}
 use native.Mathlib.Omega.{arith}
+use Rattle.model.specs.Edition.{editionOf}
+use Rattle.store.specs.Write.{valueFor}
+use Rattle.store.proofs.PutCallLaws.{stamp-held}
 use Rattle.demanded.proofs.DemandedLaws.{ordered}
 use borrow.Author.Needs.{needs}
 use Rattle.demanded.proofs.orders.both_orders.Statement.{statement}
@@ -39,8 +42,8 @@ returns-2 c =
     let known = test .before in
     let z = known .before .before .before .before .before .before .before .before .args in
     ordered _
-    (z .first-kind) (z .first-key .now) (z .first-value .now) (λ a. omega (arith, known .before .before .before .shared-slice-known .given a)) (λ a. omega (arith, known .before .before .shared-slice-known2 .given a))
-    (z .second-kind) (z .second-key .now) (z .second-value .now) (λ a. omega (arith, known .before .shared-slice-known3 .given a)) (λ a. omega (arith, known .shared-slice-known4 .given a))
+    (z .first-kind) (z .first-key .now) (valueFor (editionOf (z .edition)) (z .first-value .now) (z .first-stamp)) (λ a. omega (arith, known .before .before .before .shared-slice-known .given a)) (λ a. omega (arith, known .before .before .shared-slice-known2 .given a)) (stamp-held (z .edition) (z .first-stamp))
+    (z .second-kind) (z .second-key .now) (valueFor (editionOf (z .edition)) (z .second-value .now) (z .second-stamp)) (λ a. omega (arith, known .before .shared-slice-known3 .given a)) (λ a. omega (arith, known .shared-slice-known4 .given a)) (stamp-held (z .edition) (z .second-stamp))
     (z .copy .now) (test .if1 .left) (copying .copy .ensures .1) (forth .in-order .ensures) (back .in-order2 .ensures)
 
 pub both-orders-spec : {M : Type 1} → statement M

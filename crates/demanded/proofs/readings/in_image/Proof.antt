@@ -1,5 +1,8 @@
 -- The three calls keep their promises, and demand 2 speaks of them. Assumes nothing.
 use native.Mathlib.Omega.{arith}
+use Rattle.model.specs.Edition.{editionOf}
+use Rattle.store.specs.Write.{valueFor}
+use Rattle.store.proofs.PutCallLaws.{stamp-held}
 use Rattle.demanded.proofs.DemandedLaws.{read-in-image}
 use borrow.Author.Needs.{needs}
 use Rattle.demanded.proofs.readings.in_image.Statement.{statement}
@@ -34,7 +37,7 @@ returns c =
     let putting = given .before .before .before in
     let start = putting .before .before in
     let z = start .before .before .before .before .args in
-    read-in-image _ (z .key .now) (z .value .now) (λ a. omega (arith, start .before .shared-slice-known .given a)) (λ a. omega (arith, start .shared-slice-known2 .given a))
+    read-in-image _ (z .key .now) (valueFor (editionOf (z .edition)) (z .value .now) (z .stamp)) (λ a. omega (arith, start .before .shared-slice-known .given a)) (λ a. omega (arith, start .shared-slice-known2 .given a)) (stamp-held (z .edition) (z .stamp))
     (rw (given .put-or-replace-number .ensures) (putting .put-or-replace .ensures)) (rw (packed .pack-number .ensures) (packing .pack .ensures)) (c .look-up .ensures)
 
 pub in-image-spec : {M : Type 1} → statement M

@@ -1,5 +1,8 @@
 -- The three calls keep their promises, and demand 2 speaks of them. Assumes nothing.
 use native.Mathlib.Omega.{arith}
+use Rattle.model.specs.Edition.{editionOf}
+use Rattle.store.specs.Write.{valueFor}
+use Rattle.store.proofs.PutCallLaws.{stamp-held}
 use Rattle.demanded.proofs.DemandedLaws.{read-in-new}
 use borrow.Author.Needs.{needs}
 use Rattle.demanded.proofs.readings.in_new.Statement.{statement}
@@ -31,7 +34,7 @@ returns c =
     let formatting = made .before .before .before in
     let start = formatting .before .before in
     let z = start .before .before .before .args in
-    read-in-new _ (z .key .now) (z .value .now) (λ a. omega (arith, start .before .shared-slice-known .given a)) (λ a. omega (arith, start .shared-slice-known2 .given a))
+    read-in-new _ (z .key .now) (valueFor (editionOf (z .edition)) (z .value .now) (z .stamp)) (λ a. omega (arith, start .before .shared-slice-known .given a)) (λ a. omega (arith, start .shared-slice-known2 .given a)) (stamp-held (z .edition) (z .stamp))
     (rw (← made .format-number .ensures) at (formatting .format .ensures)) (rw (← putting .put-number .ensures) at (call .put .ensures)) (c .look-up .ensures)
 
 pub in-new-spec : {M : Type 1} → statement M

@@ -1,5 +1,8 @@
 -- The changes in the one order on the frame, in the other on its copy, and any order speaks of them. Assumes nothing.
 use native.Mathlib.Omega.{arith}
+use Rattle.model.specs.Edition.{editionOf}
+use Rattle.store.specs.Write.{valueFor}
+use Rattle.store.proofs.PutCallLaws.{stamp-held}
 use Rattle.demanded.proofs.DemandedLaws.{of-bytes}
 use Rattle.demanded.proofs.SequenceLaws.{in-any-order}
 use borrow.Author.Needs.{needs}
@@ -39,9 +42,9 @@ returns-2 c =
     let known = test .before in
     let z = known .before .before .before .before .before .before .before .before .before .before .args in
     in-any-order _
-    (of-bytes (z .first-kind) (z .first-key .now) (z .first-value .now) (λ a. omega (arith, known .before .before .before .before .before .shared-slice-known .given a)) (λ a. omega (arith, known .before .before .before .before .shared-slice-known2 .given a)))
-    (of-bytes (z .second-kind) (z .second-key .now) (z .second-value .now) (λ a. omega (arith, known .before .before .before .shared-slice-known3 .given a)) (λ a. omega (arith, known .before .before .shared-slice-known4 .given a)))
-    (of-bytes (z .third-kind) (z .third-key .now) (z .third-value .now) (λ a. omega (arith, known .before .shared-slice-known5 .given a)) (λ a. omega (arith, known .shared-slice-known6 .given a)))
+    (of-bytes _ (z .first-kind) (z .first-key .now) (valueFor (editionOf (z .edition)) (z .first-value .now) (z .first-stamp)) (λ a. omega (arith, known .before .before .before .before .before .shared-slice-known .given a)) (λ a. omega (arith, known .before .before .before .before .shared-slice-known2 .given a)) (stamp-held (z .edition) (z .first-stamp)))
+    (of-bytes _ (z .second-kind) (z .second-key .now) (valueFor (editionOf (z .edition)) (z .second-value .now) (z .second-stamp)) (λ a. omega (arith, known .before .before .before .shared-slice-known3 .given a)) (λ a. omega (arith, known .before .before .shared-slice-known4 .given a)) (stamp-held (z .edition) (z .second-stamp)))
+    (of-bytes _ (z .third-kind) (z .third-key .now) (valueFor (editionOf (z .edition)) (z .third-value .now) (z .third-stamp)) (λ a. omega (arith, known .before .shared-slice-known5 .given a)) (λ a. omega (arith, known .shared-slice-known6 .given a)) (stamp-held (z .edition) (z .third-stamp)))
     (z .copy .now) (test .if1 .left) (copying .copy .ensures .1) (forth .in-row .ensures) (back .in-row2 .ensures)
 
 pub last-first-spec : {M : Type 1} → statement M

@@ -23,13 +23,19 @@ value-length-requires c κs =
     let z = c .before .before .before .before .before .before .before .before .pre .0 in
     found-leaf _ (z .stands) (c .before .before .before .before .descend .ensures (z .st) (z .stands)) (c .before .before .if1 .left) .room
 
+stamp-requires : tie.Need-stamp-requires
+stamp-requires c κs =
+    let z = c .before .before .before .before .before .before .before .before .before .pre .0 in
+    found-leaf _ (z .stands) (c .before .before .before .before .before .descend .ensures (z .st) (z .stands)) (c .before .before .before .if1 .left) .room
+
 returns-2 : tie.Need-returns-2
 returns-2 c =
-    let e = c .before .extent in
-    let n = c .value-length in
-    looked-some _ (c .before .before .before .before .before .descend .ensures) (e .result) (n .result) (c .before .before .before .if1 .left) (e .ensures .0) (n .ensures .0)
+    let n = c .before .value-length in
+    let e = c .before .before .extent in
+    let z = c .before .before .before .before in
+    looked-some _ (z .before .before .descend .ensures) (e .result) (n .result) (c .stamp .result) (z .if1 .left) (e .ensures .0) (n .ensures .0) (c .stamp .ensures)
 
 pub found-spec : {M : Type 1} → statement M
 found-spec =
     tie.close
-    (tie.spec descend-requires returns extent-requires add-from value-length-requires returns-2)
+    (tie.spec descend-requires returns extent-requires add-from value-length-requires stamp-requires returns-2)

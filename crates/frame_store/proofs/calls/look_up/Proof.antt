@@ -1,4 +1,4 @@
--- The number, place, length and slots are those of look-up's answer; a refusal writes nothing. Assumes nothing.
+-- The number, place, length, slots and stamp are those of look-up's answer; a refusal writes nothing. Assumes nothing.
 use borrow.Author.Needs.{needs}
 use Rattle.frame_store.proofs.LookUpLaws.{found-told, absent-told, refused-told}
 use Rattle.frame_store.proofs.calls.look_up.Statement.{statement}
@@ -34,7 +34,7 @@ returns c =
     let arm = tell .before .before .before in
     let number = arm .before .before in
     let look = number .before .look-up in
-    found-told (look .result) (look .ensures) (number .look-up-number .ensures) _ _ _ (arm .told .given .1) (tell .tell .ensures)
+    found-told (look .result) (look .ensures) (number .look-up-number .ensures) _ _ _ _ (arm .told .given .1) (tell .tell .ensures)
 
 same-length-2 : tie.Need-same-length-2
 same-length-2 c = search needs

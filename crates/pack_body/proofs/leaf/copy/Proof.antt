@@ -13,6 +13,9 @@ key-length-requires c κs = search needs
 value-length-requires : tie.Need-value-length-requires
 value-length-requires c κs = search needs
 
+stamp-requires : tie.Need-stamp-requires
+stamp-requires c κs = search needs
+
 add-to : tie.Need-add-to
 add-to c = search needs
 
@@ -61,10 +64,11 @@ same-length c = search needs
 returns : tie.Need-returns
 returns c =
     let z = c .before .before .before .before .before .before .before .before .before .before in
-    let x = z .before .before .extent in
-    let n = z .before .key-length in
-    let w = z .value-length in
-    leaf-copied (z .before .before .before .before .before .pre) (x .result) (n .result) (w .result) (x .ensures .0) (n .ensures .0) (w .ensures .0) (c .before .before .before .before .before .before .before .before .write .ensures) (c .before .before .before .paste .ensures) (c .rounded .ensures)
+    let x = z .before .before .before .extent in
+    let n = z .before .before .key-length in
+    let w = z .before .value-length in
+    let t = z .stamp in
+    leaf-copied (z .before .before .before .before .before .before .pre) (x .result) (n .result) (w .result) (t .result) (x .ensures .0) (n .ensures .0) (w .ensures .0) (t .ensures) (c .before .before .before .before .before .before .before .before .write .ensures) (c .before .before .before .paste .ensures) (c .rounded .ensures)
 
 pub copy-spec : {M : Type 1} → statement M
 copy-spec =
@@ -73,6 +77,7 @@ copy-spec =
     extent-requires
     key-length-requires
     value-length-requires
+    stamp-requires
     add-to
     add-to-2
     add-write

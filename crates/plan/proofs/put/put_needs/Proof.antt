@@ -1,9 +1,10 @@
 -- `put_needs` gives the takes and the extent of the put. Assumes nothing.
+use Prim.Native.Nat.{_+_}
 use mathlib.Core.List.{[]}
 use native.Mathlib.Omega.{arith}
 use lib.ListN.{length}
 use lib.Dec.{eqb}
-use Rattle.model.specs.Tree.{extentOf}
+use Rattle.model.specs.Tree.{up8}
 use Rattle.room.proofs.FitLaws.{asks-small}
 use Rattle.plan.specs.Plan.{forkTakes, growTakes}
 use Rattle.plan.proofs.PutLaws.{sized, sized-if, small-found, small-new, fork-few, grow-few, asks-empty, asks-found, asks-other, asks-missing, asks-parted, size-fits, extent-fits, leaf-room, node-room, other-short, beginning-at, cut-fits, cut-few, last-end}
@@ -31,7 +32,7 @@ returns c =
     let z = size .before .before .before .before in
     let v = z .args .value .now in (
       small-found (eqb (length v) (old .result)) (size .rounded .result) (c .replacing .ensures) (extent-fits (z .pre .holds) (size .rounded .ensures)),
-      λ E st W S. asks-found W S v (old .result) (found .if1 .taken) (old .ensures .0) (sized-if (eqb (length v) (old .result)) (size .rounded .result) (extentOf (z .args .key .now) v) (size .rounded .ensures) (c .replacing .ensures)),
+      λ E st W S t. asks-found W S (record { bytes = v; stamp = t }) (old .result) (found .if1 .taken) (old .ensures .0) (sized-if (eqb (length v) (old .result)) (size .rounded .result) (up8 (length (z .args .key .now) + length v)) (size .rounded .ensures) (c .replacing .ensures)),
     )
 
 none-requires : tie.Need-none-requires
@@ -47,7 +48,7 @@ returns-2 c =
     let z = size .before .before .before .before in
     let A = c .recording .ensures [] (c .before .none .ensures) in (
       small-new A (omega arith) (extent-fits (z .pre .holds) (size .rounded .ensures)),
-      λ E st W S. asks-empty W S (z .args .value .now) (empty .if2 .taken) (sized (size .rounded .ensures) A),
+      λ E st W S t. asks-empty W S (record { bytes = z .args .value .now; stamp = t }) (empty .if2 .taken) (sized (size .rounded .ensures) A),
     )
 
 bodies-of-requires : tie.Need-bodies-of-requires
@@ -67,7 +68,7 @@ returns-3 c =
     let z = size .before .before .before .before in
     let A = c .recording2 .ensures (forkTakes (many .bodies-of .result)) (c .before .forking .ensures .asks) in (
       small-new A (fork-few (many .bodies-of .result) (omega (arith, many .bodies-of .ensures, other-short (z .pre .holds) (other .if3 .taken)))) (extent-fits (z .pre .holds) (size .rounded .ensures)),
-      λ E st W S. asks-other W S (z .args .value .now) (many .bodies-of .result) (other .if3 .taken) (many .bodies-of .ensures) (sized (size .rounded .ensures) A),
+      λ E st W S t. asks-other W S (record { bytes = z .args .value .now; stamp = t }) (many .bodies-of .result) (other .if3 .taken) (many .bodies-of .ensures) (sized (size .rounded .ensures) A),
     )
 
 count-requires : tie.Need-count-requires
@@ -88,7 +89,7 @@ returns-4 c =
     let kind = z .args .spot .here .kind in
     let A = c .recording3 .ensures (growTakes (has .count .result) kind) (c .before .growing .ensures .asks) in (
       small-new A (grow-few (has .count .result) kind) (extent-fits (z .pre .holds) (size .rounded .ensures)),
-      λ E st W S. asks-missing W S (z .args .value .now) (has .count .result) (missing .if4 .taken) (has .count .ensures .1 kind) (sized (size .rounded .ensures) A),
+      λ E st W S t. asks-missing W S (record { bytes = z .args .value .now; stamp = t }) (has .count .result) (missing .if4 .taken) (has .count .ensures .1 kind) (sized (size .rounded .ensures) A),
     )
 
 beginning-requires : tie.Need-beginning-requires
@@ -127,7 +128,7 @@ returns-5 c =
     let f = cut-fits (z .pre .holds) e (whole .beginning .ensures) in
     let A = c .recording4 .ensures (forkTakes (cut .cutting .result)) (c .before .forking2 .ensures .asks) in (
       small-new A (fork-few (cut .cutting .result) (cut-few q (whole .beginning .result) (cut .cutting .result) (f .1) (f .2) (cut .cutting .ensures))) (extent-fits (z .pre .holds) (size .rounded .ensures)),
-      λ E st W S. asks-parted W S (z .args .value .now) (cut .cutting .result) (whole .beginning .result) e (whole .beginning .ensures) (cut .cutting .ensures) (sized (size .rounded .ensures) A),
+      λ E st W S t. asks-parted W S (record { bytes = z .args .value .now; stamp = t }) (cut .cutting .result) (whole .beginning .result) e (whole .beginning .ensures) (cut .cutting .ensures) (sized (size .rounded .ensures) A),
     )
 
 pub put-needs-spec : {M : Type 1} → statement M

@@ -3,7 +3,7 @@ use mathlib.Core.Path.{sym, _∙_}
 use mathlib.Core.List.{[]}
 use native.Mathlib.Omega.{arith}
 use Rattle.model.specs.Edition.{editionOf}
-use Rattle.shape.proofs.LeafLaws.{LeafRead, leaf-denied, leaf-room, leaf-extent, leaf-blank, leaf-key, leaf-end, under-lone, part-is}
+use Rattle.shape.proofs.LeafLaws.{LeafRead, leaf-denied, leaf-room, leaf-extent, leaf-stamp, leaf-key, leaf-end, under-lone, part-is}
 use Rattle.pieces.proofs.DecideLaws.{refuted, passed}
 use borrow.Author.Needs.{needs}
 use Rattle.shape.proofs.leaf.lone_good.Statement.{statement}
@@ -41,11 +41,11 @@ extent-fits-requires c κs = search needs
 returns : tie.Need-returns
 returns c = leaf-denied (λ e n H. refuted (c .before .extent-fits .ensures) (c .if1 .taken) (leaf-extent (c .before .before .before .before .before .before .before .args .f .now) [] (c .before .before .before .before .before .before .before .args .o) (c .before .before .before .before .before .before .before .args .d) (c .before .before .before .before .before .before .before .args .b) (c .before .before .before .before .before .extent .result) (c .before .before .before .before .key-length .result) (c .before .before .before .value-length .result) (c .before .before .rounded .result) (fields (c .before .before)) e n H))
 
-zeros-good-requires : tie.Need-zeros-good-requires
-zeros-good-requires c κs = search needs
+stamp-good-requires : tie.Need-stamp-good-requires
+stamp-good-requires c κs = search needs
 
 returns-2 : tie.Need-returns-2
-returns-2 c = leaf-denied (λ e n H. refuted (c .before .zeros-good .ensures) (c .if2 .taken) (leaf-blank (c .before .before .before .before .before .before .before .before .before .args .f .now) [] (c .before .before .before .before .before .before .before .before .before .args .o) (c .before .before .before .before .before .before .before .before .before .args .d) (c .before .before .before .before .before .before .before .before .before .args .b) (c .before .before .before .before .before .before .before .extent .result) (c .before .before .before .before .before .before .key-length .result) (c .before .before .before .before .before .value-length .result) (c .before .before .before .before .rounded .result) (fields (c .before .before .before .before)) e n H))
+returns-2 c = leaf-denied (λ e n H. refuted (c .before .stamp-good .ensures) (c .if2 .taken) (leaf-stamp (c .before .before .before .before .before .before .before .before .before .args .f .now) [] (c .before .before .before .before .before .before .before .before .before .args .o) (c .before .before .before .before .before .before .before .before .before .args .d) (c .before .before .before .before .before .before .before .before .before .args .b) (c .before .before .before .before .before .before .before .extent .result) (c .before .before .before .before .before .before .key-length .result) (c .before .before .before .before .before .value-length .result) (c .before .before .before .before .rounded .result) (fields (c .before .before .before .before)) e n H))
 
 add-fault : tie.Need-add-fault
 add-fault c = search needs
@@ -66,7 +66,7 @@ returns-3 : tie.Need-returns-3
 returns-3 c = leaf-denied (λ e n H. c .if3 .taken (c .before .fault .ensures ∙ part-is (editionOf (c .before .before .before .before .before .before .before .before .before .before .before .before .args .edition)) (c .before .before .before .before .before .before .before .before .before .before .before .before .args .f .now) (c .before .before .before .before .before .before .before .before .before .before .extent .result) (c .before .before .before .before .before .before .before .before .before .key-length .result) ∙ leaf-key (c .before .before .before .before .before .before .before .before .before .before .before .before .args .f .now) [] (c .before .before .before .before .before .before .before .before .before .before .before .before .args .o) (c .before .before .before .before .before .before .before .before .before .before .before .before .args .d) (c .before .before .before .before .before .before .before .before .before .before .before .before .args .b) (c .before .before .before .before .before .before .before .before .before .before .extent .result) (c .before .before .before .before .before .before .before .before .before .key-length .result) (c .before .before .before .before .before .before .before .before .value-length .result) (c .before .before .before .before .before .before .before .rounded .result) (fields (c .before .before .before .before .before .before .before)) e n H .legal))
 
 returns-4 : tie.Need-returns-4
-returns-4 c = leaf-end (c .before .before .before .before .before .before .before .before .before .before .before .before .args .f .now) [] (c .before .before .before .before .before .before .before .before .before .before .before .before .args .o) (c .before .before .before .before .before .before .before .before .before .before .before .before .args .d) (c .before .before .before .before .before .before .before .before .before .before .before .before .args .b) (c .before .before .before .before .before .before .before .before .before .before .extent .result) (c .before .before .before .before .before .before .before .before .before .key-length .result) (c .before .before .before .before .before .before .before .before .value-length .result) (c .before .before .before .before .before .before .before .rounded .result) (fields (c .before .before .before .before .before .before .before)) (c .before .before .before .before .before .before .before .before .before .before .before .before .pre .1) (passed (c .before .before .before .before .before .before .extent-fits .ensures) (c .before .before .before .before .before .if1 .left)) (passed (c .before .before .before .before .zeros-good .ensures) (c .before .before .before .if2 .left)) (under-lone (sym (part-is (editionOf (c .before .before .before .before .before .before .before .before .before .before .before .before .args .edition)) (c .before .before .before .before .before .before .before .before .before .before .before .before .args .f .now) (c .before .before .before .before .before .before .before .before .before .before .extent .result) (c .before .before .before .before .before .before .before .before .before .key-length .result)) ∙ sym (c .before .fault .ensures) ∙ c .if3 .left))
+returns-4 c = leaf-end (c .before .before .before .before .before .before .before .before .before .before .before .before .args .f .now) [] (c .before .before .before .before .before .before .before .before .before .before .before .before .args .o) (c .before .before .before .before .before .before .before .before .before .before .before .before .args .d) (c .before .before .before .before .before .before .before .before .before .before .before .before .args .b) (c .before .before .before .before .before .before .before .before .before .before .extent .result) (c .before .before .before .before .before .before .before .before .before .key-length .result) (c .before .before .before .before .before .before .before .before .value-length .result) (c .before .before .before .before .before .before .before .rounded .result) (fields (c .before .before .before .before .before .before .before)) (c .before .before .before .before .before .before .before .before .before .before .before .before .pre .1) (passed (c .before .before .before .before .before .before .extent-fits .ensures) (c .before .before .before .before .before .if1 .left)) (passed (c .before .before .before .before .stamp-good .ensures) (c .before .before .before .if2 .left)) (under-lone (sym (part-is (editionOf (c .before .before .before .before .before .before .before .before .before .before .before .before .args .edition)) (c .before .before .before .before .before .before .before .before .before .before .before .before .args .f .now) (c .before .before .before .before .before .before .before .before .before .before .extent .result) (c .before .before .before .before .before .before .before .before .before .key-length .result)) ∙ sym (c .before .fault .ensures) ∙ c .if3 .left))
 
 pub lone-good-spec : {M : Type 1} → statement M
 lone-good-spec =
@@ -79,7 +79,7 @@ lone-good-spec =
     rounded-requires
     extent-fits-requires
     returns
-    zeros-good-requires
+    stamp-good-requires
     returns-2
     add-fault
     sub-fault

@@ -11,12 +11,12 @@ check-requires c κs = search needs
 returns : tie.Need-returns
 returns c =
     let n = c .before in
-    bar-one _ _ _ _ (n .check .ensures) (omega arith)
+    λ a s. bar-one _ _ _ _ (n .check .ensures) (omega arith) a
 
 returns-2 : tie.Need-returns-2
 returns-2 c =
     let n = c .before .before in
-    bar-two _ _ _ _ (n .check .ensures) (λ z. omega arith) (λ z. omega arith)
+    λ a s. bar-two _ _ _ _ (n .check .ensures) (λ z. omega arith) (λ z. omega arith) a
 
 fault-requires : tie.Need-fault-requires
 fault-requires c κs = search needs
@@ -25,25 +25,25 @@ returns-3 : tie.Need-returns-3
 returns-3 c =
     let key = c .before in
     let n = key .before .before .before in
-    bar-three _ _ _ _ (n .check .ensures) (omega arith) (key .fault .ensures) (omega arith)
+    λ a s. bar-three _ _ _ _ (n .check .ensures) (omega arith) (key .fault .ensures) (omega arith) a
 
 returns-4 : tie.Need-returns-4
 returns-4 c =
     let key = c .before .before in
     let n = key .before .before .before in
-    bar-four _ _ _ _ (n .check .ensures) (omega arith) (key .fault .ensures) (λ z. omega arith) (λ z. omega arith)
+    λ a s. bar-four _ _ _ _ (n .check .ensures) (omega arith) (key .fault .ensures) (λ z. omega arith) (λ z. omega arith) a
 
 returns-5 : tie.Need-returns-5
 returns-5 c =
     let key = c .before .before .before in
     let n = key .before .before .before in
-    bar-five _ _ _ _ (n .check .ensures) (omega arith) (key .fault .ensures) (omega arith) (omega arith)
+    λ a s. bar-five _ _ _ _ (n .check .ensures) (omega arith) (key .fault .ensures) (omega arith) (omega arith) a
 
 returns-6 : tie.Need-returns-6
 returns-6 c =
     let key = c .before .before .before in
     let n = key .before .before .before in
-    bar-none _ _ _ _ (n .check .ensures) (omega arith) (key .fault .ensures) (omega arith) (omega arith) (λ a. omega (arith, n .before .before .shared-slice-known2 .given a)) (λ a. omega (arith, n .before .shared-slice-known3 .given a))
+    λ s h. bar-none _ _ _ _ (n .check .ensures) (omega arith) (key .fault .ensures) (omega arith) (omega arith) (λ a. omega (arith, n .before .before .shared-slice-known2 .given a)) (λ a. omega (arith, n .before .shared-slice-known3 .given a)) h
 
 pub against-spec : {M : Type 1} → statement M
 against-spec =

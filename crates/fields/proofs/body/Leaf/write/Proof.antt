@@ -22,20 +22,8 @@ add-write2-2 c = search needs
 write2-requires-2 : tie.Need-write2-requires-2
 write2-requires-2 c κs = search needs
 
-add-write4-2 : tie.Need-add-write4-2
-add-write4-2 c = search needs
-
-write4-requires-2 : tie.Need-write4-requires-2
-write4-requires-2 c κs = search needs
-
-add-write4-3 : tie.Need-add-write4-3
-add-write4-3 c = search needs
-
-add-write4-4 : tie.Need-add-write4-4
-add-write4-4 c = search needs
-
-write4-requires-3 : tie.Need-write4-requires-3
-write4-requires-3 c κs = search needs
+set-stamp-requires : tie.Need-set-stamp-requires
+set-stamp-requires c κs = search needs
 
 same-length : tie.Need-same-length
 same-length c = search needs
@@ -54,10 +42,6 @@ write-spec =
     write2-requires
     add-write2-2
     write2-requires-2
-    add-write4-2
-    write4-requires-2
-    add-write4-3
-    add-write4-4
-    write4-requires-3
+    set-stamp-requires
     same-length
     returns)
