@@ -238,74 +238,69 @@ pub fn along(
     let mut place = top.place;
     let mut kind = top.high;
     let mut depth = 0;
-    let mut n = 0;
-    let mut i = 0;
-    let mut from = 0;
-    let mut arriving = true;
     loop {
-        if arriving {
-            if kind == Kind::PREFIX {
-                let k = past_prefix(f, map, path, depth, slot, place, bounds, sums);
-                sums = k.sums;
-                if !sums.good {
-                    return refused();
-                }
-                slot = k.slot;
-                place = k.place;
-                kind = k.kind;
-                depth = k.depth;
-                continue;
-            }
-            sums = node(f, map, depth, kind, place, bounds, sums, path.len());
+        if kind == Kind::PREFIX {
+            let k = past_prefix(f, map, path, depth, slot, place, bounds, sums);
+            sums = k.sums;
             if !sums.good {
                 return refused();
             }
-            n = look::count(f, place);
-            i = 0;
-            from = 0;
-            arriving = false;
+            slot = k.slot;
+            place = k.place;
+            kind = k.kind;
+            depth = k.depth;
             continue;
         }
-        if i < n {
-            let c = child_at(f, place, kind, i, from);
-            path[depth] = c.byte as u8;
-            if c.slot < 1 {
-                return refused();
-            }
-            if given < c.slot {
-                return refused();
-            }
-            let e = Entry::read(f, c.slot);
-            if e.high == Kind::LEAF {
-                sums = leaf(f, map, path, depth + 1, e.place, bounds, sums, edition);
-                if !sums.good {
+        sums = node(f, map, depth, kind, place, bounds, sums, path.len());
+        if !sums.good {
+            return refused();
+        }
+        let mut n = look::count(f, place);
+        let mut i = 0;
+        let mut from = 0;
+        let mut below = false;
+        while !below {
+            if i < n {
+                let c = child_at(f, place, kind, i, from);
+                path[depth] = c.byte as u8;
+                if c.slot < 1 {
                     return refused();
                 }
-                from = c.byte + 1;
-                i += 1;
+                if given < c.slot {
+                    return refused();
+                }
+                let e = Entry::read(f, c.slot);
+                if e.high == Kind::LEAF {
+                    sums = leaf(f, map, path, depth + 1, e.place, bounds, sums, edition);
+                    if !sums.good {
+                        return refused();
+                    }
+                    from = c.byte + 1;
+                    i += 1;
+                    continue;
+                }
+                waits[waiting] = Wait::number(slot, depth, i);
+                waiting += 1;
+                slot = c.slot;
+                place = e.place;
+                kind = e.high;
+                depth += 1;
+                below = true;
                 continue;
             }
-            waits[waiting] = Wait::number(slot, depth, i);
-            waiting += 1;
-            slot = c.slot;
+            if waiting == 0 {
+                return sums;
+            }
+            waiting -= 1;
+            let w = Wait::read(waits[waiting]);
+            slot = w.slot;
+            depth = w.depth;
+            i = w.turn + 1;
+            from = path[depth] as usize + 1;
+            let e = Entry::read(f, slot);
             place = e.place;
             kind = e.high;
-            depth += 1;
-            arriving = true;
-            continue;
+            n = look::count(f, place);
         }
-        if waiting == 0 {
-            return sums;
-        }
-        waiting -= 1;
-        let w = Wait::read(waits[waiting]);
-        slot = w.slot;
-        depth = w.depth;
-        i = w.turn + 1;
-        from = path[depth] as usize + 1;
-        let e = Entry::read(f, slot);
-        place = e.place;
-        kind = e.high;
-        n = look::count(f, place);
     }
 }
