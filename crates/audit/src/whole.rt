@@ -157,8 +157,8 @@ const DEPTHS: usize = 113;
 
 const DEPTHS_SECOND: usize = 512;
 
-// No more nodes wait than slots are given out; a frame of the least length has at most 238: 64 bytes before the entries of 4, and 8 behind them.
-const FEW_SLOTS: usize = 240;
+// No more nodes wait than slots are given out, and a small frame has often no more than these.
+const FEW_SLOTS: usize = 32;
 
 // The same with arrays for the paths of edition 1.
 fn near(f: &[u8], map: &mut [u64], edition: usize, wiped: bool) -> bool
@@ -170,12 +170,12 @@ fn near(f: &[u8], map: &mut [u64], edition: usize, wiped: bool) -> bool
     over(f, map, &mut path, &mut waits, edition, wiped)
 }
 
-// The same with arrays for the paths of every edition, in a frame of few slots.
-fn few(f: &[u8], map: &mut [u64], edition: usize, wiped: bool) -> bool
-    requires { ⌜ HeaderFits (editionOf edition) (now f) × (length (now f) ≤ 512 * length (now map)) × Seen (now map) [] × (le 4 (now f) atU ≤ 240) ⌝ }
+// The same in a frame of few slots.
+fn near_few(f: &[u8], map: &mut [u64], edition: usize, wiped: bool) -> bool
+    requires { ⌜ HeaderFits (editionOf edition) (now f) × (length (now f) ≤ 512 * length (now map)) × Seen (now map) [] × (editionOf edition .longest ≤ 113) × (le 4 (now f) atU ≤ 32) ⌝ }
     ensures { λ r. ⌜ Decides (Good (byRule edition wiped) (now (f .entry))) r ⌝ }
 {
-    let mut path: [u8; DEPTHS_SECOND] = [0; DEPTHS_SECOND];
+    let mut path: [u8; DEPTHS] = [0; DEPTHS];
     let mut waits: [u32; FEW_SLOTS] = [0; FEW_SLOTS];
     over(f, map, &mut path, &mut waits, edition, wiped)
 }
@@ -190,18 +190,14 @@ fn far(f: &[u8], map: &mut [u64], edition: usize, wiped: bool) -> bool
     over(f, map, &mut path, &mut waits, edition, wiped)
 }
 
-// The same with arrays on the stack that are no larger than they need be.
-fn fitted(f: &[u8], map: &mut [u64], edition: usize, wiped: bool) -> bool
-    requires { ⌜ HeaderFits (editionOf edition) (now f) × (length (now f) ≤ 512 * length (now map)) × Seen (now map) [] ⌝ }
+// The same in a frame of few slots.
+fn far_few(f: &[u8], map: &mut [u64], edition: usize, wiped: bool) -> bool
+    requires { ⌜ HeaderFits (editionOf edition) (now f) × (length (now f) ≤ 512 * length (now map)) × Seen (now map) [] × (le 4 (now f) atU ≤ 32) ⌝ }
     ensures { λ r. ⌜ Decides (Good (byRule edition wiped) (now (f .entry))) r ⌝ }
 {
-    if edition == Header::SECOND_EDITION {
-        if Header::slots_given(f) <= FEW_SLOTS {
-            return few(f, map, edition, wiped);
-        }
-        return far(f, map, edition, wiped);
-    }
-    near(f, map, edition, wiped)
+    let mut path: [u8; DEPTHS_SECOND] = [0; DEPTHS_SECOND];
+    let mut waits: [u32; FEW_SLOTS] = [0; FEW_SLOTS];
+    over(f, map, &mut path, &mut waits, edition, wiped)
 }
 
 // Words of the map, 64 units each, and the longest frames that the smaller maps are for.
@@ -220,7 +216,16 @@ fn smallest(f: &[u8], edition: usize, wiped: bool) -> bool
     ensures { λ r. ⌜ Decides (Good (byRule edition wiped) (now (f .entry))) r ⌝ }
 {
     let mut map: [u64; SMALLEST_MAP] = [0; SMALLEST_MAP];
-    fitted(f, &mut map, edition, wiped)
+    if Header::slots_given(f) <= FEW_SLOTS {
+        if edition == Header::SECOND_EDITION {
+            return far_few(f, &mut map, edition, wiped);
+        }
+        return near_few(f, &mut map, edition, wiped);
+    }
+    if edition == Header::SECOND_EDITION {
+        return far(f, &mut map, edition, wiped);
+    }
+    near(f, &mut map, edition, wiped)
 }
 
 fn small(f: &[u8], edition: usize, wiped: bool) -> bool
@@ -228,7 +233,10 @@ fn small(f: &[u8], edition: usize, wiped: bool) -> bool
     ensures { λ r. ⌜ Decides (Good (byRule edition wiped) (now (f .entry))) r ⌝ }
 {
     let mut map: [u64; SMALL_MAP] = [0; SMALL_MAP];
-    fitted(f, &mut map, edition, wiped)
+    if edition == Header::SECOND_EDITION {
+        return far(f, &mut map, edition, wiped);
+    }
+    near(f, &mut map, edition, wiped)
 }
 
 fn large(f: &[u8], edition: usize, wiped: bool) -> bool
@@ -236,7 +244,10 @@ fn large(f: &[u8], edition: usize, wiped: bool) -> bool
     ensures { λ r. ⌜ Decides (Good (byRule edition wiped) (now (f .entry))) r ⌝ }
 {
     let mut map: [u64; LARGE_MAP] = [0; LARGE_MAP];
-    fitted(f, &mut map, edition, wiped)
+    if edition == Header::SECOND_EDITION {
+        return far(f, &mut map, edition, wiped);
+    }
+    near(f, &mut map, edition, wiped)
 }
 
 // All, with a map on the stack that is no larger than it need be.

@@ -2,8 +2,8 @@
 use native.Mathlib.Omega.{arith}
 use Rattle.model.proofs.Edition2.{lawfulOf}
 use borrow.Author.Needs.{needs}
-use Rattle.audit.proofs.whole.few.Statement.{statement}
-use Rattle.audit.proofs.whole.few.Tie as tie
+use Rattle.audit.proofs.whole.far_few.Statement.{statement}
+use Rattle.audit.proofs.whole.far_few.Tie as tie
 
 slice-aggregate-over : tie.Need-slice-aggregate-over
 slice-aggregate-over c = search needs
@@ -22,7 +22,7 @@ same-length c = search needs
 returns : tie.Need-returns
 returns c = search needs
 
-pub few-spec : {M : Type 1} → statement M
-few-spec =
+pub far-few-spec : {M : Type 1} → statement M
+far-few-spec =
     tie.close
     (tie.spec slice-aggregate-over slice-aggregate-over-2 over-requires same-length returns)

@@ -1,0 +1,27 @@
+-- No more nodes wait than slots are given out. Assumes nothing.
+use native.Mathlib.Omega.{arith}
+use borrow.Author.Needs.{needs}
+use Rattle.audit.proofs.whole.near_few.Statement.{statement}
+use Rattle.audit.proofs.whole.near_few.Tie as tie
+
+slice-aggregate-over : tie.Need-slice-aggregate-over
+slice-aggregate-over c = search needs
+
+slice-aggregate-over-2 : tie.Need-slice-aggregate-over-2
+slice-aggregate-over-2 c = search needs
+
+over-requires : tie.Need-over-requires
+over-requires c κs =
+    let p = c .before .before .before .before .before .pre in
+    (p .0, p .1, p .2, record { words = p .3; most = omega arith; room = λ k a z. omega (arith, z, p .4) })
+
+same-length : tie.Need-same-length
+same-length c = search needs
+
+returns : tie.Need-returns
+returns c = search needs
+
+pub near-few-spec : {M : Type 1} → statement M
+near-few-spec =
+    tie.close
+    (tie.spec slice-aggregate-over slice-aggregate-over-2 over-requires same-length returns)
