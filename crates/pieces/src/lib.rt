@@ -10,7 +10,8 @@ ghost use Rattle.pieces.specs.Range.{Blank, Clean, Joined, Paired, Alike
 // The bytes of a piece, in a long range and in shorter ones.
 const PIECE: usize = 16;
 
-const HALF: usize = 8;
+// A caller may lend it to `full_by` where its range has as many bytes.
+pub const HALF: usize = 8;
 
 const QUARTER: usize = 4;
 
@@ -109,6 +110,21 @@ fn no_zero_short(f: &[u8], from: usize, to: usize) -> bool
     full(f, to - QUARTER, QUARTER)
 }
 
+// No byte of from..to is 0, in pieces of a length that the range has.
+pub fn full_by(f: &[u8], from: usize, to: usize, piece: usize) -> bool
+    requires { ⌜ (1 ≤ piece) × (from + piece ≤ to) × (to ≤ length (now f)) ⌝ }
+    ensures { λ r. ⌜ Decides (Clean (now (f .entry)) from to) r ⌝ }
+{
+    let mut i = from;
+    while i + piece < to {
+        if !full(f, i, piece) {
+            return false;
+        }
+        i += piece;
+    }
+    full(f, to - piece, piece)
+}
+
 // No byte of from..to is 0.
 pub fn no_zero(f: &[u8], from: usize, to: usize) -> bool
     requires { ⌜ (from ≤ to) × (to ≤ length (now f)) ⌝ }
@@ -118,19 +134,9 @@ pub fn no_zero(f: &[u8], from: usize, to: usize) -> bool
         return no_zero_short(f, from, to);
     }
     if to - from < PIECE {
-        if !full(f, from, HALF) {
-            return false;
-        }
-        return full(f, to - HALF, HALF);
+        return full_by(f, from, to, HALF);
     }
-    let mut i = from;
-    while i + PIECE < to {
-        if !full(f, i, PIECE) {
-            return false;
-        }
-        i += PIECE;
-    }
-    full(f, to - PIECE, PIECE)
+    full_by(f, from, to, PIECE)
 }
 
 // ---- every byte of a range is 0

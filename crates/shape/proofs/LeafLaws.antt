@@ -47,7 +47,7 @@ module _ (f : List ℕ) (e k : ℕ) (path : List ℕ) (depth : ℕ) where
   pub plain-follows : (n : ℕ) → n ≤ depth → n ≤ k → PlainHere f e k path depth → Alike f e path 0 n
   plain-follows n x y K i l = let z : 0 + i ≡ i = omega arith in rw z (K .same i (omega arith) (omega arith))
 
-  pub plain-here : (n : ℕ) → 1 ≤ k → k ≤ 112 → ((i : ℕ) → i < depth → i < k → i < n) → Ends path k depth → Alike f e path 0 n → Clean f e (e + k) → PlainHere f e k path depth
+  plain-here : (n : ℕ) → 1 ≤ k → k ≤ 112 → ((i : ℕ) → i < depth → i < k → i < n) → Ends path k depth → Alike f e path 0 n → Clean f e (e + k) → PlainHere f e k path depth
   plain-here n a z h E F C =
       record { some = a; most = z; short = E .short; clean = C; same = λ i x y. let z : 0 + i ≡ i = omega arith in rw z at (F i (h i x y)); end = E .end }
 
@@ -78,7 +78,7 @@ module _ (f : List ℕ) (e k : ℕ) (path : List ℕ) (depth : ℕ) where
           end = λ l. sym (W k l) ∙ List·getD-eq-default key 0 (omega arith);
         }
 
-    pub plain-is : PlainHere f e k path depth → Under edition1 (take depth path) (take k (drop e f))
+    plain-is : PlainHere f e k path depth → Under edition1 (take depth path) (take k (drop e f))
     plain-is K =
         let key = take k (drop e f) in
         let m = key-long in
@@ -96,6 +96,10 @@ module _ (f : List ℕ) (e k : ℕ) (path : List ℕ) (depth : ℕ) where
           same = λ i l. walked-at key i ∙ W i (omega arith) ∙ sym (getD-take depth path i 0 (omega arith));
         } in
         record { legal = key-taken key K'; begins = at-begins (edition1 .walked key) (take depth path) B }
+
+    -- where the rest has passed, the test of the key's bytes decides
+    pub plain-by : (n : ℕ) → 1 ≤ k → k ≤ 112 → ((i : ℕ) → i < depth → i < k → i < n) → Ends path k depth → Alike f e path 0 n → {r : Bool} → Decides (Clean f e (e + k)) r → Decides (Under edition1 (take depth path) (take k (drop e f))) r
+    plain-by n a z h E F D = handed D (λ C. plain-is (plain-here n a z h E F C)) (λ U. plain-of U .clean)
 
 -- ---- a legal key of edition 2
 

@@ -70,7 +70,11 @@ fn plain_good(f: &[u8], e: usize, k: usize, path: &[u8], depth: usize) -> bool
     if !pieces::same(f, e, path, 0, lesser(depth, k)) {
         return false;
     }
-    pieces::no_zero(f, e, e + k)
+    if k < pieces::HALF {
+        return pieces::no_zero(f, e, e + k);
+    }
+    // a key of 8 bytes or more is tested where it stands: no call for each Leaf
+    pieces::full_by(f, e, e + k, pieces::HALF)
 }
 
 // The key is a legal one of edition 2, and its walked string begins with the path.

@@ -1,7 +1,7 @@
 -- `plain_good` decides that a key of edition 1 is legal and begins with the path, with LeafLaws at each exit. Assumes nothing.
 use native.Mathlib.Omega.{arith}
-use Rattle.shape.proofs.LeafLaws.{plain-end, plain-follows, plain-here, plain-of, plain-is}
-use Rattle.pieces.proofs.DecideLaws.{denied, refuted, passed, handed}
+use Rattle.shape.proofs.LeafLaws.{plain-end, plain-follows, plain-of, plain-by}
+use Rattle.pieces.proofs.DecideLaws.{denied, refuted, passed}
 use borrow.Author.Needs.{needs}
 use Rattle.shape.proofs.leaf.plain_good.Statement.{statement}
 use Rattle.shape.proofs.leaf.plain_good.Tie as tie
@@ -47,13 +47,22 @@ no-zero-requires : tie.Need-no-zero-requires
 no-zero-requires c κs = search needs
 
 returns-5 : tie.Need-returns-5
-returns-5 c = let z = c .before .before .before .before .before .before .before .before .before .before in
+returns-5 c = let z = c .before .before .before .before .before .before .before .before .before .before .before in
     let a = z .args in
-    let P = plain-of (a .f .now) (a .e) (a .k) (a .path .now) (a .depth) (z .pre .0) (z .pre .1) in
-    let l = c .before .before .before .lesser in
-    handed (c .no-zero .ensures)
-    (λ C. plain-is (a .f .now) (a .e) (a .k) (a .path .now) (a .depth) (z .pre .0) (z .pre .1) (plain-here (a .f .now) (a .e) (a .k) (a .path .now) (a .depth) (l .result) (omega arith) (omega arith) (l .ensures .2) (passed (c .before .before .before .before .before .ends .ensures) (c .before .before .before .before .if3 .left)) (passed (c .before .before .same .ensures) (c .before .if4 .left)) C))
-    (λ U. P U .clean)
+    let l = c .before .before .before .before .lesser in
+    plain-by (a .f .now) (a .e) (a .k) (a .path .now) (a .depth) (z .pre .0) (z .pre .1) (l .result) (omega arith) (omega arith) (l .ensures .2) (passed (c .before .before .before .before .before .before .ends .ensures) (c .before .before .before .before .before .if3 .left)) (passed (c .before .before .before .same .ensures) (c .before .before .if4 .left)) (c .no-zero .ensures)
+
+add-full-by : tie.Need-add-full-by
+add-full-by c = search needs
+
+full-by-requires : tie.Need-full-by-requires
+full-by-requires c κs = search needs
+
+returns-6 : tie.Need-returns-6
+returns-6 c = let z = c .before .before .before .before .before .before .before .before .before .before .before in
+    let a = z .args in
+    let l = c .before .before .before .before .lesser in
+    plain-by (a .f .now) (a .e) (a .k) (a .path .now) (a .depth) (z .pre .0) (z .pre .1) (l .result) (omega arith) (omega arith) (l .ensures .2) (passed (c .before .before .before .before .before .before .ends .ensures) (c .before .before .before .before .before .if3 .left)) (passed (c .before .before .before .same .ensures) (c .before .before .if4 .left)) (c .full-by .ensures)
 
 pub plain-good-spec : {M : Type 1} → statement M
 plain-good-spec =
@@ -68,4 +77,7 @@ plain-good-spec =
     returns-4
     add-no-zero
     no-zero-requires
-    returns-5)
+    returns-5
+    add-full-by
+    full-by-requires
+    returns-6)
