@@ -285,7 +285,7 @@ static inline int frame_changes_begin(struct frame_changes *changes, uint8_t *by
     return 0;
 }
 
-/* Writes a change with so many bytes of its stamp; the two calls below are to be made. */
+/* Writes a change with so many bytes of a stamp before its key: what the two calls below share. */
 static inline int frame_changes_write(struct frame_changes *changes, int kind, const uint8_t *key, frame_length key_len,
                                       const uint8_t *value, frame_length value_len, uint64_t stamp, frame_length stamp_len) {
     frame_length left = changes->room - changes->length, head = 8 + stamp_len;
@@ -309,9 +309,7 @@ static inline int frame_changes_write(struct frame_changes *changes, int kind, c
     return 0;
 }
 
-/*
- * Adds a change to a batch of edition 1; an erase has no value (0 bytes). Gives 0, or 1 if it has no room: then the batch is as it was.
- */
+/* Adds a change to a batch of edition 1; an erase has no value (0 bytes). Gives 0, or 1 if it has no room: then the batch is as it was. */
 static inline int frame_changes_add(struct frame_changes *changes, int kind, const uint8_t *key, frame_length key_len,
                                     const uint8_t *value, frame_length value_len) {
     return frame_changes_write(changes, kind, key, key_len, value, value_len, 0, 0);
