@@ -315,7 +315,7 @@ static inline int frame_changes_add(struct frame_changes *changes, int kind, con
     return frame_changes_write(changes, kind, key, key_len, value, value_len, 0, 0);
 }
 
-/* The same for a batch of edition 2, with the stamp that the record gets; that of an erase is not used. No batch has changes of both editions. */
+/* The same for a batch of edition 2, with the stamp that the record gets; that of an erase is not used. No batch has changes of both. */
 static inline int frame2_changes_add(struct frame_changes *changes, int kind, const uint8_t *key, frame_length key_len,
                                      const uint8_t *value, frame_length value_len, uint64_t stamp) {
     return frame_changes_write(changes, kind, key, key_len, value, value_len, stamp, 8);
@@ -371,7 +371,7 @@ static inline uint32_t frame2_find(const uint8_t *frame, frame_length frame_len,
 uint32_t frame2_put(uint8_t *frame, frame_length frame_len, const uint8_t *key, frame_length key_len, const uint8_t *value,
                     frame_length value_len, uint64_t stamp);
 
-/* The record has the new value and this stamp. With a value as long as the old one, the same one too, nothing is needed and nothing is dead after. */
+/* The record has the new value and this stamp. A value as long as the old one, the same one too, needs nothing and leaves nothing dead. */
 uint32_t frame2_replace(uint8_t *frame, frame_length frame_len, const uint8_t *key, frame_length key_len, const uint8_t *value,
                         frame_length value_len, uint64_t stamp);
 

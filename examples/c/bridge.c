@@ -1,6 +1,6 @@
 /*
- * A bridge table in a frame of edition 2: ports by hardware address, whose bytes may be 0, and one by a name of more than 112 bytes. The stamp of
- * a record is the time at which the address was last seen. Addresses of one maker are listed, in byte order, and those not seen for long are
+ * A bridge table in a frame of edition 2: ports by hardware address, whose bytes may be 0, and one by a name of more than 112 bytes. The stamp
+ * of a record is the time at which the address was last seen. Addresses of one maker are listed, in byte order, and those not seen for long are
  * forgotten in one batch; the calls of edition 1 refuse the frame.
  */
 #include <stdio.h>
