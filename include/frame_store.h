@@ -7,16 +7,17 @@
  * again later.
  *
  * There are two editions, and a frame is of one of them. Edition 1, the calls that begin with frame_: a key has 1 to 112 bytes, none of
- * them 0. Edition 2, the calls that begin with frame2_: a key has 1 to 255 bytes of any kind. What is said here of a frame_ call holds of
- * the frame2_ call of that name with its own keys, and nothing else differs but what is told beside them. A call that is lent a frame of the
- * other edition answers 2.
+ * them 0. Edition 2, the calls that begin with frame2_: a key has 1 to 255 bytes of any kind, and a record has a stamp beside its value, 64
+ * bits that are passed with it and mean what the caller wants, as the time of writing. What is said here of a frame_ call holds of the frame2_
+ * call of that name with its own keys, and nothing else differs but what is told beside them. A call that is lent a frame of the other edition
+ * answers 2.
  *
  * Every number that a call can give:
  *
  *   0  FRAME_DONE          done; for put, the key was new
- *   9  FRAME_REPLACED      replace: done, the key has the new value now
+ *   9  FRAME_REPLACED      replace: done, the key has the new value now, and in edition 2 the new stamp
  *   8  FRAME_ABSENT        look-up, replace, erase: no such key; nothing changed
- *  11  FRAME_PRESENT       put: the key is there already, with the value that it had; nothing changed
+ *  11  FRAME_PRESENT       put: the key is there already, with the value, and in edition 2 the stamp, that it had; nothing changed
  *   1  FRAME_BAD_LENGTH    format: F or N against the limits, or frame_len is not F; else: frame_len is no F that a frame can have,
  *                          or is not the F that the frame holds
  *   2  FRAME_NOT_GOOD      the bytes are not a good frame
@@ -284,12 +285,12 @@ static inline int frame_changes_begin(struct frame_changes *changes, uint8_t *by
     return 0;
 }
 
-/* Adds a change; an erase has no value (0 bytes). Gives 0, or 1 if it has no room: then the batch is as it was. */
-static inline int frame_changes_add(struct frame_changes *changes, int kind, const uint8_t *key, frame_length key_len,
-                                    const uint8_t *value, frame_length value_len) {
-    frame_length left = changes->room - changes->length;
+/* Writes a change with so many bytes of a stamp before its key: what the two calls below share. */
+static inline int frame_changes_write(struct frame_changes *changes, int kind, const uint8_t *key, frame_length key_len,
+                                      const uint8_t *value, frame_length value_len, uint64_t stamp, frame_length stamp_len) {
+    frame_length left = changes->room - changes->length, head = 8 + stamp_len;
     uint8_t *at = changes->bytes + changes->length;
-    if (changes->count == changes->most || key_len > 65535 || left < 8 || left - 8 < key_len || left - 8 - key_len < value_len ||
+    if (changes->count == changes->most || key_len > 65535 || left < head || left - head < key_len || left - head - key_len < value_len ||
         value_len > 4294967295u || changes->length > 4294967295u) {
         return 1;
     }
@@ -299,49 +300,80 @@ static inline int frame_changes_add(struct frame_changes *changes, int kind, con
     at[2] = (uint8_t)(key_len & 255);
     at[3] = (uint8_t)(key_len >> 8);
     frame_set4(at + 4, (uint32_t)value_len);
-    for (frame_length i = 0; i < key_len; i++) at[8 + i] = key[i];
-    for (frame_length i = 0; i < value_len; i++) at[8 + key_len + i] = value[i];
-    changes->length += 8 + key_len + value_len;
+    for (frame_length i = 0; i < stamp_len; i++) at[8 + i] = (uint8_t)(stamp >> (8 * i));
+    for (frame_length i = 0; i < key_len; i++) at[head + i] = key[i];
+    for (frame_length i = 0; i < value_len; i++) at[head + key_len + i] = value[i];
+    changes->length += head + key_len + value_len;
     changes->count += 1;
     frame_set4(changes->bytes, changes->count);
     return 0;
 }
 
+/* Adds a change to a batch of edition 1; an erase has no value (0 bytes). Gives 0, or 1 if it has no room: then the batch is as it was. */
+static inline int frame_changes_add(struct frame_changes *changes, int kind, const uint8_t *key, frame_length key_len,
+                                    const uint8_t *value, frame_length value_len) {
+    return frame_changes_write(changes, kind, key, key_len, value, value_len, 0, 0);
+}
+
+/* The same for a batch of edition 2, with the stamp that the record gets; that of an erase is not used. No batch has changes of both. */
+static inline int frame2_changes_add(struct frame_changes *changes, int kind, const uint8_t *key, frame_length key_len,
+                                     const uint8_t *value, frame_length value_len, uint64_t stamp) {
+    return frame_changes_write(changes, kind, key, key_len, value, value_len, stamp, 8);
+}
+
 /*
- * Edition 2: the same calls for frames whose keys have 1 to 255 bytes of any kind, hardware addresses and long names. Parameters, answers and
- * what is written are those of the frame_ call of that name, but that 4 is not given, and that 3 is for a key of no byte or more than 255,
- * and for a prefix of more than 255. Where a name is sorted or cut at a delimiter, a byte 0 is a byte as any other, the smallest. There is no
- * packing of frames from before: there are none of edition 2.
+ * Edition 2: the same calls for frames whose keys have 1 to 255 bytes of any kind, hardware addresses and long names, and whose records have
+ * stamps. Parameters, answers and what is written are those of the frame_ call of that name, but that put and replace take a stamp and look-up
+ * tells it, that 4 is not given, and that 3 is for a key of no byte or more than 255, and for a prefix of more than 255. Where a name is sorted
+ * or cut at a delimiter, a byte 0 is a byte as any other, the smallest. There is no packing of frames from before: there are none of edition 2.
+ *
+ * A stamp is any 64 bits. It is part of the record as its value is: kept by every call that does not replace the record, and packed with it, so
+ * that two frames whose records differ in a stamp have different images. No call compares stamps or sorts by them.
  */
 uint32_t frame2_format(uint8_t *frame, frame_length frame_len, frame_length f, frame_length n);
 
 uint32_t frame2_check(const uint8_t *frame, frame_length frame_len);
 
 /*
+ * found has room for four numbers, and four is 4: found[0] to found[2] as in edition 1, and found[3] is the record's stamp, 0 with 8. If the
+ * call is refused, or four is not 4, nothing is written there.
  * found[2], the slots visited, is at most 3 and a slot for each byte of the key, two for a byte 0. Keys that share more than 112 bytes share
  * several slots, one for each 112 bytes and one for the rest.
  */
 uint32_t frame2_look_up(const uint8_t *frame, frame_length frame_len, const uint8_t *key, frame_length key_len, uint64_t *found,
-                        frame_length three);
+                        frame_length four);
+
+/* The same, with no count to get wrong: 8 sets place, length and stamp to 0, and a refused call leaves all four as they are. */
+struct frame2_found {
+    uint64_t place;
+    uint64_t length;
+    uint64_t slots; /* visited, the last one included */
+    uint64_t stamp;
+};
 
 static inline uint32_t frame2_find(const uint8_t *frame, frame_length frame_len, const uint8_t *key, frame_length key_len,
-                                   struct frame_found *found) {
-    uint64_t told[3] = {0, 0, 0};
-    uint32_t given = frame2_look_up(frame, frame_len, key, key_len, told, 3);
+                                   struct frame2_found *found) {
+    uint64_t told[4] = {0, 0, 0, 0};
+    uint32_t given = frame2_look_up(frame, frame_len, key, key_len, told, 4);
     if (given == 0 || given == 8) {
         found->place = told[0];
         found->length = told[1];
         found->slots = told[2];
+        found->stamp = told[3];
     }
     return given;
 }
 
-/* A put needs up to seven slots: a Leaf, a node, and five for the up to 509 bytes that two keys share, bytes 0 counted twice. */
+/*
+ * The new record has this stamp; if the key is there already (11), its stamp stays.
+ * A put needs up to seven slots: a Leaf, a node, and five for the up to 509 bytes that two keys share, bytes 0 counted twice.
+ */
 uint32_t frame2_put(uint8_t *frame, frame_length frame_len, const uint8_t *key, frame_length key_len, const uint8_t *value,
-                    frame_length value_len);
+                    frame_length value_len, uint64_t stamp);
 
+/* The record has the new value and this stamp. A value as long as the old one, the same one too, needs nothing and leaves nothing dead. */
 uint32_t frame2_replace(uint8_t *frame, frame_length frame_len, const uint8_t *key, frame_length key_len, const uint8_t *value,
-                        frame_length value_len);
+                        frame_length value_len, uint64_t stamp);
 
 uint32_t frame2_erase(uint8_t *frame, frame_length frame_len, const uint8_t *key, frame_length key_len);
 
@@ -374,7 +406,10 @@ static inline uint32_t frame2_names(const uint8_t *frame, frame_length frame_len
     return given;
 }
 
-/* The batch is laid out as one of edition 1. */
+/*
+ * The batch is laid out with stamps: each change has eight bytes for one before its key, an erase too. Bytes that are a batch of edition 1 are
+ * read otherwise here, and the other way round; frame2_changes_add writes a change of edition 2.
+ */
 uint64_t frame2_batch(uint8_t *frame, frame_length frame_len, uint8_t *second, frame_length second_len, const uint8_t *batch,
                       frame_length batch_len, uint8_t *answers, frame_length answers_len);
 

@@ -64,10 +64,14 @@ pub struct Lent<'a> {
     pub value: &'a [u8],
     /// The slot capacity for format.
     pub n: usize,
-    /// Place, length and slots that look-up gives; count and whether more remain
-    /// that a listing gives.
-    pub found: [u64; 3],
+    /// Place, length, slots and, in edition 2, the stamp that look-up gives; count
+    /// and whether more remain that a listing gives.
+    pub found: Found,
 }
+
+/// As many numbers as a call gives at most.
+pub type Found = [u64; 4];
+pub const NOTHING_FOUND: Found = [0; 4];
 
 /// Makes the call and gives its number.
 pub type Function = fn(&mut Lent) -> u32;
@@ -77,8 +81,8 @@ pub fn plain(call: Call) -> Function {
         Call::Format => |lent| plain::format(lent.frame, lent.frame.len(), lent.n),
         Call::Check => |lent| plain::check(lent.frame),
         Call::LookUp => |lent| {
-            let (number, found) = plain::look_up(lent.frame, lent.key);
-            lent.found = found;
+            let (number, [place, length, slots]) = plain::look_up(lent.frame, lent.key);
+            lent.found = [place, length, slots, 0];
             number
         },
         Call::Put => |lent| plain::put(lent.frame, lent.key, lent.value),
@@ -89,7 +93,7 @@ pub fn plain(call: Call) -> Function {
             let start = (!lent.key.is_empty()).then_some(lent.key);
             let asked = plain::Asked { prefix: b"", start, delimiter: None };
             let (number, [count, more]) = plain::list(lent.frame, &asked, page(lent.out));
-            lent.found = [count, more, 0];
+            lent.found = [count, more, 0, 0];
             number
         },
     }
@@ -100,11 +104,12 @@ fn page(out: &mut [u8]) -> &mut [u8] {
     &mut out[..length]
 }
 
-/// The exported calls of one edition. Every part is passed with its own length, and
-/// lives through the call.
+/// The exported calls of one edition, how many numbers its look-up gives, and the stamp
+/// that is passed with a record, if it has one. Every part is passed with its own
+/// length, and lives through the call.
 macro_rules! calls_of_edition {
     ($(#[$about:meta])* $proved:ident: $format:ident, $check:ident, $look_up:ident, $put:ident,
-     $replace:ident, $erase:ident, $pack:ident, $list:ident) => {
+     $replace:ident, $erase:ident, $pack:ident, $list:ident; $numbers:expr $(, $stamp:expr)?) => {
         $(#[$about])*
         pub fn $proved(call: Call) -> Function {
             match call {
@@ -116,13 +121,14 @@ macro_rules! calls_of_edition {
                     |lent| unsafe { exported::$check(lent.frame.as_ptr(), lent.frame.len()) }
                 }
                 Call::LookUp => |lent| unsafe {
+                    let found = &mut lent.found[..$numbers];
                     exported::$look_up(
                         lent.frame.as_ptr(),
                         lent.frame.len(),
                         lent.key.as_ptr(),
                         lent.key.len(),
-                        lent.found.as_mut_ptr(),
-                        lent.found.len(),
+                        found.as_mut_ptr(),
+                        found.len(),
                     )
                 },
                 Call::Put => |lent| unsafe {
@@ -133,6 +139,7 @@ macro_rules! calls_of_edition {
                         lent.key.len(),
                         lent.value.as_ptr(),
                         lent.value.len(),
+                        $($stamp)?
                     )
                 },
                 Call::Replace => |lent| unsafe {
@@ -143,6 +150,7 @@ macro_rules! calls_of_edition {
                         lent.key.len(),
                         lent.value.as_ptr(),
                         lent.value.len(),
+                        $($stamp)?
                     )
                 },
                 Call::Erase => |lent| unsafe {
@@ -183,14 +191,17 @@ macro_rules! calls_of_edition {
 calls_of_edition! {
     /// Those of edition 1.
     proved: frame_format, frame_check, frame_look_up, frame_put, frame_replace, frame_erase,
-    frame_pack, frame_list
+    frame_pack, frame_list; exported::FOUND_NUMBERS
 }
 
 calls_of_edition! {
     /// Those of edition 2.
     proved2: frame2_format, frame2_check, frame2_look_up, frame2_put, frame2_replace, frame2_erase,
-    frame2_pack, frame2_list
+    frame2_pack, frame2_list; exported::FOUND_NUMBERS_2, STAMP
 }
+
+/// What edition 2 is passed with a record: another stamp than the frames have.
+const STAMP: u64 = u64::MAX;
 
 /// A batch by the proved store; gives its number and the place of the change
 /// that was refused.
@@ -222,6 +233,8 @@ mod exported {
     pub const BATCH_PLACE: u64 = 256;
     pub const NO_DELIMITER: usize = 256;
     pub const PAGE_NUMBERS: usize = 2;
+    pub const FOUND_NUMBERS: usize = 3;
+    pub const FOUND_NUMBERS_2: usize = 4;
 
     /// Declares a function of each edition, both alike.
     macro_rules! declared {
@@ -250,22 +263,6 @@ mod exported {
             key_length: usize,
             found: *mut u64,
             numbers: usize,
-        ) -> u32;
-        frame_put, frame2_put: fn(
-            frame: *mut u8,
-            length: usize,
-            key: *const u8,
-            key_length: usize,
-            value: *const u8,
-            value_length: usize,
-        ) -> u32;
-        frame_replace, frame2_replace: fn(
-            frame: *mut u8,
-            length: usize,
-            key: *const u8,
-            key_length: usize,
-            value: *const u8,
-            value_length: usize,
         ) -> u32;
         frame_erase, frame2_erase: fn(
             frame: *mut u8,
@@ -296,6 +293,40 @@ mod exported {
     }
 
     extern "C" {
+        pub fn frame_put(
+            frame: *mut u8,
+            length: usize,
+            key: *const u8,
+            key_length: usize,
+            value: *const u8,
+            value_length: usize,
+        ) -> u32;
+        pub fn frame_replace(
+            frame: *mut u8,
+            length: usize,
+            key: *const u8,
+            key_length: usize,
+            value: *const u8,
+            value_length: usize,
+        ) -> u32;
+        pub fn frame2_put(
+            frame: *mut u8,
+            length: usize,
+            key: *const u8,
+            key_length: usize,
+            value: *const u8,
+            value_length: usize,
+            stamp: u64,
+        ) -> u32;
+        pub fn frame2_replace(
+            frame: *mut u8,
+            length: usize,
+            key: *const u8,
+            key_length: usize,
+            value: *const u8,
+            value_length: usize,
+            stamp: u64,
+        ) -> u32;
         pub fn frame_batch(
             frame: *mut u8,
             length: usize,

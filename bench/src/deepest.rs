@@ -6,7 +6,7 @@
 //! way of bytes 0 is the longest: other keys leave it where a byte 0 begins, and end
 //! where one could go on.
 
-use crate::calls::{proved2, Call, Lent};
+use crate::calls::{proved2, Call, Lent, NOTHING_FOUND};
 use crate::plain;
 use crate::plain::layout::number::DONE;
 use crate::plain::layout::{LONGEST_FRAME, LONGEST_KEY, MOST_SLOTS};
@@ -81,8 +81,14 @@ const LONGEST_KEY_2: usize = 255;
 pub fn deepest_of_edition_2() -> DeepTree {
     let mut frame = vec![0; LONGEST_FRAME];
     let mut call = |call, key: &[u8]| {
-        let mut lent =
-            Lent { frame: &mut frame, out: &mut [], key, value: b"", n: MOST_SLOTS, found: [0; 3] };
+        let mut lent = Lent {
+            frame: &mut frame,
+            out: &mut [],
+            key,
+            value: b"",
+            n: MOST_SLOTS,
+            found: NOTHING_FOUND,
+        };
         assert_eq!(proved2(call)(&mut lent), DONE, "there is room for a deep tree");
     };
     call(Call::Format, b"");

@@ -1,6 +1,6 @@
 //! The proved store beside the plain one: times, or with `stack` the stack.
 
-use store_bench::calls::{plain, proved, proved2, Call, Function, Lent};
+use store_bench::calls::{plain, proved, proved2, Call, Function, Lent, NOTHING_FOUND};
 use store_bench::deepest::{deep_trees, deepest_of_edition_2, DeepTree};
 use store_bench::measure::{
     edition_times, measure, page_times, page_to_check, page_to_page, visit_times, visit_to_check,
@@ -160,5 +160,5 @@ fn stack_of(tree: &DeepTree, call: Call, function: Function) -> (u32, usize) {
 /// The deepest key, except for put, which adds a new one beside it.
 fn lent<'a>(tree: &'a DeepTree, call: Call, frame: &'a mut [u8], out: &'a mut [u8]) -> Lent<'a> {
     let key = if call == Call::Put { &tree.absent } else { &tree.present };
-    Lent { frame, out, key, value: b"", n: MOST_SLOTS, found: [0; 3] }
+    Lent { frame, out, key, value: b"", n: MOST_SLOTS, found: NOTHING_FOUND }
 }

@@ -4,7 +4,9 @@
 //! right after one another and in changing order, so that both meet the same
 //! disturbances. Frames are restored before a sample, outside its time.
 
-use crate::calls::{plain, proved, proved2, proved_batch, Call, Function, Lent, PAGE_BYTES};
+use crate::calls::{
+    plain, proved, proved2, proved_batch, Call, Found, Function, Lent, NOTHING_FOUND, PAGE_BYTES,
+};
 use crate::plain::layout::number::DONE;
 use crate::plain::layout::{get16, NAME_LENGTH_BYTES};
 use crate::plain::{list, Asked};
@@ -132,12 +134,12 @@ struct Paged<'a> {
     frame: Vec<u8>,
     buffer: Vec<u8>,
     start: &'a [u8],
-    found: [u64; 3],
+    found: Found,
 }
 
 impl Paged<'_> {
     fn new<'a>(frame: &[u8], start: &'a [u8], room: usize) -> Paged<'a> {
-        Paged { frame: frame.to_vec(), buffer: vec![0; room], start, found: [0; 3] }
+        Paged { frame: frame.to_vec(), buffer: vec![0; room], start, found: NOTHING_FOUND }
     }
 
     /// Nanoseconds of one call.
@@ -148,7 +150,7 @@ impl Paged<'_> {
             key: self.start,
             value: b"",
             n: 0,
-            found: [0; 3],
+            found: NOTHING_FOUND,
         };
         let start = Instant::now();
         let number = function(black_box(&mut lent));
@@ -172,8 +174,14 @@ pub fn visit_times(frame: &[u8], changes: &[(Call, Record)]) -> [f64; 3] {
             one_by_one.clear();
             let start = Instant::now();
             for (call, Record { key, value }) in changes {
-                let mut lent =
-                    Lent { frame: &mut singly, out: &mut [], key, value, n: 0, found: [0; 3] };
+                let mut lent = Lent {
+                    frame: &mut singly,
+                    out: &mut [],
+                    key,
+                    value,
+                    n: 0,
+                    found: NOTHING_FOUND,
+                };
                 one_by_one.push(proved(*call)(black_box(&mut lent)) as u8);
             }
             start.elapsed().as_nanos() as f64
@@ -258,7 +266,7 @@ impl<'a> Sampler<'a> {
                 key: &input.key,
                 value: &input.value,
                 n: self.workload.n,
-                found: [0; 3],
+                found: NOTHING_FOUND,
             };
             as_expected &= function(black_box(&mut lent)) == *number;
             black_box(&mut lent);

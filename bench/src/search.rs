@@ -21,19 +21,23 @@ struct Slice {
     length: usize,
 }
 
-/// What a look-up gives; whether it found the key stands first.
+/// What a look-up gives: whether it found the key stands first, then place, length,
+/// slots and stamp.
 #[repr(C)]
 struct Held {
     found: bool,
-    numbers: [usize; 3],
+    numbers: [usize; 4],
 }
 
-type Find = unsafe extern "C" fn(*mut Held, *const Slice, *const Slice);
+type Find = unsafe extern "C" fn(*mut Held, *const Slice, *const Slice, usize);
 
 extern "C" {
-    fn linear_find(held: *mut Held, frame: *const Slice, key: *const Slice);
-    fn halving_find(held: *mut Held, frame: *const Slice, key: *const Slice);
+    fn linear_find(held: *mut Held, frame: *const Slice, key: *const Slice, edition: usize);
+    fn halving_find(held: *mut Held, frame: *const Slice, key: *const Slice, edition: usize);
 }
+
+/// Of the frames that are searched.
+const EDITION: usize = 1;
 
 /// Look-ups in a sample: keys of the frame, drawn at random for each sample, so
 /// that no row of jumps is met again.
@@ -48,12 +52,12 @@ fn look_ups(find: Find, frame: &[u8], records: &[Record], random: &mut Random) -
     let frame = slice(frame);
     let keys: Vec<Slice> =
         (0..LOOK_UPS).map(|_| slice(&records[random.below(records.len())].key)).collect();
-    let mut held = Held { found: false, numbers: [0; 3] };
+    let mut held = Held { found: false, numbers: [0; 4] };
     let mut found = 0;
     let start = Instant::now();
     for key in &keys {
         // SAFETY: the frame is a good one, and both slices live through the call.
-        unsafe { find(&mut held, &frame, key) };
+        unsafe { find(&mut held, &frame, key, EDITION) };
         found += usize::from(black_box(&held).found);
     }
     let time = start.elapsed();

@@ -3,7 +3,7 @@
 //! Records look like the settings of small devices: line profiles, subscriber
 //! settings and pieces of firmware. Everything follows from fixed seeds.
 
-use crate::calls::{self, Call, Lent};
+use crate::calls::{self, Call, Lent, NOTHING_FOUND};
 use crate::plain;
 use crate::plain::layout::number::{ABSENT, DONE, NO_ROOM, REPLACED};
 use crate::plain::layout::{get32, set32, AT_EDITION, AT_U, LONGEST_FRAME, MOST_SLOTS};
@@ -318,7 +318,7 @@ fn keep_giving(frame: &[u8], n: usize, call: Call, number: u32, inputs: &mut Vec
             key: &input.key,
             value: &input.value,
             n,
-            found: [0; 3],
+            found: NOTHING_FOUND,
         });
         kept += usize::from(given == number);
         given == number

@@ -4,6 +4,7 @@
 use second_store::compare::{Calls, Comparer};
 use second_store::layout::{Edition, INFO_NUMBERS};
 use second_store::run::{all_stages, Effort};
+use second_store::value::{Given, NO_STAMP};
 use second_store::{batch, history, names, store};
 use store_bench::plain;
 
@@ -21,13 +22,13 @@ impl Calls for Plain {
     }
     fn look_up(&self, frame: &[u8], key: &[u8]) -> store::Found {
         let (number, [place, length, slots]) = plain::look_up(frame, key);
-        store::Found { number, place, length, slots }
+        store::Found { number, place, length, slots, stamp: NO_STAMP }
     }
-    fn put(&self, frame: &mut [u8], key: &[u8], value: &[u8]) -> u32 {
-        plain::put(frame, key, value)
+    fn put(&self, frame: &mut [u8], key: &[u8], value: Given) -> u32 {
+        plain::put(frame, key, value.bytes)
     }
-    fn replace(&self, frame: &mut [u8], key: &[u8], value: &[u8]) -> u32 {
-        plain::replace(frame, key, value)
+    fn replace(&self, frame: &mut [u8], key: &[u8], value: Given) -> u32 {
+        plain::replace(frame, key, value.bytes)
     }
     fn erase(&self, frame: &mut [u8], key: &[u8]) -> u32 {
         plain::erase(frame, key)

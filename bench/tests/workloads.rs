@@ -8,6 +8,7 @@ use second_store::layout::Edition;
 use second_store::names::{list, Asked};
 use second_store::slotless::Tree;
 use second_store::store;
+use second_store::value::Value;
 use store_bench::calls::{Call, PAGE_BYTES};
 use store_bench::deepest::{deep_trees, deepest_of_edition_2};
 use store_bench::workload::{wide, workload, Fill, Workload, ABSENT_OF_WIDE, FRAMES, WIDTHS};
@@ -40,7 +41,7 @@ fn deep_trees_are_as_deep_as_allowed() {
             tree.name
         );
         assert_eq!(
-            store::put(EDITION, &mut tree.frame.clone(), &tree.absent, b""),
+            store::put(EDITION, &mut tree.frame.clone(), &tree.absent, Value::plain(b"")),
             DONE,
             "{}",
             tree.name
@@ -59,7 +60,7 @@ fn the_deepest_tree_of_edition_2_is_as_deep_as_allowed() {
     let found = store::look_up(Edition::Two, &tree.frame, &tree.present);
     assert_eq!((found.number, found.slots), (DONE, 511));
     let mut frame = tree.frame.clone();
-    assert_eq!(store::put(Edition::Two, &mut frame, &tree.absent, b""), DONE);
+    assert_eq!(store::put(Edition::Two, &mut frame, &tree.absent, Value::plain(b"")), DONE);
 }
 
 /// The measured frames are good ones of edition 2, too, and its calls give the same.
@@ -80,13 +81,14 @@ fn gives_the_numbers_it_tells(workload: &Workload, what: &str) {
     assert_eq!(check(EDITION, &workload.frame), DONE);
     for task in &workload.tasks {
         let input = &task.inputs[0];
+        let value = Value::plain(&input.value[..]);
         let mut frame = workload.frame.clone();
         let number = match task.call {
             Call::Format => store::format(EDITION, &mut frame, f, workload.n),
             Call::Check => check(EDITION, &frame),
             Call::LookUp => store::look_up(EDITION, &frame, &input.key).number,
-            Call::Put => store::put(EDITION, &mut frame, &input.key, &input.value),
-            Call::Replace => store::replace(EDITION, &mut frame, &input.key, &input.value),
+            Call::Put => store::put(EDITION, &mut frame, &input.key, value),
+            Call::Replace => store::replace(EDITION, &mut frame, &input.key, value),
             Call::Erase => store::erase(EDITION, &mut frame, &input.key),
             Call::Pack => store::pack(EDITION, &frame, &mut vec![0; f]),
             Call::List => {
@@ -140,7 +142,8 @@ fn full_frames_have_little_room_left() {
     for (f, n) in FRAMES {
         let workload = workload(f, n, Fill::Full);
         let value = vec![0; f / 16];
-        let number = store::put(EDITION, &mut workload.frame.clone(), b"one more", &value);
+        let value = Value::plain(&value[..]);
+        let number = store::put(EDITION, &mut workload.frame.clone(), b"one more", value);
         assert_eq!(number, NO_ROOM, "{f} bytes");
     }
 }

@@ -1,6 +1,7 @@
 /*
  * A frame of 1,024 bytes with 8 slots: three settings put, one replaced, one read, all listed, one erased, the rest packed, and how full the frame
- * is before and after that; then a frame from before freed bytes were wiped, and one that is not good. README.md says how to build it.
+ * is before and after that; then a frame from before freed bytes were wiped, three changes in one batch, and a frame that is not good. README.md
+ * says how to build it.
  */
 #include <stdio.h>
 #include <string.h>
@@ -10,6 +11,7 @@
 #define F 1024
 #define N 8
 #define LONGEST 112 /* name */
+#define CHANGES 3
 
 static uint8_t frame[F];
 static uint8_t packed[F];
@@ -61,6 +63,26 @@ static void list(const char *prefix, unsigned delimiter) {
     printf("\n");
 }
 
+static int add(struct frame_changes *changes, int kind, const char *key, const char *value) {
+    return frame_changes_add(changes, kind, bytes(key), strlen(key), bytes(value), strlen(value));
+}
+
+/* All changes with one check, or none: they are made in the second frame first. */
+static void change(uint8_t *of, uint8_t *second) {
+    uint8_t batch[256], answers[CHANGES] = {0};
+    struct frame_changes changes;
+    uint64_t given;
+    if (frame_changes_begin(&changes, batch, sizeof batch, CHANGES) != 0 || add(&changes, FRAME_CHANGE_PUT, "wan", "up") != 0 ||
+        add(&changes, FRAME_CHANGE_REPLACE, "line.rate", "250") != 0 || add(&changes, FRAME_CHANGE_ERASE, "host", "") != 0) {
+        printf("the batch has no room\n");
+        return;
+    }
+    given = frame_batch(of, F, second, F, changes.bytes, changes.length, answers, sizeof answers);
+    printf("batch: %u at %u, answers", (unsigned)frame_batch_number(given), (unsigned)frame_batch_place(given));
+    for (int i = 0; i < CHANGES; i++) printf(" %u", answers[i]);
+    printf("\n");
+}
+
 static void tell(const uint8_t *of) {
     struct frame_counts counts;
     uint32_t given = frame_fullness(of, F, &counts);
@@ -94,6 +116,9 @@ int main(void) {
     printf("check: %u\n", (unsigned)frame_check(frame, F));
     printf("pack before: %u\n", (unsigned)frame_pack_before(frame, F, packed, F));
     show(packed, "line.rate");
+    change(packed, frame);
+    show(packed, "line.rate");
+    show(packed, "wan");
     frame[20] ^= 1; /* U is wrong now: no good frame, and refused by every call */
     show(frame, "line.rate");
     tell(frame);

@@ -1,8 +1,8 @@
 //! The exported calls. This is the only file with `unsafe` in it.
 //!
-//! Believed here: the C declarations, as `include/frame_store.h` has them; those of edition 2 are edition 1's under other names. Every
-//! slice is passed with its own length and lives through the call, and what is lent for writing overlaps nothing, since it is borrowed
-//! by `&mut`.
+//! Believed here: the C declarations, as `include/frame_store.h` has them; those of edition 2 are edition 1's under other names, but that
+//! put and replacement take a stamp there and look-up tells one. Every slice is passed with its own length and lives through the call,
+//! and what is lent for writing overlaps nothing, since it is borrowed by `&mut`.
 #![allow(unsafe_code)]
 
 /// A length or a number that is passed: 64 bits on every machine, as `frame_length` in C.
@@ -15,7 +15,7 @@ fn length(of: usize) -> Length {
 /// Declares a function of each edition, both alike, and the two in one table each.
 macro_rules! declared {
     ($($call:ident: $one:ident, $two:ident = fn($($name:ident: $type:ty),* $(,)?) -> $given:ty;)*) => {
-        mod c {
+        mod alike {
             use super::Length;
 
             extern "C" {
@@ -23,23 +23,19 @@ macro_rules! declared {
                     pub fn $one($($name: $type),*) -> $given;
                     pub fn $two($($name: $type),*) -> $given;
                 )*
-                pub fn frame_pack_before(
-                    frame: *const u8,
-                    frame_len: Length,
-                    out: *mut u8,
-                    out_len: Length,
-                ) -> u32;
             }
         }
 
-        /// The calls of one edition.
+        /// The calls that both editions have alike, of one of them.
         pub struct Calls {
             $($call: unsafe extern "C" fn($($name: $type),*) -> $given,)*
+            /// How many numbers its look-up tells.
+            numbers: usize,
         }
 
         impl Calls {
-            pub const OF_EDITION_1: Calls = Calls { $($call: c::$one,)* };
-            pub const OF_EDITION_2: Calls = Calls { $($call: c::$two,)* };
+            pub const OF_EDITION_1: Calls = Calls { $($call: alike::$one,)* numbers: FOUND };
+            pub const OF_EDITION_2: Calls = Calls { $($call: alike::$two,)* numbers: FOUND_STAMPED };
         }
     };
 }
@@ -54,23 +50,7 @@ declared! {
         key: *const u8,
         key_len: Length,
         found: *mut u64,
-        three: Length,
-    ) -> u32;
-    put: frame_put, frame2_put = fn(
-        frame: *mut u8,
-        frame_len: Length,
-        key: *const u8,
-        key_len: Length,
-        value: *const u8,
-        value_len: Length,
-    ) -> u32;
-    replace: frame_replace, frame2_replace = fn(
-        frame: *mut u8,
-        frame_len: Length,
-        key: *const u8,
-        key_len: Length,
-        value: *const u8,
-        value_len: Length,
+        numbers: Length,
     ) -> u32;
     erase: frame_erase, frame2_erase =
         fn(frame: *mut u8, frame_len: Length, key: *const u8, key_len: Length) -> u32;
@@ -104,6 +84,49 @@ declared! {
         fn(frame: *const u8, frame_len: Length, counts: *mut u64, fourteen: Length) -> u32;
 }
 
+extern "C" {
+    fn frame_put(
+        frame: *mut u8,
+        frame_len: Length,
+        key: *const u8,
+        key_len: Length,
+        value: *const u8,
+        value_len: Length,
+    ) -> u32;
+    fn frame_replace(
+        frame: *mut u8,
+        frame_len: Length,
+        key: *const u8,
+        key_len: Length,
+        value: *const u8,
+        value_len: Length,
+    ) -> u32;
+    fn frame2_put(
+        frame: *mut u8,
+        frame_len: Length,
+        key: *const u8,
+        key_len: Length,
+        value: *const u8,
+        value_len: Length,
+        stamp: u64,
+    ) -> u32;
+    fn frame2_replace(
+        frame: *mut u8,
+        frame_len: Length,
+        key: *const u8,
+        key_len: Length,
+        value: *const u8,
+        value_len: Length,
+        stamp: u64,
+    ) -> u32;
+    fn frame_pack_before(frame: *const u8, frame_len: Length, out: *mut u8, out_len: Length)
+        -> u32;
+}
+
+/// The numbers that a look-up of edition 1 tells: place, length and slots.
+const FOUND: usize = 3;
+/// Those that a look-up of edition 2 tells: the stamp is the last.
+const FOUND_STAMPED: usize = 4;
 /// As a delimiter: none.
 const NO_DELIMITER: Length = 256;
 /// What a number of the batch's stands for: the answer in its lowest byte, the place of the refused change above it.
@@ -118,29 +141,16 @@ impl Calls {
         unsafe { (self.check)(frame.as_ptr(), length(frame.len())) }
     }
 
-    pub fn look_up(&self, frame: &[u8], key: &[u8]) -> (u32, [u64; 3]) {
-        let mut found = [0; 3];
+    /// Place, length, slots and stamp; in edition 1, which tells no stamp, it is 0.
+    pub fn look_up(&self, frame: &[u8], key: &[u8]) -> (u32, [u64; FOUND_STAMPED]) {
+        let mut found = [0; FOUND_STAMPED];
+        let told = &mut found[..self.numbers];
         let (frame_len, key_len) = (length(frame.len()), length(key.len()));
-        let three = length(found.len());
-        let lent = found.as_mut_ptr();
+        let (lent, numbers) = (told.as_mut_ptr(), length(told.len()));
         let number = unsafe {
-            (self.look_up)(frame.as_ptr(), frame_len, key.as_ptr(), key_len, lent, three)
+            (self.look_up)(frame.as_ptr(), frame_len, key.as_ptr(), key_len, lent, numbers)
         };
         (number, found)
-    }
-
-    pub fn put(&self, frame: &mut [u8], key: &[u8], value: &[u8]) -> u32 {
-        let frame_len = length(frame.len());
-        let (key_len, value_len) = (length(key.len()), length(value.len()));
-        let lent = frame.as_mut_ptr();
-        unsafe { (self.put)(lent, frame_len, key.as_ptr(), key_len, value.as_ptr(), value_len) }
-    }
-
-    pub fn replace(&self, frame: &mut [u8], key: &[u8], value: &[u8]) -> u32 {
-        let frame_len = length(frame.len());
-        let (key_len, value_len) = (length(key.len()), length(value.len()));
-        let lent = frame.as_mut_ptr();
-        unsafe { (self.replace)(lent, frame_len, key.as_ptr(), key_len, value.as_ptr(), value_len) }
     }
 
     pub fn erase(&self, frame: &mut [u8], key: &[u8]) -> u32 {
@@ -219,8 +229,38 @@ impl Calls {
     }
 }
 
+/// The put of edition 1.
+pub fn put(frame: &mut [u8], key: &[u8], value: &[u8]) -> u32 {
+    let (frame_len, lent) = (length(frame.len()), frame.as_mut_ptr());
+    let (key_len, value_len) = (length(key.len()), length(value.len()));
+    unsafe { frame_put(lent, frame_len, key.as_ptr(), key_len, value.as_ptr(), value_len) }
+}
+
+/// The replacement of edition 1.
+pub fn replace(frame: &mut [u8], key: &[u8], value: &[u8]) -> u32 {
+    let (frame_len, lent) = (length(frame.len()), frame.as_mut_ptr());
+    let (key_len, value_len) = (length(key.len()), length(value.len()));
+    unsafe { frame_replace(lent, frame_len, key.as_ptr(), key_len, value.as_ptr(), value_len) }
+}
+
+/// The put of edition 2.
+pub fn put2(frame: &mut [u8], key: &[u8], value: &[u8], stamp: u64) -> u32 {
+    let (frame_len, lent) = (length(frame.len()), frame.as_mut_ptr());
+    let (key_len, value_len) = (length(key.len()), length(value.len()));
+    let (key, value) = (key.as_ptr(), value.as_ptr());
+    unsafe { frame2_put(lent, frame_len, key, key_len, value, value_len, stamp) }
+}
+
+/// The replacement of edition 2.
+pub fn replace2(frame: &mut [u8], key: &[u8], value: &[u8], stamp: u64) -> u32 {
+    let (frame_len, lent) = (length(frame.len()), frame.as_mut_ptr());
+    let (key_len, value_len) = (length(key.len()), length(value.len()));
+    let (key, value) = (key.as_ptr(), value.as_ptr());
+    unsafe { frame2_replace(lent, frame_len, key, key_len, value, value_len, stamp) }
+}
+
 /// The packing by the old rule, which edition 1 alone has.
 pub fn pack_before(frame: &[u8], out: &mut [u8]) -> u32 {
     let (frame_len, out_len) = (length(frame.len()), length(out.len()));
-    unsafe { c::frame_pack_before(frame.as_ptr(), frame_len, out.as_mut_ptr(), out_len) }
+    unsafe { frame_pack_before(frame.as_ptr(), frame_len, out.as_mut_ptr(), out_len) }
 }

@@ -3,7 +3,7 @@
 use crate::calls::Calls;
 use core::fmt::Debug;
 
-/// Which keys a frame can hold: [`Edition1`] or [`Edition2`], and nothing else.
+/// What records a frame can hold: those of [`Edition1`] or [`Edition2`], and nothing else.
 pub trait Edition: Called + Copy + Debug {
     /// The most bytes of a key, and of a listing's prefix.
     const LONGEST_KEY: usize;
@@ -15,13 +15,15 @@ pub trait Called {
     const CALLS: Calls;
     /// What the edition's frame and view are called.
     const NAMES: [&'static str; 2];
+    /// What a change of a batch without a stamp has in its place: an erase, and in edition 1 every change.
+    const NO_STAMP: &'static [u8];
 }
 
-/// Keys of 1 to 112 bytes, none of them 0. See [`Frame`](crate::Frame).
+/// Keys of 1 to 112 bytes, none of them 0, and no stamps. See [`Frame`](crate::Frame).
 #[derive(Clone, Copy, PartialEq, Eq, Hash, Debug)]
 pub enum Edition1 {}
 
-/// Keys of 1 to 255 bytes of any kind. See [`Frame2`](crate::Frame2).
+/// Keys of 1 to 255 bytes of any kind, and a stamp with each record. See [`Frame2`](crate::Frame2).
 #[derive(Clone, Copy, PartialEq, Eq, Hash, Debug)]
 pub enum Edition2 {}
 
@@ -32,6 +34,7 @@ impl Edition for Edition1 {
 impl Called for Edition1 {
     const CALLS: Calls = Calls::OF_EDITION_1;
     const NAMES: [&'static str; 2] = ["Frame", "View"];
+    const NO_STAMP: &'static [u8] = &[];
 }
 
 impl Edition for Edition2 {
@@ -41,4 +44,5 @@ impl Edition for Edition2 {
 impl Called for Edition2 {
     const CALLS: Calls = Calls::OF_EDITION_2;
     const NAMES: [&'static str; 2] = ["Frame2", "View2"];
+    const NO_STAMP: &'static [u8] = &0u64.to_le_bytes();
 }

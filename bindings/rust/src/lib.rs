@@ -2,8 +2,8 @@
 //!
 //! A frame has F bytes, a multiple of 8 from 1,024 to 524,288, and N slots, an even number from 8 to 10,240; 64 + 4 N + 8 is at
 //! most F. A value has 0 to 65,535 bytes. A key has 1 to 112 bytes, none of them 0, in a [`Frame`], which is one of edition 1; in a
-//! [`Frame2`], of edition 2, it has 1 to 255 bytes of any kind. Nothing is allocated, and everything that is kept stands in the frame:
-//! store its bytes anywhere, and [`Frame::open`](FrameOf::open) them again later.
+//! [`Frame2`], of edition 2, it has 1 to 255 bytes of any kind, and each record a stamp. Nothing is allocated, and everything that is kept
+//! stands in the frame: store its bytes anywhere, and [`Frame::open`](FrameOf::open) them again later.
 //!
 //! ```
 //! use frame_store::{Erase, Frame, Put, Refusal, Replace};
@@ -19,15 +19,21 @@
 //! # Ok::<(), Refusal>(())
 //! ```
 //!
-//! Edition 2 is for keys that are no text, or long: the same calls, and frames that are not mixed up with those of edition 1, which
-//! refuse them ([`Refusal::Frame`]).
+//! Edition 2 is for keys that are no text, or long, and for records that are to tell when they were written: its puts and replacements take
+//! a stamp, 64 bits that mean what the caller wants, and [`Frame2::record`](FrameOf::record) gives it back. Frames of edition 1 are not
+//! mixed up with those of edition 2, which refuse them ([`Refusal::Frame`]).
 //!
 //! ```
-//! use frame_store::{Frame, Frame2, Put, Refusal};
+//! use frame_store::{Frame, Frame2, Put, Record, Refusal, Replace};
 //!
 //! let mut bridge = Frame2::format([0; 1024], 8)?;
 //! let address = [0x00, 0x1A, 0x2B, 0x00, 0x00, 0x01];
-//! assert_eq!(bridge.put(&address, b"port 3")?, Put::New);
+//! let (first_seen, later) = (1_700_000_000, 1_700_000_300);
+//! assert_eq!(bridge.put(&address, b"port 3", first_seen)?, Put::New);
+//! assert_eq!(bridge.put(&address, b"port 4", later)?, Put::Present, "value and stamp stay");
+//! assert_eq!(bridge.record(&address)?, Some(Record { value: b"port 3", stamp: first_seen }));
+//! assert_eq!(bridge.replace(&address, b"port 3", later)?, Replace::Done);
+//! assert_eq!(bridge.stamp(&address)?, Some(later));
 //! assert_eq!(bridge.look_up(&address)?, Some(&b"port 3"[..]));
 //! assert_eq!(Frame::open(bridge.into_bytes()).err(), Some(Refusal::Frame));
 //! # Ok::<(), Refusal>(())
@@ -60,7 +66,7 @@ mod calls;
 mod edition;
 mod names;
 
-pub use batch::{Batch, Full, Stopped};
+pub use batch::{Batch, Batch2, BatchOf, Full, Stopped};
 pub use edition::{Edition, Edition1, Edition2};
 pub use names::{Entries, Entry, NamesOf, Page};
 
@@ -70,7 +76,7 @@ use core::ops::Range;
 
 /// A frame of edition 1, to read and to change: keys of 1 to 112 bytes, none of them 0.
 pub type Frame<B> = FrameOf<Edition1, B>;
-/// A frame of edition 2: keys of 1 to 255 bytes of any kind.
+/// A frame of edition 2: keys of 1 to 255 bytes of any kind, and a stamp with each record.
 pub type Frame2<B> = FrameOf<Edition2, B>;
 /// A frame of edition 1 in borrowed bytes, to read.
 pub type View<'a> = ViewOf<'a, Edition1>;
@@ -164,14 +170,14 @@ impl core::error::Error for Refusal {}
 pub enum Put {
     /// 0: the key was new.
     New,
-    /// 11: the key is there already, with the value that it had. Nothing was changed.
+    /// 11: the key is there already, with the value, and in edition 2 the stamp, that it had. Nothing was changed.
     Present,
 }
 
 /// What a replacement did.
 #[derive(Clone, Copy, PartialEq, Eq, Hash, Debug)]
 pub enum Replace {
-    /// 9: the key has the new value now.
+    /// 9: the key has the new value now, and in edition 2 the new stamp.
     Done,
     /// 8: there is no such key. Nothing was changed.
     Absent,
@@ -184,6 +190,15 @@ pub enum Erase {
     Done,
     /// 8: there is no such key. Nothing was changed.
     Absent,
+}
+
+/// A record of edition 2, without its key.
+#[derive(Clone, Copy, PartialEq, Eq, Hash, Debug)]
+pub struct Record<'a> {
+    /// The value, as a part of the frame.
+    pub value: &'a [u8],
+    /// The stamp that was passed with it.
+    pub stamp: u64,
 }
 
 /// What a call that was refused for room lacked.
@@ -315,8 +330,15 @@ impl<'a, E: Edition> ViewOf<'a, E> {
 
     /// Where the value of a key stands, counted from the frame's start.
     pub fn place(self, key: &[u8]) -> Result<Option<Range<usize>>, Refusal> {
+        Ok(self.stamped_place(key)?.map(|(place, _)| place))
+    }
+
+    /// The same, with the record's stamp.
+    fn stamped_place(self, key: &[u8]) -> Result<Option<(Range<usize>, u64)>, Refusal> {
         match E::CALLS.look_up(self.bytes, key) {
-            (DONE, [place, length, _]) => Ok(Some(in_frame(place)..in_frame(place + length))),
+            (DONE, [place, length, _, stamp]) => {
+                Ok(Some((in_frame(place)..in_frame(place + length), stamp)))
+            }
             (ABSENT, _) => Ok(None),
             (refused, _) => Err(Refusal::of_number(refused)),
         }
@@ -326,7 +348,7 @@ impl<'a, E: Edition> ViewOf<'a, E> {
     /// not: at most the key's length and 2, in every good frame of edition 1. In edition 2 it is 3 and each byte of the key, a byte 0 twice.
     pub fn visits(self, key: &[u8]) -> Result<usize, Refusal> {
         match E::CALLS.look_up(self.bytes, key) {
-            (DONE | ABSENT, [_, _, slots]) => Ok(in_frame(slots)),
+            (DONE | ABSENT, [_, _, slots, _]) => Ok(in_frame(slots)),
             (refused, _) => Err(Refusal::of_number(refused)),
         }
     }
@@ -425,6 +447,20 @@ impl View<'_> {
     }
 }
 
+/// What edition 2 alone has.
+impl<'a> View2<'a> {
+    /// The record of a key: its value, as a part of the lent bytes, and its stamp.
+    pub fn record(self, key: &[u8]) -> Result<Option<Record<'a>>, Refusal> {
+        let found = self.stamped_place(key)?;
+        Ok(found.map(|(place, stamp)| Record { value: &self.bytes[place], stamp }))
+    }
+
+    /// The stamp of a key: what the put or the replacement that wrote the record passed.
+    pub fn stamp(self, key: &[u8]) -> Result<Option<u64>, Refusal> {
+        Ok(self.record(key)?.map(|record| record.stamp))
+    }
+}
+
 impl<E: Edition> fmt::Debug for ViewOf<'_, E> {
     fn fmt(&self, to: &mut fmt::Formatter<'_>) -> fmt::Result {
         let [_, name] = E::NAMES;
@@ -462,25 +498,6 @@ impl<E: Edition, B: AsRef<[u8]> + AsMut<[u8]>> FrameOf<E, B> {
         FrameOf { bytes, edition: PhantomData }
     }
 
-    /// Puts a new record. If the key is there already, nothing is changed: [`FrameOf::replace`] gives it another value.
-    pub fn put(&mut self, key: &[u8], value: &[u8]) -> Result<Put, Refusal> {
-        match E::CALLS.put(self.bytes.as_mut(), key, value) {
-            DONE => Ok(Put::New),
-            PRESENT => Ok(Put::Present),
-            refused => Err(Refusal::of_number(refused)),
-        }
-    }
-
-    /// Gives the record with this key another value. If it is of another length, the old one's bytes are zero after it, and not free
-    /// before the frame is packed. To set a value whether the key is there or not, put, and replace if it is [`Put::Present`].
-    pub fn replace(&mut self, key: &[u8], value: &[u8]) -> Result<Replace, Refusal> {
-        match E::CALLS.replace(self.bytes.as_mut(), key, value) {
-            REPLACED => Ok(Replace::Done),
-            ABSENT => Ok(Replace::Absent),
-            refused => Err(Refusal::of_number(refused)),
-        }
-    }
-
     /// Takes a record out, and overwrites with zero what it had. This can be refused for room: a smaller node or a longer prefix may be
     /// needed.
     pub fn erase(&mut self, key: &[u8]) -> Result<Erase, Refusal> {
@@ -494,25 +511,48 @@ impl<E: Edition, B: AsRef<[u8]> + AsMut<[u8]>> FrameOf<E, B> {
     /// Makes all changes of a batch with one check of the frame, or none. They are made in `second`, which is as long as the frame and
     /// may hold anything, and go to the frame if none is refused; then `answers` has what each change answered, a byte each (0, 8, 9 or 11),
     /// as many as it has room for. If a change is refused, the frame and `answers` are as they were, and `second` holds what the changes
-    /// before it made. A [`Batch`] writes the bytes; docs/FORMAT.md has their layout.
+    /// before it made. The batch is one of the frame's edition.
     ///
     /// ```
-    /// # use frame_store::{Batch, Frame, Refusal, Stopped};
-    /// # let mut frame = Frame::format([0; 1024], 8).unwrap();
+    /// # use frame_store::{Batch2, Frame2};
+    /// # let mut frame = Frame2::format([0; 1024], 8).unwrap();
     /// let (mut lent, mut second, mut answers) = ([0; 128], [0; 1024], [0; 2]);
-    /// let mut batch = Batch::new(&mut lent, 2).unwrap();
-    /// batch.put(b"line.rate", b"100").unwrap();
+    /// let mut batch = Batch2::new(&mut lent, 2).unwrap();
+    /// batch.put(b"line.rate", b"100", 1_700_000_000).unwrap();
     /// batch.erase(b"line.mode").unwrap();
     /// assert_eq!(frame.apply(&batch, &mut second, &mut answers), Ok(()));
     /// assert_eq!(answers, [0, 8]);
     /// ```
-    pub fn apply<C: AsRef<[u8]> + ?Sized>(
+    ///
+    /// A batch of the other edition is laid out otherwise, and is not taken:
+    ///
+    /// ```compile_fail
+    /// # use frame_store::{Batch2, Frame};
+    /// # let mut frame = Frame::format([0; 1024], 8).unwrap();
+    /// let (mut lent, mut second, mut answers) = ([0; 128], [0; 1024], [0; 2]);
+    /// let mut batch = Batch2::new(&mut lent, 2).unwrap();
+    /// batch.put(b"line.rate", b"100", 1_700_000_000).unwrap();
+    /// batch.erase(b"line.mode").unwrap();
+    /// assert_eq!(frame.apply(&batch, &mut second, &mut answers), Ok(()));
+    /// ```
+    pub fn apply(
         &mut self,
-        batch: &C,
+        batch: &BatchOf<'_, E>,
         second: &mut [u8],
         answers: &mut [u8],
     ) -> Result<(), Stopped> {
-        match E::CALLS.batch(self.bytes.as_mut(), second, batch.as_ref(), answers) {
+        self.apply_bytes(batch.bytes(), second, answers)
+    }
+
+    /// The same with a batch from elsewhere: docs/FORMAT.md has the layout of the edition's. Any bytes may be lent: what is no batch is refused
+    /// with [`Refusal::Layout`].
+    pub fn apply_bytes(
+        &mut self,
+        batch: &[u8],
+        second: &mut [u8],
+        answers: &mut [u8],
+    ) -> Result<(), Stopped> {
+        match E::CALLS.batch(self.bytes.as_mut(), second, batch, answers) {
             (DONE, _) => Ok(()),
             (refused, place) => {
                 let change = usize::try_from(place).expect("a batch has at most 2^32 changes");
@@ -567,11 +607,64 @@ impl<E: Edition, B: AsRef<[u8]> + AsMut<[u8]>> FrameOf<E, B> {
     }
 }
 
-/// What edition 1 alone has.
+/// What edition 1 alone has, or has without a stamp.
 impl<B: AsRef<[u8]> + AsMut<[u8]>> Frame<B> {
+    /// Puts a new record. If the key is there already, nothing is changed: `replace` gives it another value.
+    pub fn put(&mut self, key: &[u8], value: &[u8]) -> Result<Put, Refusal> {
+        put_done(calls::put(self.bytes.as_mut(), key, value))
+    }
+
+    /// Gives the record with this key another value. If it is of another length, the old one's bytes are zero after it, and not free
+    /// before the frame is packed. To set a value whether the key is there or not, put, and replace if it is [`Put::Present`].
+    pub fn replace(&mut self, key: &[u8], value: &[u8]) -> Result<Replace, Refusal> {
+        replace_done(calls::replace(self.bytes.as_mut(), key, value))
+    }
+
     /// Packs a frame from before freed bytes were wiped; see [`View::pack_before`](ViewOf::pack_before).
     pub fn pack_before<O: AsMut<[u8]>>(&self, out: O) -> Result<Frame<O>, Refusal> {
         self.view().pack_before(out)
+    }
+}
+
+/// What edition 2 alone has, or has with a stamp.
+impl<B: AsRef<[u8]> + AsMut<[u8]>> Frame2<B> {
+    /// Puts a new record with this stamp. If the key is there already, nothing is changed, its stamp neither: `replace` gives it another
+    /// value.
+    pub fn put(&mut self, key: &[u8], value: &[u8], stamp: u64) -> Result<Put, Refusal> {
+        put_done(calls::put2(self.bytes.as_mut(), key, value, stamp))
+    }
+
+    /// Gives the record with this key another value and this stamp, or the same value another stamp. If the value is of another length, the
+    /// old one's bytes are zero after it, and not free before the frame is packed. To set a value whether the key is there or not, put,
+    /// and replace if it is [`Put::Present`].
+    pub fn replace(&mut self, key: &[u8], value: &[u8], stamp: u64) -> Result<Replace, Refusal> {
+        replace_done(calls::replace2(self.bytes.as_mut(), key, value, stamp))
+    }
+
+    /// The record of a key: its value, as a part of the frame, and its stamp.
+    pub fn record(&self, key: &[u8]) -> Result<Option<Record<'_>>, Refusal> {
+        self.view().record(key)
+    }
+
+    /// The stamp of a key: what the put or the replacement that wrote the record passed.
+    pub fn stamp(&self, key: &[u8]) -> Result<Option<u64>, Refusal> {
+        self.view().stamp(key)
+    }
+}
+
+fn put_done(number: u32) -> Result<Put, Refusal> {
+    match number {
+        DONE => Ok(Put::New),
+        PRESENT => Ok(Put::Present),
+        refused => Err(Refusal::of_number(refused)),
+    }
+}
+
+fn replace_done(number: u32) -> Result<Replace, Refusal> {
+    match number {
+        REPLACED => Ok(Replace::Done),
+        ABSENT => Ok(Replace::Absent),
+        refused => Err(Refusal::of_number(refused)),
     }
 }
 

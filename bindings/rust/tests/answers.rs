@@ -2,8 +2,8 @@
 #![forbid(unsafe_code)]
 
 use frame_store::{
-    check, check2, Batch, Edition, Edition1, Edition2, Entry, Erase, Frame, Frame2, Full, Info,
-    Lack, Page, Put, Refusal, Replace, Stopped, View, View2,
+    check, check2, Batch, Batch2, Edition, Edition1, Edition2, Entry, Erase, Frame, Frame2, Full,
+    Info, Lack, Page, Put, Record, Refusal, Replace, Stopped, View, View2,
 };
 
 const F: usize = 1_024;
@@ -218,12 +218,13 @@ fn a_batch_is_made_whole_or_not_at_all() -> Result<(), Refusal> {
     let (mut second, mut unknown) = ([7; F], batch.bytes().to_vec());
     unknown[12] = 4;
     let layout = Stopped { change: 0, refusal: Refusal::Layout };
-    assert_eq!(frame.apply(&unknown, &mut second, &mut answers), Err(layout));
+    assert_eq!(frame.apply_bytes(&unknown, &mut second, &mut answers), Err(layout));
     let length = Stopped { change: 0, refusal: Refusal::Output };
-    assert_eq!(frame.apply(&unknown, &mut [7; F + 8], &mut answers), Err(length), "7 before 12");
+    let longer = &mut [7; F + 8];
+    assert_eq!(frame.apply_bytes(&unknown, longer, &mut answers), Err(length), "7 before 12");
     assert_eq!((frame.bytes(), second), (before.bytes(), [7; F]));
     assert_eq!(Batch::new(&mut [0; 11], 2).err(), Some(Full));
-    assert_eq!(frame.apply(&[0; 4], &mut second, &mut []), Ok(()), "no change at all");
+    assert_eq!(frame.apply_bytes(&[0; 4], &mut second, &mut []), Ok(()), "no change at all");
     Ok(())
 }
 
@@ -404,6 +405,9 @@ fn every_refusal_has_its_number_and_words() {
     }
 }
 
+/// A stamp whose eight bytes all differ.
+const STAMP: u64 = 0x0102_0304_0506_0708;
+
 /// Keys that edition 1 refuses: with bytes 0, and of more than 112 bytes.
 const ADDRESSES: [&[u8]; 4] = [b"\0", b"\0\0", b"\0\xff", b"\0\x1a\x2b\0\0\x01"];
 
@@ -411,18 +415,18 @@ const ADDRESSES: [&[u8]; 4] = [b"\0", b"\0\0", b"\0\xff", b"\0\x1a\x2b\0\0\x01"]
 fn keys_of_edition_2() -> Result<(), Refusal> {
     let mut frame = Frame2::format([0; 4 * F], 64)?;
     for key in ADDRESSES.iter().rev() {
-        assert_eq!(frame.put(key, key)?, Put::New);
-        assert_eq!(frame.put(key, b"another")?, Put::Present);
+        assert_eq!(frame.put(key, key, STAMP)?, Put::New);
+        assert_eq!(frame.put(key, b"another", STAMP)?, Put::Present);
         assert_eq!(Frame::format([0; F], N)?.put(key, b""), Err(Refusal::KeyZero));
     }
     let long = [b'n'; Edition2::LONGEST_KEY + 1];
     for length in [Edition1::LONGEST_KEY + 1, Edition2::LONGEST_KEY] {
-        assert_eq!(frame.put(&long[..length], b"long")?, Put::New);
+        assert_eq!(frame.put(&long[..length], b"long", STAMP)?, Put::New);
         assert_eq!(frame.look_up(&long[..length])?, Some(&b"long"[..]));
         assert_eq!(Frame::format([0; F], N)?.put(&long[..length], b""), Err(Refusal::KeyLength));
     }
-    assert_eq!(frame.put(&long, b""), Err(Refusal::KeyLength));
-    assert_eq!(frame.put(b"", b""), Err(Refusal::KeyLength));
+    assert_eq!(frame.put(&long, b"", STAMP), Err(Refusal::KeyLength));
+    assert_eq!(frame.put(b"", b"", STAMP), Err(Refusal::KeyLength));
     assert_eq!(frame.view().list(&long, None, None, &mut []), Err(Refusal::KeyLength));
     for key in ADDRESSES {
         assert_eq!(frame.look_up(key)?, Some(key));
@@ -443,7 +447,7 @@ fn keys_of_edition_2() -> Result<(), Refusal> {
     assert_eq!(groups.next_entry()?, Some(Entry::Name(&long[..255])), "over three pages");
     assert_eq!(groups.next_entry()?, None);
     for key in ADDRESSES {
-        assert_eq!(frame.replace(key, b"")?, Replace::Done);
+        assert_eq!(frame.replace(key, b"", STAMP)?, Replace::Done);
         assert_eq!(frame.erase(key)?, Erase::Done);
         assert_eq!(frame.erase(key)?, Erase::Absent);
     }
@@ -459,8 +463,11 @@ fn a_frame_of_one_edition_is_none_of_the_other() -> Result<(), Refusal> {
     assert_eq!(View::open(&two).err(), Some(Refusal::Frame));
     assert_eq!(View2::open(&one).err(), Some(Refusal::Frame));
     assert_eq!(Frame2::open(one).err(), Some(Refusal::Frame));
-    assert_eq!(Frame2::over(one).put(b"a", b"1"), Err(Refusal::Frame));
+    assert_eq!(Frame2::over(one).put(b"a", b"1", STAMP), Err(Refusal::Frame));
+    assert_eq!(Frame2::over(one).replace(b"a", b"1", STAMP), Err(Refusal::Frame));
     assert_eq!(View2::over(&one).look_up(b"a"), Err(Refusal::Frame));
+    assert_eq!(View2::over(&one).record(b"a"), Err(Refusal::Frame));
+    assert_eq!(View2::over(&one).stamp(b"a"), Err(Refusal::Frame));
     assert_eq!(View::over(&two).pack_before([0; F]).err(), Some(Refusal::Frame));
     let frame = Frame2::open(two)?;
     assert_eq!(
@@ -471,20 +478,119 @@ fn a_frame_of_one_edition_is_none_of_the_other() -> Result<(), Refusal> {
 }
 
 #[test]
-fn a_batch_is_applied_to_either_edition() -> Result<(), Full> {
-    let (mut lent, mut second, mut answers) = ([0; 64], [0; F], [0xEE; 2]);
+fn a_stamp_stands_with_its_record() -> Result<(), Refusal> {
+    let mut frame = Frame2::format([0; F], N)?;
+    assert_eq!(frame.put(b"a", b"1", STAMP)?, Put::New);
+    assert_eq!(frame.put(b"b", b"", u64::MAX)?, Put::New);
+    assert_eq!(frame.record(b"a")?, Some(Record { value: b"1", stamp: STAMP }));
+    assert_eq!(frame.record(b"b")?, Some(Record { value: b"", stamp: u64::MAX }));
+    assert_eq!(frame.put(b"a", b"2", 9)?, Put::Present);
+    assert_eq!(frame.replace(b"c", b"2", 9)?, Replace::Absent);
+    assert_eq!(frame.record(b"a")?, Some(Record { value: b"1", stamp: STAMP }), "it stays");
+    assert_eq!((frame.record(b"c")?, frame.stamp(b"c")?), (None, None));
+    assert_eq!(frame.record(b""), Err(Refusal::KeyLength));
+    assert_eq!(frame.view().stamp(b""), Err(Refusal::KeyLength));
+    let record = frame.view().record(b"a")?.expect("the key is there");
+    let place = frame.place(b"a")?.expect("the key is there");
+    assert_eq!(record.value.as_ptr_range(), frame.bytes()[place].as_ptr_range());
+    Ok(())
+}
+
+#[test]
+fn a_replacement_writes_the_stamp() -> Result<(), Refusal> {
+    let mut frame = Frame2::format([0; F], N)?;
+    frame.put(b"a", b"1", STAMP)?;
+    frame.put(b"b", b"2", 7)?;
+    let before = frame.info()?;
+    assert_eq!(frame.replace(b"a", b"1", 9)?, Replace::Done);
+    assert_eq!(frame.record(b"a")?, Some(Record { value: b"1", stamp: 9 }), "the same value");
+    assert_eq!(frame.replace(b"a", b"2", u64::MAX)?, Replace::Done);
+    assert_eq!(frame.record(b"a")?, Some(Record { value: b"2", stamp: u64::MAX }));
+    assert_eq!(frame.info()?, before, "of equal length: nothing is needed");
+    assert_eq!(frame.replace(b"a", b"longer than eight", 0)?, Replace::Done);
+    assert_eq!(frame.record(b"a")?, Some(Record { value: b"longer than eight", stamp: 0 }));
+    assert_ne!(frame.info()?, before);
+    assert_eq!(frame.stamp(b"b")?, Some(7), "that of another record stays");
+    let full = vec![0; F];
+    assert_eq!(frame.replace(b"a", &full, STAMP), Err(Refusal::Room));
+    assert_eq!(frame.stamp(b"a")?, Some(0), "a refused call leaves it");
+    Ok(())
+}
+
+#[test]
+fn a_stamp_is_packed_with_its_record() -> Result<(), Refusal> {
+    let packed = |stamp, first: &[u8], second: &[u8]| {
+        let mut frame = Frame2::format([0; F], N)?;
+        frame.put(first, b"1", stamp)?;
+        frame.put(second, b"1", stamp)?;
+        frame.pack([0; F])
+    };
+    let one = packed(STAMP, b"a", b"b")?;
+    assert_eq!((one.stamp(b"a")?, one.stamp(b"b")?), (Some(STAMP), Some(STAMP)));
+    assert_eq!(one.bytes(), packed(STAMP, b"b", b"a")?.bytes(), "the same records");
+    let other = packed(STAMP + 1, b"a", b"b")?;
+    let differing = one.bytes().iter().zip(other.bytes()).filter(|(one, other)| one != other);
+    assert_eq!(differing.count(), 2, "one byte in each of two stamps");
+    // D is 96: there the packed image of one record has its Leaf, whose last eight bytes are the stamp.
+    let mut alone = Frame2::format([0; F], N)?;
+    alone.put(b"a", b"1", STAMP)?;
+    assert_eq!(alone.pack([0; F])?.bytes()[96 + 8..96 + 16], STAMP.to_le_bytes());
+    Ok(())
+}
+
+#[test]
+fn a_batch_of_edition_2_has_stamps() -> Result<(), Full> {
+    let (mut lent, mut second, mut answers) = ([0; 256], [0; F], [0xEE; 5]);
+    let mut batch = Batch2::new(&mut lent, 5)?;
+    batch.put(b"a", b"1", STAMP)?;
+    batch.put(b"a\0", b"2", u64::MAX)?;
+    batch.put(b"a", b"3", 5)?;
+    batch.replace(b"a\0", b"4", 6)?;
+    batch.erase(b"c")?;
+    assert_eq!(batch.erase(b"c"), Err(Full), "five were asked for");
+    let mut frame = Frame2::format([0; F], N).expect("F and N are within the limits");
+    assert_eq!(frame.apply(&batch, &mut second, &mut answers), Ok(()));
+    assert_eq!(answers, [0, 0, 11, 9, 8]);
+    assert_eq!(frame.record(b"a"), Ok(Some(Record { value: b"1", stamp: STAMP })));
+    assert_eq!(frame.record(b"a\0"), Ok(Some(Record { value: b"4", stamp: 6 })));
+    assert_eq!(frame.bytes(), second, "both frames are the same now");
+
+    let mut lent = [0; 64];
     let mut batch = Batch::new(&mut lent, 2)?;
     batch.put(b"a", b"1")?;
     batch.put(b"a\0", b"2")?;
-    let mut one = Frame::format([0; F], N).expect("F and N are within the limits");
+    let mut frame = Frame::format([0; F], N).expect("F and N are within the limits");
     let refused = Stopped { change: 2, refusal: Refusal::KeyZero };
-    assert_eq!(one.apply(&batch, &mut second, &mut answers), Err(refused));
-    let mut two = Frame2::format([0; F], N).expect("F and N are within the limits");
-    assert_eq!(two.apply(&batch, &mut second, &mut answers), Ok(()));
-    assert_eq!((answers, two.look_up(b"a\0")), ([0, 0], Ok(Some(&b"2"[..]))));
-    assert_eq!(two.apply(&batch, &mut second, &mut answers), Ok(()));
-    assert_eq!((answers, two.look_up(b"a")), ([11, 11], Ok(Some(&b"1"[..]))));
+    assert_eq!(frame.apply(&batch, &mut second, &mut answers), Err(refused), "in edition 1");
     Ok(())
+}
+
+/// Put a=1 with a stamp and then erase a, byte by byte as docs/FORMAT.md lays out a batch of each edition.
+#[test]
+fn a_batch_is_laid_out_by_its_edition() -> Result<(), Full> {
+    let mut lent = [0xEE; 64];
+    let mut one = Batch::new(&mut lent, 2)?;
+    one.put(b"a", b"1")?;
+    one.erase(b"a")?;
+    let head = [2, 0, 0, 0, 12, 0, 0, 0, 22, 0, 0, 0];
+    let changes = b"\x01\0\x01\0\x01\0\0\0a1\x03\0\x01\0\0\0\0\0a";
+    assert_eq!(one.bytes(), [&head[..], changes].concat());
+
+    let mut lent = [0xEE; 64];
+    let mut two = Batch2::new(&mut lent, 2)?;
+    two.put(b"a", b"1", STAMP)?;
+    two.erase(b"a")?;
+    let head = [2, 0, 0, 0, 12, 0, 0, 0, 30, 0, 0, 0];
+    let put = b"\x01\0\x01\0\x01\0\0\0\x08\x07\x06\x05\x04\x03\x02\x01a1";
+    let erase = b"\x03\0\x01\0\0\0\0\0\0\0\0\0\0\0\0\0a";
+    assert_eq!(two.bytes(), [&head[..], put, erase].concat());
+
+    // A change of edition 2 has eight bytes more than one of edition 1.
+    let mut lent = [0; 8 + 8 + 2];
+    let mut short = Batch2::new(&mut lent, 1)?;
+    assert_eq!(short.put(b"a", b"1", STAMP), Err(Full));
+    assert!(short.is_empty());
+    Batch::new(&mut lent, 1)?.put(b"a", b"1")
 }
 
 /// Two keys that share as many bytes as can be take seven slots at once.
@@ -494,8 +600,8 @@ fn what_a_put_of_edition_2_lacks() -> Result<(), Refusal> {
     // The EmptyRoot's slot is freed, and does not serve another kind.
     for (slots, lacks) in [(8, Some(Lack::Slots)), (10, None)] {
         let mut frame = Frame2::format([0; 4 * F], slots)?;
-        frame.put(&zeros, b"")?;
-        let given = frame.put(&zeros[1..], b"");
+        frame.put(&zeros, b"", STAMP)?;
+        let given = frame.put(&zeros[1..], b"", STAMP);
         let lacked = given.is_err().then_some(frame.info()?.lacked2(zeros.len()));
         assert_eq!((given.ok(), lacked), (lacks.is_none().then_some(Put::New), lacks));
     }

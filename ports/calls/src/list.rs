@@ -16,11 +16,9 @@ pub const LONGEST_VALUE: usize = 65_535;
 pub const LONGEST_BATCH: usize = 4_096;
 /// As many bytes as one line sets.
 const LINE_BYTES: usize = 256;
-/// A look-up writes its numbers only if it is lent so many.
-pub const LOOK_UP_NUMBERS: usize = 3;
-/// So does an info,
+/// An info writes its numbers only if it is lent so many.
 pub const INFO_NUMBERS: usize = 14;
-/// and a listing.
+/// So does a listing.
 pub const LIST_NUMBERS: usize = 2;
 /// As a delimiter: none.
 pub const NO_DELIMITER: u64 = 256;
@@ -39,6 +37,7 @@ const END: usize = ANSWERS_AT + 256 + BESIDE;
 const NUMBERS_AT: usize = (END + BESIDE) / 8 * 8;
 
 const DIRT: u8 = 0xA5;
+const STAMP_SEED: u64 = 9;
 
 /// Whose calls are made.
 #[derive(Clone, Copy, PartialEq, Eq)]
@@ -52,6 +51,14 @@ impl Edition {
         match self {
             Edition::One => 112,
             Edition::Two => 255,
+        }
+    }
+
+    /// A look-up writes its numbers only if it is lent so many.
+    pub const fn look_up_numbers(self) -> usize {
+        match self {
+            Edition::One => 3,
+            Edition::Two => 4,
         }
     }
 
@@ -86,12 +93,23 @@ pub struct List {
     frame: Bytes,
     /// How far from a multiple of 8 each lent buffer stands: frame, output, key, value.
     odd: [usize; 4],
+    stamps: Random,
 }
 
 impl List {
     pub fn new() -> List {
         let frame = Bytes { at: FRAME_AT, length: 0 };
-        List { text: String::new(), edition: Edition::One, frame, odd: [0; 4] }
+        let stamps = Random::new(STAMP_SEED);
+        List { text: String::new(), edition: Edition::One, frame, odd: [0; 4], stamps }
+    }
+
+    /// The stamp that is passed next: no bit set, all of them, or any.
+    pub fn stamp(&mut self) -> u64 {
+        match self.stamps.below(8) {
+            0 => 0,
+            1 => u64::MAX,
+            _ => self.stamps.draw(),
+        }
     }
 
     pub fn edition(&self) -> Edition {
@@ -216,7 +234,13 @@ impl List {
         let lent = Bytes { at: VALUE_AT + self.odd[3], length: value.length };
         self.random(lent, value.seed);
         let (frame, key, value) = (List::lent(frame), List::lent(key), List::lent(lent));
-        self.call(call, format_args!("{frame} {key} {value}"));
+        match self.edition {
+            Edition::One => self.call(call, format_args!("{frame} {key} {value}")),
+            Edition::Two => {
+                let stamp = self.stamp();
+                self.call(call, format_args!("{frame} {key} {value} ={stamp}"));
+            }
+        }
     }
 
     pub fn erase_of(&mut self, frame: Bytes, key: &[u8]) {
@@ -282,7 +306,7 @@ impl List {
     }
 
     pub fn look_up(&mut self, key: &[u8]) {
-        self.look_up_of(self.frame, key, LOOK_UP_NUMBERS);
+        self.look_up_of(self.frame, key, self.edition.look_up_numbers());
     }
 
     pub fn put(&mut self, key: &[u8], value: Value) {

@@ -5,7 +5,7 @@
 
 use crate::list::{
     Bytes, Edition, List, Names, Value, INFO_NUMBERS, LIST_NUMBERS, LONGEST_FRAME, LONGEST_VALUE,
-    LOOK_UP_NUMBERS, NO_DELIMITER,
+    NO_DELIMITER,
 };
 use crate::random::Random;
 
@@ -153,7 +153,7 @@ fn refusals(list: &mut List) {
         list.keep();
         list.check_of(long(length));
         list.info_of(long(length), INFO_NUMBERS);
-        list.look_up_of(long(length), b"", LOOK_UP_NUMBERS);
+        list.look_up_of(long(length), b"", list.edition().look_up_numbers());
         let names = Names { prefix: &too_long, start: Some(b""), delimiter: NO_DELIMITER };
         list.list_of(long(length), names, 0, LIST_NUMBERS);
         list.put_of(long(length), b"", Value { length: LONGEST_VALUE + 1, seed: 5 });
@@ -174,7 +174,7 @@ fn refusals(list: &mut List) {
         list.put(b"b", Value { length, seed: 11 });
         list.replace(b"a", Value { length, seed: 11 });
     }
-    for numbers in [0, 1, 2, 3, 4] {
+    for numbers in [0, 1, 2, 3, 4, 5] {
         list.look_up_of(frame, b"a", numbers);
         list.look_up_of(frame, b"b", numbers);
     }
@@ -299,8 +299,8 @@ struct Change {
     value: usize,
 }
 
-/// The changes as a batch, with a gap of so many bytes before each.
-fn laid_out(changes: &[Change], gap: usize) -> Vec<u8> {
+/// The changes as a batch of the list's edition, with a gap of so many bytes before each.
+fn laid_out(list: &mut List, changes: &[Change], gap: usize) -> Vec<u8> {
     let mut batch = (changes.len() as u32).to_le_bytes().to_vec();
     batch.resize(4 + 4 * changes.len(), 0);
     for (place, change) in changes.iter().enumerate() {
@@ -310,6 +310,9 @@ fn laid_out(changes: &[Change], gap: usize) -> Vec<u8> {
         batch.extend(change.kind.to_le_bytes());
         batch.extend((change.key.len() as u16).to_le_bytes());
         batch.extend((change.value as u32).to_le_bytes());
+        if list.edition() == Edition::Two {
+            batch.extend(list.stamp().to_le_bytes());
+        }
         batch.extend(&change.key);
         batch.extend((0..change.value).map(|byte| byte as u8));
     }
@@ -334,7 +337,7 @@ fn batches(list: &mut List) {
                 Change { kind: random.between(1, 3) as u16, key, value: random.below(longest) }
             })
             .collect();
-        let mut batch = laid_out(&changes, random.below(3));
+        let mut batch = laid_out(list, &changes, random.below(3));
         if round % 3 == 2 {
             let place = random.below(batch.len());
             batch[place] ^= 1 << random.below(8);
@@ -348,7 +351,7 @@ fn batches(list: &mut List) {
             list.take_packed();
         }
     }
-    let batch = laid_out(&[Change { kind: 1, key: b"one".to_vec(), value: 1 }], 0);
+    let batch = laid_out(list, &[Change { kind: 1, key: b"one".to_vec(), value: 1 }], 0);
     let frame = list.frame();
     list.batch_of(frame, SHORTEST_FRAME + 8, &batch, 1);
     list.batch_of(frame, SHORTEST_FRAME, &[0xFF; 40], 1);

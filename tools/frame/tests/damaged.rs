@@ -28,6 +28,7 @@ fn every_damage_is_told() {
         let rule = match damage.aim {
             Aim::Lengths => "F is ",
             Aim::Alone(rule) | Aim::Among(rule) => rule.sentence(EDITION),
+            Aim::Stamp(_) => panic!("{}: edition 1 has no stamps", damage.name),
         };
         let told = why.lines().any(|line| line.starts_with(&format!("  {rule}")));
         assert!(told, "{}: {rule}\n{why}", damage.name);

@@ -2,11 +2,12 @@
 //!
 //! Believed here: the section "A good frame" and the first two refusals of
 //! document 01; Q-3 of document 02: in a good frame freed bodies, dead
-//! extents and bytes from B on are zero; and Q-7: the keys of edition 2, and
-//! its chains of Prefixes, each full but the last. `read` looks at a whole frame
-//! as one of an edition and collects every rule it breaks, each with the first
-//! place where it does; a frame is good exactly if it breaks none, and was good
-//! before Q-3 exactly if it breaks none but those of Q-3. It never looks at
+//! extents and bytes from B on are zero; Q-7: the keys of edition 2, and its
+//! chains of Prefixes, each full but the last; and Q-8: what edition 2 has in a
+//! Leaf's last eight bytes, which are zero in edition 1, is a stamp. `read` looks at
+//! a whole frame as one of an edition and collects every rule it breaks, each with
+//! the first place where it does; a frame is good exactly if it breaks none, and was
+//! good before Q-3 exactly if it breaks none but those of Q-3. It never looks at
 //! padding.
 
 use crate::layout::*;
@@ -70,7 +71,7 @@ pub enum Rule {
     IndexPlace,
     /// No two index entries name one place.
     IndexDistinct,
-    /// The zero field of a live body is zero.
+    /// The zero field of a live body is zero; a Leaf of edition 2 has none.
     ZeroField,
     /// Unused bytes of a live body are zero.
     UnusedBytes,
@@ -432,8 +433,10 @@ impl Reader<'_> {
         if !readable {
             return;
         }
-        let zero = kind.zero_field();
-        self.demand_zero(Rule::ZeroField, Some(slot), offset + zero.start..offset + zero.end);
+        if let Some(zero) = kind.zero_field(self.edition) {
+            let zero = offset + zero.start..offset + zero.end;
+            self.demand_zero(Rule::ZeroField, Some(slot), zero);
+        }
         match kind {
             Kind::EmptyRoot => {
                 self.demand(Rule::EmptyRootPlace, at_root, Place::entry(slot));

@@ -49,6 +49,8 @@ pub const LEFT_OUT_KIND: usize = 3;
 pub const LEAF_EXTENT: usize = 0;
 pub const LEAF_KEY_LENGTH: usize = 4;
 pub const LEAF_VALUE_LENGTH: usize = 6;
+/// Zero in edition 1; in edition 2 a number of eight bytes, of any kind.
+pub const LEAF_STAMP: Range<usize> = 8..16;
 pub const PREFIX_CHILD: usize = 0;
 pub const PREFIX_LENGTH: usize = 4;
 pub const PREFIX_BYTES: Range<usize> = 16..128;
@@ -77,8 +79,8 @@ pub mod number {
     pub const LAYOUT: u32 = 12;
 }
 
-/// Which keys a frame can hold, and what their walked strings are: document 01
-/// has edition 1, Q-7 of document 02 edition 2.
+/// Which keys a frame can hold, what their walked strings are, and whether a record
+/// has a stamp: document 01 has edition 1, Q-7 and Q-8 of document 02 edition 2.
 #[derive(Clone, Copy, PartialEq, Eq, PartialOrd, Ord, Debug)]
 pub enum Edition {
     One = 1,
@@ -239,14 +241,15 @@ impl Kind {
             .expect("no inner node has more than 256 children")
     }
 
-    /// The field that is zero in every live body of this kind.
-    pub fn zero_field(self) -> Range<usize> {
+    /// The field that is zero in every live body of this kind. A Leaf of edition 2
+    /// has none: its stamp stands there.
+    pub fn zero_field(self, edition: Edition) -> Option<Range<usize>> {
         match self {
-            Leaf => 8..16,
-            Prefix => 6..16,
-            Node4 => 2..4,
-            Node16 | Node48 | Node256 => 2..8,
-            EmptyRoot => 0..8,
+            Leaf => (edition == Edition::One).then_some(LEAF_STAMP),
+            Prefix => Some(6..16),
+            Node4 => Some(2..4),
+            Node16 | Node48 | Node256 => Some(2..8),
+            EmptyRoot => Some(0..8),
         }
     }
 
