@@ -12,6 +12,7 @@ use crate::layout::*;
 use crate::random::Random;
 use crate::slotless::{inner, Beginning, ByKind, Tree};
 use crate::trees::{cuts, fork, leaving, small_value, Change, BEGINNINGS};
+use crate::value::Value;
 use crate::worked::{formatted, put, Figures};
 use std::collections::BTreeMap;
 use std::rc::Rc;
@@ -270,8 +271,10 @@ fn keys_of_zeros(comparer: &mut Comparer) -> Compared<()> {
     for length in 1..=MOST {
         comparer.look_up(&held, &zeros[..length])?;
     }
-    comparer.replace(&mut held, &zeros, b"another value")?;
-    comparer.replace(&mut held, &zeros[..1], b"w")?;
+    for (key, bytes) in [(&zeros[..], &b"another value"[..]), (&zeros[..1], b"w")] {
+        let value = comparer.stamped(bytes);
+        comparer.replace(&mut held, key, value)?;
+    }
     let packed = comparer.pack(&held, &[0xEE; F])?.expect("a good frame packs");
     comparer.look_up(&packed, &zeros)?;
     for length in order.iter().rev().map(|at| lengths[*at]) {
@@ -373,20 +376,21 @@ fn aimed_at(
     beginning: Beginning,
     flavour: Flavour,
 ) -> Option<(Rc<Tree>, Change)> {
-    let leaf = |key: Vec<u8>| Rc::new(Tree::Leaf { key: key.into(), value: [b'v'; 3].into() });
+    let value = Value { bytes: Rc::from([b'v'; 3]), stamp: random.stamp(EDITION) };
+    let leaf = |key: Vec<u8>| Rc::new(Tree::Leaf { key: key.into(), value: value.clone() });
     match beginning {
         Beginning::Begun { bytes } => {
             let path = flavour.bytes(bytes)?;
             let one = leaving(EDITION, random, &path, &[])?;
             let byte = EDITION.walked(&one)[bytes];
             let key = leaving(EDITION, random, &path, &[byte])?;
-            Some((leaf(one), Change::Put { key, value: small_value(random) }))
+            Some((leaf(one), Change::Put { key, value: small_value(EDITION, random) }))
         }
         Beginning::Cut { bytes, at } => {
             let path = flavour.bytes(bytes)?;
             let tree = above(&path, fork(EDITION, random, &path));
             let key = leaving(EDITION, random, &path[..at], &path[at..=at])?;
-            Some((tree, Change::Put { key, value: small_value(random) }))
+            Some((tree, Change::Put { key, value: small_value(EDITION, random) }))
         }
         Beginning::Joined { above: upper, below } => {
             let path = flavour.bytes(upper + 1 + below)?;
@@ -426,7 +430,8 @@ fn below_a_node(tree: &Rc<Tree>) -> Option<Rc<Tree>> {
     };
     let (first, rest) = bytes.split_first()?;
     let key = [first.wrapping_add(1).max(1); 9];
-    let beside = Tree::Leaf { key: key.into(), value: [b'v'; 3].into() };
+    let value = Value { bytes: Rc::from([b'v'; 3]), stamp: u64::MAX };
+    let beside = Tree::Leaf { key: key.into(), value };
     let children = [(*first, above(rest, below.clone())), (key[0], Rc::new(beside))];
     Some(Rc::new(inner(Kind::Node4, BTreeMap::from(children))))
 }

@@ -18,6 +18,7 @@ use crate::store;
 use crate::tally::Entry;
 use crate::trees::{aimed, random_tree, small_value, Change};
 use crate::unused::{soiled, speckled};
+use crate::value::Value;
 use std::rc::Rc;
 
 /// How keys of one history look.
@@ -119,11 +120,11 @@ fn history(
         };
         let put_chance = if growing { 8 } else { 2 };
         if random.below(10) < put_chance {
-            let value = if wide { vec![] } else { small_value(random) };
+            let value = if wide { random.value(edition, 0) } else { small_value(edition, random) };
             match random.below(4) {
-                0 => comparer.put(held, &key, &value)?,
-                1 => comparer.replace(held, &key, &value)?,
-                _ => comparer.put_or_replace(held, &key, &value)?,
+                0 => comparer.put(held, &key, value.given())?,
+                1 => comparer.replace(held, &key, value.given())?,
+                _ => comparer.put_or_replace(held, &key, value.given())?,
             };
         } else if random.one_in(3) {
             comparer.erase(held, &key)?;
@@ -157,8 +158,8 @@ fn some_key(random: &mut Random, state: &State) -> Option<Vec<u8>> {
 
 fn make(comparer: &mut Comparer, held: &mut Held, change: &Change) -> Compared<u32> {
     match change {
-        Change::Put { key, value } => comparer.put(held, key, value),
-        Change::Replace { key, value } => comparer.replace(held, key, value),
+        Change::Put { key, value } => comparer.put(held, key, value.given()),
+        Change::Replace { key, value } => comparer.replace(held, key, value.given()),
         Change::Erase { key } => comparer.erase(held, key),
     }
 }
@@ -167,8 +168,8 @@ fn make(comparer: &mut Comparer, held: &mut Held, change: &Change) -> Compared<u
 /// replacement of an absent one.
 fn make_in_vain(comparer: &mut Comparer, held: &mut Held, change: &Change) -> Compared<()> {
     match change {
-        Change::Put { key, value } => comparer.replace(held, key, value).map(|_| ()),
-        Change::Replace { key, value } => comparer.put(held, key, value).map(|_| ()),
+        Change::Put { key, value } => comparer.replace(held, key, value.given()).map(|_| ()),
+        Change::Replace { key, value } => comparer.put(held, key, value.given()).map(|_| ()),
         Change::Erase { .. } => Ok(()),
     }
 }
@@ -287,8 +288,9 @@ pub fn large_frames(comparer: &mut Comparer, seed: u64, rounds: u64) -> Compared
         let mut held = crafted(comparer, random, &tree, &lists, 0, spare)?;
         for length in [32_767, 32_768, 65_535, 65_536, 1, 65_535, 65_534, 65_535, 65_535] {
             let key = aimed(edition, random, &held.state().tree).key().to_vec();
-            let value = vec![random.byte(); length];
-            comparer.put_or_replace(&mut held, &key, &value)?;
+            let bytes = vec![random.byte(); length];
+            let value = Value { bytes: &bytes[..], stamp: random.stamp(edition) };
+            comparer.put_or_replace(&mut held, &key, value)?;
             comparer.look_up(&held, &key)?;
         }
         for _ in 0..30 {
@@ -342,12 +344,14 @@ fn all_calls(comparer: &mut Comparer, random: &mut Random, held: &Held) -> Compa
     comparer.check(held)?;
     comparer.info(held)?;
     comparer.look_up(held, b"a")?;
-    comparer.put(&mut held.clone(), b"a", b"value")?;
-    comparer.replace(&mut held.clone(), b"a", b"value")?;
+    let value = comparer.stamped(b"value");
+    comparer.put(&mut held.clone(), b"a", value)?;
+    comparer.replace(&mut held.clone(), b"a", value)?;
     comparer.erase(&mut held.clone(), b"a")?;
-    let changes = [Change::Put { key: b"a".to_vec(), value: b"value".to_vec() }];
+    let changes = [Change::Put { key: b"a".to_vec(), value: value.owned() }];
     let second = random.bytes(held.bytes().len());
-    comparer.batch(&mut held.clone(), &second, &laid(&changes, 0), &[0xEE; 1])?;
+    let batch = laid(comparer.edition(), &changes, 0);
+    comparer.batch(&mut held.clone(), &second, &batch, &[0xEE; 1])?;
     let asked = Asked { prefix: b"", start: None, delimiter: Some(b'/') };
     comparer.list(held, &asked, &random.bytes(40))?;
     let out = random.bytes(held.bytes().len());
@@ -467,8 +471,9 @@ pub fn small_frames(edition: Edition) -> Vec<Vec<u8>> {
     let made = |n: usize, puts: &[&[u8]], erases: &[&[u8]]| {
         let mut frame = vec![0; SHORTEST_FRAME];
         assert_eq!(store::format(edition, &mut frame, SHORTEST_FRAME, n), number::DONE);
-        for key in puts {
-            assert_eq!(store::put(edition, &mut frame, key, b"v"), number::DONE);
+        for (key, stamp) in puts.iter().zip([7, 0, u64::MAX, 1 << 63, 255, 256]) {
+            let value = Value::stamped(edition, &b"v"[..], stamp);
+            assert_eq!(store::put(edition, &mut frame, key, value), number::DONE);
         }
         for key in erases {
             assert_eq!(store::erase(edition, &mut frame, key), number::DONE);

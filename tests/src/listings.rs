@@ -40,7 +40,8 @@ fn some_frame(edition: Edition, random: &mut Random) -> Held {
         if random.one_in(20) {
             key.resize(edition.longest_key(), *random.pick(letters));
         }
-        store::put(edition, &mut frame, &key, b"");
+        let value = random.value(edition, 0);
+        store::put(edition, &mut frame, &key, value.given());
     }
     Held::new(edition, frame)
 }
@@ -202,7 +203,8 @@ fn changing_pages(
         start = entries.last().cloned().or(start);
         let records: Records = held.state().records();
         let keys: Vec<Vec<u8>> = records.into_keys().collect();
-        comparer.put(&mut held, &near_a_key(comparer.edition(), random, &keys), b"")?;
+        let (key, value) = (near_a_key(comparer.edition(), random, &keys), comparer.stamped(b""));
+        comparer.put(&mut held, &key, value)?;
         if let Some(key) = (!keys.is_empty()).then(|| random.pick(&keys)) {
             comparer.erase(&mut held, key)?;
         }

@@ -27,6 +27,7 @@ fn each_damage_breaks_its_rule() {
             (Aim::Lengths, None) => true,
             (Aim::Alone(rule), Some(broken)) => *broken == BTreeSet::from([rule]),
             (Aim::Among(rule), Some(broken)) => broken.contains(&rule) && broken.len() > 1,
+            (Aim::Stamp(_), Some(broken)) => broken.is_empty(),
             _ => false,
         };
         if !as_aimed {

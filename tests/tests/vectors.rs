@@ -13,6 +13,7 @@ use second_store::layout::{
 use second_store::names::{Asked, Page};
 use second_store::store::Found;
 use second_store::trees::Change;
+use second_store::value::Value;
 use std::fmt::Write;
 
 const STORED: &str = include_str!("../vectors.txt");
@@ -113,12 +114,12 @@ impl Told<'_> {
     }
 
     fn put(&mut self, step: &str, frame: &mut [u8], key: &[u8], value: &[u8]) {
-        let given = self.calls.put(frame, key, value);
+        let given = self.calls.put(frame, key, Value::plain(value));
         self.line(step, given, frame);
     }
 
     fn replace(&mut self, step: &str, frame: &mut [u8], key: &[u8], value: &[u8]) {
-        let given = self.calls.replace(frame, key, value);
+        let given = self.calls.replace(frame, key, Value::plain(value));
         self.line(step, given, frame);
     }
 
@@ -128,7 +129,7 @@ impl Told<'_> {
     }
 
     fn look_up(&mut self, frame: &[u8], key: &[u8], expected: &[u8]) {
-        let Found { number, place, length, slots } = self.calls.look_up(frame, key);
+        let Found { number, place, length, slots, .. } = self.calls.look_up(frame, key);
         let value = &frame[place as usize..][..length as usize];
         let same = if value == expected { "the same" } else { "not the same" };
         let told = format!("{number} long {length} slots {slots} {same}");
@@ -184,7 +185,7 @@ impl Told<'_> {
     fn growth_and_shrinking(&mut self) {
         let mut frame = self.format("children 0", WIDE);
         for n in 1..=MOST_CHILDREN {
-            let given = self.calls.put(&mut frame, &[n], b"v");
+            let given = self.calls.put(&mut frame, &[n], Value::plain(b"v"));
             self.children(n, given, &frame);
         }
         for n in (1..=MOST_CHILDREN).rev() {
@@ -272,8 +273,8 @@ impl Told<'_> {
         let mut second = vec![0; SMALL.0];
         let mut answers = vec![0xEE; changes.len()];
         self.calls.format(&mut first, SMALL.0, SMALL.1);
-        self.calls.put(&mut first, b"a", b"1");
-        let batch = laid(changes, 0);
+        self.calls.put(&mut first, b"a", Value::plain(b"1"));
+        let batch = laid(self.calls.edition(), changes, 0);
         let (given, place) = self.calls.batch(&mut first, &mut second, &batch, &mut answers);
         write!(self.text, "Q-6 batch of {} bytes, {step}", batch.len()).expect("a text");
         self.counts(given, &first);
@@ -282,9 +283,10 @@ impl Told<'_> {
     }
 
     fn batches(&mut self) {
-        let put = |key: &[u8], value: &[u8]| Change::Put { key: key.into(), value: value.into() };
+        let value = |bytes: &[u8]| Value::plain(bytes.to_vec());
+        let put = |key: &[u8], bytes: &[u8]| Change::Put { key: key.into(), value: value(bytes) };
         let replace =
-            |key: &[u8], value: &[u8]| Change::Replace { key: key.into(), value: value.into() };
+            |key: &[u8], bytes: &[u8]| Change::Replace { key: key.into(), value: value(bytes) };
         let erase = |key: &[u8]| Change::Erase { key: key.into() };
         self.batch("none", &[]);
         self.batch("put a=2, put b=2", &[put(b"a", b"2"), put(b"b", b"2")]);
@@ -335,7 +337,7 @@ impl Told<'_> {
 impl Told<'_> {
     /// The number of a put in edition 2, the counts, and the freed Prefixes.
     fn chained(&mut self, step: &str, frame: &mut [u8], key: &[u8]) {
-        let given = self.calls.put(frame, key, b"v");
+        let given = self.calls.put(frame, key, Value::plain(b"v"));
         self.text += step;
         self.counts(given, frame);
         self.prefixes(frame);
