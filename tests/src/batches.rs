@@ -10,6 +10,7 @@ use crate::compare::{Compared, Comparer};
 use crate::crafted::{build, Spare};
 use crate::layout::*;
 use crate::random::Random;
+use crate::run::Rounds;
 use crate::slotless::ByKind;
 use crate::store;
 use crate::trees::{aimed, random_tree, small_value, Change};
@@ -33,8 +34,8 @@ fn some_change(edition: Edition, random: &mut Random, keys: &[Vec<u8>]) -> Chang
 }
 
 /// Batches over one frame after another.
-pub fn batches(comparer: &mut Comparer, seed: u64, rounds: u64) -> Compared<()> {
-    for round in 0..rounds {
+pub fn batches(comparer: &mut Comparer, seed: u64, rounds: Rounds) -> Compared<()> {
+    for round in rounds {
         comparer.begin(format!("batches of seed {seed}, round {round}"));
         let mut random = Random::new(seed.wrapping_mul(1_000_117).wrapping_add(round));
         let random = &mut random;

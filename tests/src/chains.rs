@@ -10,6 +10,7 @@ use crate::compare::{Compared, Comparer, Held};
 use crate::history::to_the_brim;
 use crate::layout::*;
 use crate::random::Random;
+use crate::run::Rounds;
 use crate::slotless::{inner, Beginning, ByKind, Tree};
 use crate::trees::{cuts, fork, leaving, small_value, Change, BEGINNINGS};
 use crate::value::Value;
@@ -336,8 +337,8 @@ pub fn expected() -> Vec<Beginning> {
 
 /// Every beginning that is aimed at, at the root and below a node; with freed
 /// Prefixes to take, and without.
-pub fn chains(comparer: &mut Comparer, seed: u64, rounds: u64) -> Compared<()> {
-    for round in 0..rounds {
+pub fn chains(comparer: &mut Comparer, seed: u64, rounds: Rounds) -> Compared<()> {
+    for round in rounds {
         let mut random = Random::new(seed.wrapping_mul(1_000_181).wrapping_add(round));
         for beginning in expected() {
             for flavour in Flavour::BOTH {

@@ -13,6 +13,7 @@ use crate::crafted::{build, Spare};
 use crate::layout::*;
 use crate::names::Asked;
 use crate::random::Random;
+use crate::run::Rounds;
 use crate::slotless::{bodies, ByKind, State, Tree};
 use crate::store;
 use crate::tally::Entry;
@@ -76,8 +77,8 @@ fn refused_keys(edition: Edition) -> &'static [&'static [u8]] {
 
 /// Puts, replacements, erases, look-ups, checks and packs over one frame after
 /// another.
-pub fn histories(comparer: &mut Comparer, seed: u64, rounds: u64) -> Compared<()> {
-    for round in 0..rounds {
+pub fn histories(comparer: &mut Comparer, seed: u64, rounds: Rounds) -> Compared<()> {
+    for round in rounds {
         comparer.begin(format!("history of seed {seed}, round {round}"));
         let mut random = Random::new(seed.wrapping_mul(1_000_003).wrapping_add(round));
         let (alphabet, f, n) = match (comparer.edition(), round % 6) {
@@ -178,8 +179,8 @@ const ROOMY: Spare = Spare { slots: 16, bytes: 4_096 };
 
 /// One change aimed at a node, in crafted frames with just enough room for
 /// it, one slot less, one unit less, and both; then a few more in a roomy one.
-pub fn crafted_frames(comparer: &mut Comparer, seed: u64, rounds: u64) -> Compared<()> {
-    for round in 0..rounds {
+pub fn crafted_frames(comparer: &mut Comparer, seed: u64, rounds: Rounds) -> Compared<()> {
+    for round in rounds {
         comparer.begin(format!("crafted frames of seed {seed}, round {round}"));
         let mut random = Random::new(seed.wrapping_mul(1_000_033).wrapping_add(round));
         let random = &mut random;
@@ -268,10 +269,10 @@ fn crafted(
 }
 
 /// Good frames of the largest F and N, with high slot numbers and a long list.
-pub fn large_frames(comparer: &mut Comparer, seed: u64, rounds: u64) -> Compared<()> {
+pub fn large_frames(comparer: &mut Comparer, seed: u64, rounds: Rounds) -> Compared<()> {
     const LEAVES: usize = 1_500;
     const SLOTS_LEFT: usize = 40;
-    for round in 0..rounds {
+    for round in rounds {
         comparer.begin(format!("large frames of seed {seed}, round {round}"));
         let mut random = Random::new(seed.wrapping_mul(1_000_037).wrapping_add(round));
         let random = &mut random;
@@ -307,8 +308,8 @@ pub fn large_frames(comparer: &mut Comparer, seed: u64, rounds: u64) -> Compared
 /// Frames from before: crafted ones, and in what they have freed, or never given
 /// out, any bytes or a single one. Every call refuses them but one, and what that
 /// packs can be changed. In edition 2 every call refuses them.
-pub fn frames_before(comparer: &mut Comparer, seed: u64, rounds: u64) -> Compared<()> {
-    for round in 0..rounds {
+pub fn frames_before(comparer: &mut Comparer, seed: u64, rounds: Rounds) -> Compared<()> {
+    for round in rounds {
         comparer.begin(format!("frames from before, seed {seed}, round {round}"));
         let mut random = Random::new(seed.wrapping_mul(1_000_151).wrapping_add(round));
         let random = &mut random;
@@ -370,8 +371,8 @@ pub fn every_call(comparer: &mut Comparer, stage: String, bytes: Vec<u8>) -> Com
 
 /// Good frames of the other edition, and the same with the number of this one. What
 /// is good in edition 1 is so in edition 2, but for the number.
-pub fn other_edition(comparer: &mut Comparer, seed: u64, rounds: u64) -> Compared<()> {
-    for round in 0..rounds {
+pub fn other_edition(comparer: &mut Comparer, seed: u64, rounds: Rounds) -> Compared<()> {
+    for round in rounds {
         comparer.begin(format!("frames of the other edition, seed {seed}, round {round}"));
         let mut random = Random::new(seed.wrapping_mul(1_000_171).wrapping_add(round));
         let random = &mut random;
@@ -398,8 +399,8 @@ pub fn other_edition(comparer: &mut Comparer, seed: u64, rounds: u64) -> Compare
 }
 
 /// Bytes of any kind and length, with and without a likely header.
-pub fn arbitrary_bytes(comparer: &mut Comparer, seed: u64, rounds: u64) -> Compared<()> {
-    for round in 0..rounds {
+pub fn arbitrary_bytes(comparer: &mut Comparer, seed: u64, rounds: Rounds) -> Compared<()> {
+    for round in rounds {
         comparer.begin(format!("arbitrary bytes of seed {seed}, round {round}"));
         let mut random = Random::new(seed.wrapping_mul(1_000_039).wrapping_add(round));
         let random = &mut random;
@@ -430,8 +431,8 @@ pub fn arbitrary_bytes(comparer: &mut Comparer, seed: u64, rounds: u64) -> Compa
 }
 
 /// Good frames with a few bytes changed, wherever they are looked at.
-pub fn scratched_frames(comparer: &mut Comparer, seed: u64, rounds: u64) -> Compared<()> {
-    for round in 0..rounds {
+pub fn scratched_frames(comparer: &mut Comparer, seed: u64, rounds: Rounds) -> Compared<()> {
+    for round in rounds {
         comparer.begin(format!("scratched frames of seed {seed}, round {round}"));
         let mut random = Random::new(seed.wrapping_mul(1_000_081).wrapping_add(round));
         let random = &mut random;

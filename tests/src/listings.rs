@@ -11,6 +11,7 @@ use crate::layout::number::{BUFFER, DONE};
 use crate::layout::Edition;
 use crate::names::{Asked, LENGTH_BYTES};
 use crate::random::Random;
+use crate::run::Rounds;
 use crate::slotless::ByKind;
 use crate::store::{self, Records};
 use crate::trees::random_tree;
@@ -122,9 +123,9 @@ fn room(random: &mut Random, held: &Held, asked: &Asked) -> usize {
 }
 
 /// Listings of every sort over one frame after another.
-pub fn listings(comparer: &mut Comparer, seed: u64, rounds: u64) -> Compared<()> {
+pub fn listings(comparer: &mut Comparer, seed: u64, rounds: Rounds) -> Compared<()> {
     const LISTINGS: usize = 12;
-    for round in 0..rounds {
+    for round in rounds {
         comparer.begin(format!("listings of seed {seed}, round {round}"));
         let mut random = Random::new(seed.wrapping_mul(1_000_099).wrapping_add(round));
         let random = &mut random;

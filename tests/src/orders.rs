@@ -12,6 +12,7 @@ use crate::crafted::{build, Spare};
 use crate::layout::number::{ABSENT, DONE, PRESENT, REPLACED};
 use crate::layout::{Edition, Kind};
 use crate::random::Random;
+use crate::run::Rounds;
 use crate::slotless::ByKind;
 use crate::store::Records;
 use crate::tally::Entry;
@@ -83,8 +84,8 @@ fn reach(comparer: &mut Comparer, random: &mut Random, records: &Records) -> Com
     Ok(held)
 }
 
-pub fn same_records(comparer: &mut Comparer, seed: u64, rounds: u64) -> Compared<()> {
-    for round in 0..rounds {
+pub fn same_records(comparer: &mut Comparer, seed: u64, rounds: Rounds) -> Compared<()> {
+    for round in rounds {
         comparer.begin(format!("same records, seed {seed}, round {round}"));
         let mut random = Random::new(seed.wrapping_mul(15_485_863).wrapping_add(round));
         let mut records = some_records(comparer.edition(), &mut random);
@@ -118,9 +119,9 @@ pub fn same_records(comparer: &mut Comparer, seed: u64, rounds: u64) -> Compared
 const STAY_OF_TEN: u64 = 8;
 
 /// Nothing is predicted here: the calls are held to one another.
-pub fn any_order(comparer: &mut Comparer, seed: u64, rounds: u64) -> Compared<()> {
-    let mut stay = 0;
-    for round in 0..rounds {
+pub fn any_order(comparer: &mut Comparer, seed: u64, rounds: Rounds) -> Compared<()> {
+    let (mut stay, all) = (0, rounds.end - rounds.start);
+    for round in rounds {
         comparer.begin(format!("any order, seed {seed}, round {round}"));
         let mut random = Random::new(seed.wrapping_mul(32_452_843).wrapping_add(round));
         let (frame, changes) = some_changes(comparer.edition(), &mut random);
@@ -149,8 +150,8 @@ pub fn any_order(comparer: &mut Comparer, seed: u64, rounds: u64) -> Compared<()
             comparer.tally.add(Entry::ShuffledFramesDiffer);
         }
     }
-    if stay * 10 < rounds * STAY_OF_TEN {
-        return comparer.differs(format!("only {stay} of {rounds} pairs are without a refusal"));
+    if stay * 10 < all * STAY_OF_TEN {
+        return comparer.differs(format!("only {stay} of {all} pairs are without a refusal"));
     }
     Ok(())
 }

@@ -45,6 +45,7 @@ fn puts_and_replacements_hold() {
 #[test]
 fn slots_visited_hold() {
     holds(worked::slots_visited);
+    holds(worked::most_slots_visited);
 }
 
 #[test]

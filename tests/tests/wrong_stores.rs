@@ -122,7 +122,7 @@ fn stores_bound_to_an_order_are_caught() {
         let stores = wrong::bound_to_an_order(edition);
         assert!(stores.len() >= 4, "only {} wrong stores", stores.len());
         for store in &stores {
-            let caught = orders::any_order(&mut Comparer::new(store), FIXED.seed, 400).is_err();
+            let caught = orders::any_order(&mut Comparer::new(store), FIXED.seed, 0..400).is_err();
             assert!(caught, "not caught: {}", store.name);
         }
     }
