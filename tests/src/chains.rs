@@ -248,7 +248,7 @@ fn slots_on_the_way(comparer: &mut Comparer) -> Compared<()> {
         (with(111, b"-"), 1),
         (with(0, b"-"), 1),
     ] {
-        let told = comparer.look_up(&held, &key)?;
+        let told = comparer.look_up(&held, &key)?.slots;
         if told != slots {
             let long = key.len();
             return comparer.differs(format!("{long} bytes lead to {slots} slots, and not {told}"));

@@ -15,7 +15,7 @@ use crate::names::{self, Asked, Page, LENGTH_BYTES};
 use crate::random::Random;
 use crate::slotless::{bodies, State};
 use crate::store::{self, Found, Records};
-use crate::tally::{Batch, Call, Entry, Key, Listing, Tally};
+use crate::tally::{Batch, Call, Entry, Key, Listing, Stamp, Tally};
 use crate::touched;
 use crate::trees::Change;
 use crate::value::{Given, Value};
@@ -367,8 +367,39 @@ impl<'a> Comparer<'a> {
         }
     }
 
-    /// Gives the slots that were visited.
-    pub fn look_up(&mut self, held: &Held, key: &[u8]) -> Compared<u64> {
+    /// Which stamps a look-up tells, in edition 2.
+    fn count_told(&mut self, stamp: u64) {
+        if self.edition() == Edition::Two {
+            let case = match stamp {
+                0 => Stamp::Least,
+                u64::MAX => Stamp::Most,
+                _ => Stamp::Between,
+            };
+            self.tally.add(Entry::Stamp(case));
+        }
+    }
+
+    /// What becomes of the stamp of a record that is there, in edition 2, by the
+    /// number of a put or a replacement.
+    fn count_stamp(&mut self, old: Given, new: Given, number: u32) {
+        if self.edition() == Edition::One {
+            return;
+        }
+        let same_length = old.bytes.len() == new.bytes.len();
+        let case = match (number, old.stamp == new.stamp) {
+            (PRESENT, false) => Stamp::LeftByPut,
+            (NO_ROOM, false) => Stamp::LeftWithoutRoom,
+            (REPLACED, false) if old.bytes == new.bytes => Stamp::Alone,
+            (REPLACED, false) if same_length => Stamp::WithSameLength,
+            (REPLACED, false) => Stamp::WithOtherLength,
+            (REPLACED, true) if same_length && old.bytes != new.bytes => Stamp::Kept,
+            _ => return,
+        };
+        self.tally.add(Entry::Stamp(case));
+    }
+
+    /// Gives what is told.
+    pub fn look_up(&mut self, held: &Held, key: &[u8]) -> Compared<Found> {
         self.step += 1;
         let call = format!("look-up of {}", shown(key));
         let (mut frame, mut lent_key) = (self.lend(&held.bytes), self.lend(key));
@@ -412,12 +443,16 @@ impl<'a> Comparer<'a> {
         }
         if let Some(Ok(value)) = found {
             self.count_key(Call::LookUp, held.state(), key);
+            self.count_told(value.stamp);
             if store::value(self.edition(), &held.bytes, key) != &*value.bytes {
                 return self.differs(format!("{call}: the two readings of the value differ"));
             }
         }
-        self.demand(given == expected, || format!("{call} gave {given:?}, not {expected:?}"))?;
-        Ok(given.slots)
+        let but_for_stamp = Found { stamp: given.stamp, ..expected };
+        self.demand(given == but_for_stamp, || format!("{call} gave {given:?}, not {expected:?}"))?;
+        let (is, should) = (given.stamp, expected.stamp);
+        self.demand(is == should, || format!("{call} told the stamp {is}, not {should}"))?;
+        Ok(given)
     }
 
     /// Gives the number; the frame held is then the one after the call.
@@ -463,7 +498,7 @@ impl<'a> Comparer<'a> {
                 *refused
             }
             Ok(state) => {
-                let mut other = state.clone();
+                let (mut other, old) = (state.clone(), state.find(key).ok());
                 let (told, other) = if replacing {
                     (state.replace(key, value), other.put(key, value))
                 } else {
@@ -472,6 +507,9 @@ impl<'a> Comparer<'a> {
                 self.tally.count(of, &told);
                 if matches!(told.number, PRESENT | ABSENT) && other.number == NO_ROOM {
                     self.tally.add(Entry::NoneNeeded(of));
+                }
+                if let Some(old) = old {
+                    self.count_stamp(old.given(), value, told.number);
                 }
                 told.number
             }
@@ -607,11 +645,18 @@ impl<'a> Comparer<'a> {
             return Ok(None);
         };
         let expected = image(state.edition, state.f, state.n, &state.records());
-        self.unchanged(&call, "output as it should be", &mut out, &expected)?;
         let packed = self.held(expected);
         if packed.refusal().is_some() || packed.state().records() != state.records() {
             return self.differs(format!("{call}: the image does not read back"));
         }
+        let written = out.seen().to_vec();
+        if written != packed.bytes {
+            if let Ok(is) = &self.held(written).known {
+                let what = differing(is, packed.state());
+                return self.differs(format!("{call} wrote another image: {what}"));
+            }
+        }
+        self.unchanged(&call, "output as it should be", &mut out, &packed.bytes)?;
         let (slots, bytes) = given_back(state);
         let (is, was) = (packed.state(), state);
         let kept = is.u + slots == was.u && is.b + bytes <= was.b;
@@ -836,6 +881,14 @@ impl<'a> Comparer<'a> {
                 for (case, _) in cases.into_iter().filter(|(_, holds)| *holds) {
                     self.tally.add(Entry::Batch(case));
                 }
+                let (was, is) = (before.records(), applied.state.records());
+                let restamped = |key: &Vec<u8>| {
+                    let (was, is) = (&was[key], is.get(key));
+                    is.is_some_and(|is| is.bytes == was.bytes && is.stamp != was.stamp)
+                };
+                if !stopped && was.keys().any(restamped) {
+                    self.tally.add(Entry::Stamp(Stamp::AloneInBatch));
+                }
             }
             _ => {}
         }
@@ -1032,10 +1085,14 @@ fn differing(found: &State, predicted: &State) -> String {
         return format!("U, B, R, X and the lists by kind are {is:?} and not {should:?}");
     }
     let (is, should) = (found.records(), predicted.records());
-    if is != should {
-        let keys = should.keys().chain(is.keys());
-        let key = keys.into_iter().find(|key| is.get(*key) != should.get(*key));
-        return format!("the record set, first at {}", shown(key.map_or(&[], |key| key)));
+    let mut keys = should.keys().chain(is.keys());
+    if let Some(key) = keys.find(|key| is.get(*key) != should.get(*key)) {
+        return match (is.get(key), should.get(key)) {
+            (Some(is), Some(should)) if is.bytes == should.bytes => {
+                format!("the stamp of {} is {} and not {}", shown(key), is.stamp, should.stamp)
+            }
+            _ => format!("the record set, first at {}", shown(key)),
+        };
     }
     let (is, should) = (bodies(&found.tree), bodies(&predicted.tree));
     if is != should {

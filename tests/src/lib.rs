@@ -26,6 +26,7 @@ pub mod random;
 pub mod run;
 pub mod session;
 pub mod slotless;
+pub mod stamps;
 pub mod store;
 pub mod tally;
 pub mod touched;

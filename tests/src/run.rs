@@ -6,7 +6,7 @@
 use crate::compare::{Calls, Compared, Comparer};
 use crate::layout::Edition;
 use crate::tally::Tally;
-use crate::{batches, chains, damage, history, listings, orders, worked};
+use crate::{batches, chains, damage, history, listings, orders, stamps, worked};
 use std::env;
 use std::ops::Range;
 
@@ -57,6 +57,7 @@ pub fn all_stages(calls: &dyn Calls, effort: Effort) -> Compared<Tally> {
 pub fn worked_cases(comparer: &mut Comparer) -> Compared<()> {
     worked::worked_frames(comparer)?;
     worked::puts_and_replacements(comparer)?;
+    stamps::worked_stamps(comparer)?;
     worked::slots_visited(comparer)?;
     worked::worked_listings(comparer)?;
     worked::worked_batches(comparer)?;

@@ -216,7 +216,12 @@ fn extended(edition: Edition, random: &mut Random, mut start: Vec<u8>) -> Vec<u8
     start
 }
 
+/// In edition 2 at times one that many records have, so that a replacement can differ
+/// in the stamp alone.
 pub fn small_value(edition: Edition, random: &mut Random) -> Value<Vec<u8>> {
+    if edition == Edition::Two && random.one_in(6) {
+        return Value { bytes: b"same".to_vec(), stamp: random.stamp(edition) };
+    }
     let length = if random.one_in(12) { random.below(300) } else { random.below(20) };
     random.value(edition, length)
 }
@@ -364,6 +369,10 @@ fn at_leaf(edition: Edition, random: &mut Random, path: &[u8], key: &[u8], value
     let long = value.bytes.len();
     match random.below(6) {
         0 => Change::Erase { key: key.to_vec() },
+        1 if edition == Edition::Two && random.one_in(2) => {
+            let stamp = random.stamp(edition);
+            Change::Replace { key: key.to_vec(), value: Value { stamp, ..value.owned() } }
+        }
         1 => Change::Replace { key: key.to_vec(), value: random.value(edition, long) },
         2 => {
             // Another length, most often with the same rounded size.

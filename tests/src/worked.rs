@@ -371,7 +371,7 @@ fn row_of_edition_2(comparer: &mut Comparer) -> Compared<()> {
 }
 
 fn visited(comparer: &mut Comparer, held: &Held, key: &[u8], slots: u64) -> Compared<()> {
-    let told = comparer.look_up(held, key)?;
+    let told = comparer.look_up(held, key)?.slots;
     if told != slots {
         let way = key.escape_ascii();
         return comparer.differs(format!("the way of {way} has {slots} slots, and not {told}"));

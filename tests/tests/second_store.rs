@@ -7,7 +7,7 @@ use second_store::layout::{get32, Edition, AT_B};
 use second_store::run::{all_stages, limits, worked_cases, Effort};
 use second_store::store::{self, Records};
 use second_store::value::Value;
-use second_store::{chains, check, history, worked};
+use second_store::{chains, check, history, stamps, worked};
 
 fn passes(compared: Compared<()>) {
     if let Err(difference) = compared {
@@ -40,6 +40,11 @@ fn growth_and_shrinking_hold() {
 #[test]
 fn puts_and_replacements_hold() {
     holds(worked::puts_and_replacements);
+}
+
+#[test]
+fn worked_stamps_hold() {
+    holds(stamps::worked_stamps);
 }
 
 #[test]
