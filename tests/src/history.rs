@@ -270,14 +270,19 @@ fn crafted(
 
 /// Good frames of the largest F and N, with high slot numbers and a long list.
 pub fn large_frames(comparer: &mut Comparer, seed: u64, rounds: Rounds) -> Compared<()> {
-    const LEAVES: usize = 1_500;
     const SLOTS_LEFT: usize = 40;
     for round in rounds {
         comparer.begin(format!("large frames of seed {seed}, round {round}"));
         let mut random = Random::new(seed.wrapping_mul(1_000_037).wrapping_add(round));
         let random = &mut random;
         let edition = comparer.edition();
-        let tree = Some(random_tree(edition, random, LEAVES));
+        // As many as fit with room to spare, whatever their keys: those of edition 2
+        // are longer.
+        let leaves = match edition {
+            Edition::One => 1_500,
+            Edition::Two => 600,
+        };
+        let tree = Some(random_tree(edition, random, leaves));
         let mut lists = ByKind::default();
         lists[Kind::Leaf.number()] = random.below(3);
         lists[Kind::Prefix.number()] = random.below(3);
