@@ -36,3 +36,4 @@ pub mod value;
 pub mod worked;
 pub mod wrong;
 pub mod wrong_editions;
+pub mod wrong_stamps;

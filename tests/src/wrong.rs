@@ -1646,7 +1646,7 @@ pub fn lists(edition: Edition) -> Vec<Altered> {
 
 /// How a batch is applied by these calls.
 #[derive(Clone, Copy)]
-struct Applying<'a> {
+pub(crate) struct Applying<'a> {
     calls: &'a dyn Calls,
     stops: fn(u32) -> bool,
     back_if_refused: bool,
@@ -1655,7 +1655,7 @@ struct Applying<'a> {
 }
 
 impl Applying<'_> {
-    fn right(edition: Edition) -> Applying<'static> {
+    pub fn right(edition: Edition) -> Applying<'static> {
         let calls: &'static Second = match edition {
             Edition::One => &Second(Edition::One),
             Edition::Two => &Second(Edition::Two),
@@ -1670,7 +1670,7 @@ impl Applying<'_> {
     }
 
     /// The changes of a batch whose frames and layout are right.
-    fn apply(
+    pub fn apply(
         &self,
         frame: &mut [u8],
         second: &mut [u8],
@@ -1704,7 +1704,12 @@ impl Applying<'_> {
 }
 
 /// The changes of a batch that the second store would start on.
-fn started(edition: Edition, frame: &[u8], second: &[u8], batch: &[u8]) -> Option<Vec<Change>> {
+pub(crate) fn started(
+    edition: Edition,
+    frame: &[u8],
+    second: &[u8],
+    batch: &[u8],
+) -> Option<Vec<Change>> {
     let begun = check::check(edition, frame) == DONE && frame.len() == second.len();
     begun.then(|| batch::changes(edition, batch).ok()).flatten()
 }
@@ -1909,7 +1914,7 @@ pub fn batches(edition: Edition) -> Vec<Altered> {
 }
 
 /// Alters each change of a batch whose fields lie in it.
-fn each_change(batch: &mut [u8], alter: fn(&mut [u8], usize)) {
+pub(crate) fn each_change(batch: &mut [u8], alter: fn(&mut [u8], usize)) {
     if batch.len() < COUNT_BYTES {
         return;
     }
