@@ -363,6 +363,7 @@ fn look_up_by_all_lengths(edition: Edition, frame: &[u8], key: &[u8]) -> Found {
         assert!(kept, "a look-up refused with {number} wrote");
         return Found::refused(number);
     }
-    let stamp = found.get(3).copied().unwrap_or(NO_STAMP);
-    Found { number, place: found[0], length: found[1], slots: found[2], stamp }
+    let (&[place, length, slots], stamp) = found.split_first_chunk().expect("three in both");
+    let stamp = stamp.first().copied().unwrap_or(NO_STAMP);
+    Found { number, place, length, slots, stamp }
 }

@@ -474,10 +474,11 @@ pub fn scratched_frames(comparer: &mut Comparer, seed: u64, rounds: Rounds) -> C
 /// dead extents; in edition 2 one with a chain and keys of bytes 0 besides; all of
 /// 1,024 bytes.
 pub fn small_frames(edition: Edition) -> Vec<Vec<u8>> {
+    const STAMPS: [u64; 6] = [7, 0, u64::MAX, 1 << 63, 255, 256];
     let made = |n: usize, puts: &[&[u8]], erases: &[&[u8]]| {
         let mut frame = vec![0; SHORTEST_FRAME];
         assert_eq!(store::format(edition, &mut frame, SHORTEST_FRAME, n), number::DONE);
-        for (key, stamp) in puts.iter().zip([7, 0, u64::MAX, 1 << 63, 255, 256]) {
+        for (key, stamp) in puts.iter().zip(STAMPS.into_iter().cycle()) {
             let value = Value::stamped(edition, &b"v"[..], stamp);
             assert_eq!(store::put(edition, &mut frame, key, value), number::DONE);
         }

@@ -17,7 +17,7 @@ use crate::slotless::ByKind;
 use crate::store::Records;
 use crate::tally::Entry;
 use crate::trees::{aimed, random_tree, small_value, Change};
-use crate::value::{Value, STAMP_BYTES};
+use crate::value::Value;
 use std::collections::BTreeMap;
 
 const F: usize = 131_072;
@@ -102,7 +102,7 @@ pub fn same_records(comparer: &mut Comparer, seed: u64, rounds: Rounds) -> Compa
         let (key, mut value) = records.pop_last().expect("there are records");
         // In edition 2 in every second round by the stamp alone.
         if comparer.edition() == Edition::Two && round % 2 == 1 {
-            value.stamp ^= 1 << random.below(STAMP_BYTES * 8);
+            value.stamp ^= 1 << random.below(u64::BITS as usize);
         } else {
             value.bytes.push(b'!');
         }
