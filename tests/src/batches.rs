@@ -10,9 +10,11 @@ use crate::compare::{Compared, Comparer};
 use crate::crafted::{build, Spare};
 use crate::layout::*;
 use crate::random::Random;
+use crate::run::Rounds;
 use crate::slotless::ByKind;
 use crate::store;
 use crate::trees::{aimed, random_tree, small_value, Change};
+use crate::value::Value;
 
 fn some_change(edition: Edition, random: &mut Random, keys: &[Vec<u8>]) -> Change {
     let too_long = vec![b'k'; edition.longest_key() + 1];
@@ -21,8 +23,8 @@ fn some_change(edition: Edition, random: &mut Random, keys: &[Vec<u8>]) -> Chang
         _ => random.pick(keys).clone(),
     };
     let value = match random.below(150) {
-        0 => vec![0; LONGEST_VALUE + 1],
-        _ => small_value(random),
+        0 => Value { bytes: vec![0; LONGEST_VALUE + 1], stamp: random.stamp(edition) },
+        _ => small_value(edition, random),
     };
     match random.below(3) {
         0 => Change::Put { key, value },
@@ -32,8 +34,8 @@ fn some_change(edition: Edition, random: &mut Random, keys: &[Vec<u8>]) -> Chang
 }
 
 /// Batches over one frame after another.
-pub fn batches(comparer: &mut Comparer, seed: u64, rounds: u64) -> Compared<()> {
-    for round in 0..rounds {
+pub fn batches(comparer: &mut Comparer, seed: u64, rounds: Rounds) -> Compared<()> {
+    for round in rounds {
         comparer.begin(format!("batches of seed {seed}, round {round}"));
         let mut random = Random::new(seed.wrapping_mul(1_000_117).wrapping_add(round));
         let random = &mut random;
@@ -56,8 +58,8 @@ pub fn batches(comparer: &mut Comparer, seed: u64, rounds: u64) -> Compared<()> 
             let changes: Vec<Change> =
                 (0..some).map(|_| some_change(edition, random, &keys)).collect();
             let gap = if random.one_in(3) { random.from_to(1, 9) } else { 0 };
-            let batch = laid(&changes, gap);
-            if batch::changes(&batch).as_ref() != Ok(&changes) {
+            let batch = laid(edition, &changes, gap);
+            if batch::changes(edition, &batch).as_ref() != Ok(&changes) {
                 return comparer.differs("a batch does not read back".to_string());
             }
             let f = held.bytes().len();
@@ -82,15 +84,16 @@ pub fn batches(comparer: &mut Comparer, seed: u64, rounds: u64) -> Compared<()> 
 fn small_batches(edition: Edition) -> (Vec<u8>, [Vec<Change>; 3]) {
     let mut frame = vec![0; SHORTEST_FRAME];
     assert_eq!(store::format(edition, &mut frame, SHORTEST_FRAME, 20), number::DONE);
-    assert_eq!(store::put(edition, &mut frame, b"a", b"1"), number::DONE);
-    let put = |key: &[u8], value: &[u8]| Change::Put { key: key.into(), value: value.into() };
-    let replace =
-        |key: &[u8], value: &[u8]| Change::Replace { key: key.into(), value: value.into() };
+    let value = |bytes: &[u8], stamp: u64| Value::stamped(edition, bytes.to_vec(), stamp);
+    let first = value(b"1", u64::MAX);
+    assert_eq!(store::put(edition, &mut frame, b"a", first.given()), number::DONE);
+    let put = |key: &[u8], value| Change::Put { key: key.into(), value };
+    let replace = |key: &[u8], value| Change::Replace { key: key.into(), value };
     let erase = |key: &[u8]| Change::Erase { key: key.into() };
     let batches = [
-        vec![put(b"b", b"2"), replace(b"a", b"34"), erase(b"b")],
-        vec![erase(b"c"), put(b"a", b"5"), put(b"ab", b"")],
-        vec![replace(b"z", b"0"), erase(b"a")],
+        vec![put(b"b", value(b"2", 1)), replace(b"a", value(b"34", 2)), erase(b"b")],
+        vec![erase(b"c"), put(b"a", value(b"5", 3)), put(b"ab", value(b"", 1 << 63))],
+        vec![replace(b"z", value(b"0", 4)), replace(b"a", value(b"1", 5)), erase(b"a")],
     ];
     (frame, batches)
 }
@@ -103,7 +106,7 @@ pub fn damaged_batches(comparer: &mut Comparer) -> Compared<()> {
     let held = comparer.held(frame);
     let second = vec![0xEE; SHORTEST_FRAME];
     for (changes, gap) in batches.iter().zip([0, 3, 0]) {
-        let batch = laid(changes, gap);
+        let batch = laid(comparer.edition(), changes, gap);
         comparer.batch(&mut held.clone(), &second, &batch, &[0xEE; 4])?;
         for length in 0..batch.len() {
             comparer.batch(&mut held.clone(), &second, &batch[..length], &[0xEE; 4])?;

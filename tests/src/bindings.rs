@@ -7,8 +7,10 @@ use crate::layout::number::{ABSENT, DONE, LENGTHS, PRESENT, REPLACED};
 use crate::layout::{Edition, INFO_NUMBERS};
 use crate::names::{Asked, Page};
 use crate::store::Found;
+use crate::value::{Given, NO_STAMP};
 use frame_store::{
-    check, check2, Edition1, Edition2, Erase, FrameOf, Info, Put, Refusal, Replace, View, ViewOf,
+    check, check2, Edition1, Edition2, Erase, Frame, Frame2, FrameOf, Info, Put, Record, Refusal,
+    Replace, View, View2, ViewOf,
 };
 
 pub struct Bindings(pub Edition);
@@ -50,15 +52,33 @@ impl Calls for Bindings {
     }
 
     fn look_up(&self, frame: &[u8], key: &[u8]) -> Found {
-        call!(self.0, look_up, frame, key)
+        let found = call!(self.0, look_up, frame, key);
+        match self.0 {
+            Edition::One => found,
+            Edition::Two => Found { stamp: stamp(frame, key, found), ..found },
+        }
     }
 
-    fn put(&self, frame: &mut [u8], key: &[u8], value: &[u8]) -> u32 {
-        call!(self.0, put, frame, key, value)
+    fn put(&self, frame: &mut [u8], key: &[u8], value: Given) -> u32 {
+        let done = match self.0 {
+            Edition::One => Frame::over(frame).put(key, without_stamp(value)),
+            Edition::Two => Frame2::over(frame).put(key, value.bytes, value.stamp),
+        };
+        number(done.map(|done| match done {
+            Put::New => DONE,
+            Put::Present => PRESENT,
+        }))
     }
 
-    fn replace(&self, frame: &mut [u8], key: &[u8], value: &[u8]) -> u32 {
-        call!(self.0, replace, frame, key, value)
+    fn replace(&self, frame: &mut [u8], key: &[u8], value: Given) -> u32 {
+        let done = match self.0 {
+            Edition::One => Frame::over(frame).replace(key, without_stamp(value)),
+            Edition::Two => Frame2::over(frame).replace(key, value.bytes, value.stamp),
+        };
+        number(done.map(|done| match done {
+            Replace::Done => REPLACED,
+            Replace::Absent => ABSENT,
+        }))
     }
 
     fn erase(&self, frame: &mut [u8], key: &[u8]) -> u32 {
@@ -111,21 +131,32 @@ fn look_up<E: frame_store::Edition>(frame: &[u8], key: &[u8]) -> Found {
         Err(refused) => (Refusal::number(refused), 0..0, 0),
     };
     let (place, length) = (part.start as u64, part.len() as u64);
-    Found { number, place, length, slots: slots as u64 }
+    Found { number, place, length, slots: slots as u64, stamp: NO_STAMP }
 }
 
-fn put<E: frame_store::Edition>(frame: &mut [u8], key: &[u8], value: &[u8]) -> u32 {
-    number(FrameOf::<E, _>::over(frame).put(key, value).map(|done| match done {
-        Put::New => DONE,
-        Put::Present => PRESENT,
-    }))
+/// The stamp that edition 2 tells with the value, and without it.
+fn stamp(frame: &[u8], key: &[u8], found: Found) -> u64 {
+    let view = View2::over(frame);
+    let told = view.stamp(key);
+    match (found.number, view.record(key), told) {
+        (DONE, Ok(Some(Record { value, stamp })), Ok(Some(alone))) => {
+            let part = &frame[found.place as usize..][..found.length as usize];
+            assert_eq!(value.as_ptr_range(), part.as_ptr_range());
+            assert_eq!(stamp, alone);
+            stamp
+        }
+        (ABSENT, Ok(None), Ok(None)) => NO_STAMP,
+        (refused, Err(record), Err(alone)) => {
+            assert_eq!([record, alone].map(Refusal::number), [refused; 2]);
+            NO_STAMP
+        }
+        other => panic!("one look-up finds the key, the other does not: {other:?}"),
+    }
 }
 
-fn replace<E: frame_store::Edition>(frame: &mut [u8], key: &[u8], value: &[u8]) -> u32 {
-    number(FrameOf::<E, _>::over(frame).replace(key, value).map(|done| match done {
-        Replace::Done => REPLACED,
-        Replace::Absent => ABSENT,
-    }))
+fn without_stamp(value: Given<'_>) -> &[u8] {
+    assert_eq!(value.stamp, NO_STAMP, "edition 1 passes no stamp");
+    value.bytes
 }
 
 fn erase<E: frame_store::Edition>(frame: &mut [u8], key: &[u8]) -> u32 {
@@ -156,7 +187,7 @@ fn apply<E: frame_store::Edition>(
     batch: &[u8],
     answers: &mut [u8],
 ) -> (u32, u64) {
-    match FrameOf::<E, _>::over(frame).apply(batch, second, answers) {
+    match FrameOf::<E, _>::over(frame).apply_bytes(batch, second, answers) {
         Ok(()) => (DONE, 0),
         Err(stopped) => (stopped.refusal.number(), stopped.change as u64),
     }

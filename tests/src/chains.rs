@@ -10,8 +10,10 @@ use crate::compare::{Compared, Comparer, Held};
 use crate::history::to_the_brim;
 use crate::layout::*;
 use crate::random::Random;
+use crate::run::Rounds;
 use crate::slotless::{inner, Beginning, ByKind, Tree};
 use crate::trees::{cuts, fork, leaving, small_value, Change, BEGINNINGS};
+use crate::value::Value;
 use crate::worked::{formatted, put, Figures};
 use std::collections::BTreeMap;
 use std::rc::Rc;
@@ -246,7 +248,7 @@ fn slots_on_the_way(comparer: &mut Comparer) -> Compared<()> {
         (with(111, b"-"), 1),
         (with(0, b"-"), 1),
     ] {
-        let told = comparer.look_up(&held, &key)?;
+        let told = comparer.look_up(&held, &key)?.slots;
         if told != slots {
             let long = key.len();
             return comparer.differs(format!("{long} bytes lead to {slots} slots, and not {told}"));
@@ -270,8 +272,10 @@ fn keys_of_zeros(comparer: &mut Comparer) -> Compared<()> {
     for length in 1..=MOST {
         comparer.look_up(&held, &zeros[..length])?;
     }
-    comparer.replace(&mut held, &zeros, b"another value")?;
-    comparer.replace(&mut held, &zeros[..1], b"w")?;
+    for (key, bytes) in [(&zeros[..], &b"another value"[..]), (&zeros[..1], b"w")] {
+        let value = comparer.stamped(bytes);
+        comparer.replace(&mut held, key, value)?;
+    }
     let packed = comparer.pack(&held, &[0xEE; F])?.expect("a good frame packs");
     comparer.look_up(&packed, &zeros)?;
     for length in order.iter().rev().map(|at| lengths[*at]) {
@@ -333,8 +337,8 @@ pub fn expected() -> Vec<Beginning> {
 
 /// Every beginning that is aimed at, at the root and below a node; with freed
 /// Prefixes to take, and without.
-pub fn chains(comparer: &mut Comparer, seed: u64, rounds: u64) -> Compared<()> {
-    for round in 0..rounds {
+pub fn chains(comparer: &mut Comparer, seed: u64, rounds: Rounds) -> Compared<()> {
+    for round in rounds {
         let mut random = Random::new(seed.wrapping_mul(1_000_181).wrapping_add(round));
         for beginning in expected() {
             for flavour in Flavour::BOTH {
@@ -373,20 +377,21 @@ fn aimed_at(
     beginning: Beginning,
     flavour: Flavour,
 ) -> Option<(Rc<Tree>, Change)> {
-    let leaf = |key: Vec<u8>| Rc::new(Tree::Leaf { key: key.into(), value: [b'v'; 3].into() });
+    let value = Value { bytes: Rc::from([b'v'; 3]), stamp: random.stamp(EDITION) };
+    let leaf = |key: Vec<u8>| Rc::new(Tree::Leaf { key: key.into(), value: value.clone() });
     match beginning {
         Beginning::Begun { bytes } => {
             let path = flavour.bytes(bytes)?;
             let one = leaving(EDITION, random, &path, &[])?;
             let byte = EDITION.walked(&one)[bytes];
             let key = leaving(EDITION, random, &path, &[byte])?;
-            Some((leaf(one), Change::Put { key, value: small_value(random) }))
+            Some((leaf(one), Change::Put { key, value: small_value(EDITION, random) }))
         }
         Beginning::Cut { bytes, at } => {
             let path = flavour.bytes(bytes)?;
             let tree = above(&path, fork(EDITION, random, &path));
             let key = leaving(EDITION, random, &path[..at], &path[at..=at])?;
-            Some((tree, Change::Put { key, value: small_value(random) }))
+            Some((tree, Change::Put { key, value: small_value(EDITION, random) }))
         }
         Beginning::Joined { above: upper, below } => {
             let path = flavour.bytes(upper + 1 + below)?;
@@ -426,7 +431,8 @@ fn below_a_node(tree: &Rc<Tree>) -> Option<Rc<Tree>> {
     };
     let (first, rest) = bytes.split_first()?;
     let key = [first.wrapping_add(1).max(1); 9];
-    let beside = Tree::Leaf { key: key.into(), value: [b'v'; 3].into() };
+    let value = Value { bytes: Rc::from([b'v'; 3]), stamp: u64::MAX };
+    let beside = Tree::Leaf { key: key.into(), value };
     let children = [(*first, above(rest, below.clone())), (key[0], Rc::new(beside))];
     Some(Rc::new(inner(Kind::Node4, BTreeMap::from(children))))
 }

@@ -12,11 +12,13 @@ use crate::decode;
 use crate::image::image;
 use crate::layout::{number::*, Edition, Kind, ESCAPE, INFO_NUMBERS};
 use crate::names::{self, Asked, Page, LENGTH_BYTES};
+use crate::random::Random;
 use crate::slotless::{bodies, State};
 use crate::store::{self, Found, Records};
-use crate::tally::{Batch, Call, Entry, Key, Listing, Tally};
+use crate::tally::{Batch, Call, Entry, Key, Listing, Stamp, Tally};
 use crate::touched;
 use crate::trees::Change;
+use crate::value::{Given, Value};
 use std::collections::BTreeSet;
 use std::fmt;
 use std::hint::black_box;
@@ -29,8 +31,9 @@ pub trait Calls {
     fn check(&self, frame: &[u8]) -> u32;
     /// All but the number is 0 of a refusal.
     fn look_up(&self, frame: &[u8], key: &[u8]) -> Found;
-    fn put(&self, frame: &mut [u8], key: &[u8], value: &[u8]) -> u32;
-    fn replace(&self, frame: &mut [u8], key: &[u8], value: &[u8]) -> u32;
+    /// The stamp is passed in edition 2, and is 0 in edition 1.
+    fn put(&self, frame: &mut [u8], key: &[u8], value: Given) -> u32;
+    fn replace(&self, frame: &mut [u8], key: &[u8], value: Given) -> u32;
     fn erase(&self, frame: &mut [u8], key: &[u8]) -> u32;
     fn pack(&self, frame: &[u8], out: &mut [u8]) -> u32;
     /// A packing that still takes a frame from before Q-3, which edition 1 alone has.
@@ -65,10 +68,10 @@ impl Calls for Second {
     fn look_up(&self, frame: &[u8], key: &[u8]) -> Found {
         store::look_up(self.0, frame, key)
     }
-    fn put(&self, frame: &mut [u8], key: &[u8], value: &[u8]) -> u32 {
+    fn put(&self, frame: &mut [u8], key: &[u8], value: Given) -> u32 {
         store::put(self.0, frame, key, value)
     }
-    fn replace(&self, frame: &mut [u8], key: &[u8], value: &[u8]) -> u32 {
+    fn replace(&self, frame: &mut [u8], key: &[u8], value: Given) -> u32 {
         store::replace(self.0, frame, key, value)
     }
     fn erase(&self, frame: &mut [u8], key: &[u8]) -> u32 {
@@ -221,11 +224,16 @@ pub struct Comparer<'a> {
     /// The stage and the seed that the run can be repeated with.
     stage: String,
     step: u64,
+    /// Where stamps come from that no one chooses.
+    stamps: Random,
 }
+
+const STAMPS_SEED: u64 = 8;
 
 impl<'a> Comparer<'a> {
     pub fn new(calls: &'a dyn Calls) -> Comparer<'a> {
-        Comparer { calls, tally: Tally::default(), stage: String::new(), step: 0 }
+        let stamps = Random::new(STAMPS_SEED);
+        Comparer { calls, tally: Tally::default(), stage: String::new(), step: 0, stamps }
     }
 
     /// The calls themselves, for what is told of them without any prediction.
@@ -247,6 +255,12 @@ impl<'a> Comparer<'a> {
     pub fn begin(&mut self, stage: String) {
         self.stage = format!("edition {}, {stage}", self.edition().number());
         self.step = 0;
+        self.stamps = Random::new(STAMPS_SEED);
+    }
+
+    /// A value with some stamp, another one each time; in edition 1 without.
+    pub fn stamped<'v>(&mut self, bytes: &'v [u8]) -> Given<'v> {
+        Value { bytes, stamp: self.stamps.stamp(self.calls.edition()) }
     }
 
     pub fn differs<T>(&self, what: String) -> Compared<T> {
@@ -353,8 +367,39 @@ impl<'a> Comparer<'a> {
         }
     }
 
-    /// Gives the slots that were visited.
-    pub fn look_up(&mut self, held: &Held, key: &[u8]) -> Compared<u64> {
+    /// Which stamps a look-up tells, in edition 2.
+    fn count_told(&mut self, stamp: u64) {
+        if self.edition() == Edition::Two {
+            let case = match stamp {
+                0 => Stamp::Least,
+                u64::MAX => Stamp::Most,
+                _ => Stamp::Between,
+            };
+            self.tally.add(Entry::Stamp(case));
+        }
+    }
+
+    /// What becomes of the stamp of a record that is there, in edition 2, by the
+    /// number of a put or a replacement.
+    fn count_stamp(&mut self, old: Given, new: Given, number: u32) {
+        if self.edition() == Edition::One {
+            return;
+        }
+        let same_length = old.bytes.len() == new.bytes.len();
+        let case = match (number, old.stamp == new.stamp) {
+            (PRESENT, false) => Stamp::LeftByPut,
+            (NO_ROOM, false) => Stamp::LeftWithoutRoom,
+            (REPLACED, false) if old.bytes == new.bytes => Stamp::Alone,
+            (REPLACED, false) if same_length => Stamp::WithSameLength,
+            (REPLACED, false) => Stamp::WithOtherLength,
+            (REPLACED, true) if same_length && old.bytes != new.bytes => Stamp::Kept,
+            _ => return,
+        };
+        self.tally.add(Entry::Stamp(case));
+    }
+
+    /// Gives what is told.
+    pub fn look_up(&mut self, held: &Held, key: &[u8]) -> Compared<Found> {
         self.step += 1;
         let call = format!("look-up of {}", shown(key));
         let (mut frame, mut lent_key) = (self.lend(&held.bytes), self.lend(key));
@@ -380,8 +425,10 @@ impl<'a> Comparer<'a> {
             (None, Ok(state)) => state.visits(key),
             _ => 0,
         };
+        let stamp = found.as_ref().and_then(|found| found.as_ref().ok()).map(|value| value.stamp);
         let expected = store::look_up(self.edition(), &held.bytes, key);
-        if (expected.number, expected.slots) != (number, visits as u64) {
+        let told = (expected.number, expected.slots, expected.stamp);
+        if told != (number, visits as u64, stamp.unwrap_or_default()) {
             return self.differs(format!("{call}: the two readings of look-up differ"));
         }
         // "at most the key's length plus 2 for every good frame", and in edition 2
@@ -396,26 +443,30 @@ impl<'a> Comparer<'a> {
         }
         if let Some(Ok(value)) = found {
             self.count_key(Call::LookUp, held.state(), key);
-            if store::value(self.edition(), &held.bytes, key) != &*value {
+            self.count_told(value.stamp);
+            if store::value(self.edition(), &held.bytes, key) != &*value.bytes {
                 return self.differs(format!("{call}: the two readings of the value differ"));
             }
         }
-        self.demand(given == expected, || format!("{call} gave {given:?}, not {expected:?}"))?;
-        Ok(given.slots)
+        let but_for_stamp = Found { stamp: given.stamp, ..expected };
+        self.demand(given == but_for_stamp, || format!("{call} gave {given:?}, not {expected:?}"))?;
+        let (is, should) = (given.stamp, expected.stamp);
+        self.demand(is == should, || format!("{call} told the stamp {is}, not {should}"))?;
+        Ok(given)
     }
 
     /// Gives the number; the frame held is then the one after the call.
-    pub fn put(&mut self, held: &mut Held, key: &[u8], value: &[u8]) -> Compared<u32> {
+    pub fn put(&mut self, held: &mut Held, key: &[u8], value: Given) -> Compared<u32> {
         self.record(Call::Put, held, key, value)
     }
 
     /// Gives the number; the frame held is then the one after the call.
-    pub fn replace(&mut self, held: &mut Held, key: &[u8], value: &[u8]) -> Compared<u32> {
+    pub fn replace(&mut self, held: &mut Held, key: &[u8], value: Given) -> Compared<u32> {
         self.record(Call::Replace, held, key, value)
     }
 
     /// A put, and a replacement if it is told that the key is present.
-    pub fn put_or_replace(&mut self, held: &mut Held, key: &[u8], value: &[u8]) -> Compared<u32> {
+    pub fn put_or_replace(&mut self, held: &mut Held, key: &[u8], value: Given) -> Compared<u32> {
         match self.put(held, key, value)? {
             PRESENT => self.replace(held, key, value),
             given => Ok(given),
@@ -423,22 +474,23 @@ impl<'a> Comparer<'a> {
     }
 
     /// A put or a replacement.
-    fn record(&mut self, of: Call, held: &mut Held, key: &[u8], value: &[u8]) -> Compared<u32> {
+    fn record(&mut self, of: Call, held: &mut Held, key: &[u8], value: Given) -> Compared<u32> {
         self.step += 1;
         let replacing = of == Call::Replace;
         let name = if replacing { "replacement" } else { "put" };
-        let call = format!("{name} of {} with {} bytes", shown(key), value.len());
+        let Given { bytes, stamp } = value;
+        let call = format!("{name} of {} with {} bytes, stamp {stamp}", shown(key), bytes.len());
         let mut frame = self.lend(&held.bytes);
-        let (mut lent_key, mut lent_value) = (self.lend(key), self.lend(value));
-        let (part, lent) = (frame.part_mut(), (lent_key.part(), lent_value.part()));
+        let (mut lent_key, mut lent_bytes) = (self.lend(key), self.lend(bytes));
+        let lent = Value { bytes: lent_bytes.part(), stamp };
         let given = if replacing {
-            self.calls.replace(part, lent.0, lent.1)
+            self.calls.replace(frame.part_mut(), lent_key.part(), lent)
         } else {
-            self.calls.put(part, lent.0, lent.1)
+            self.calls.put(frame.part_mut(), lent_key.part(), lent)
         };
-        self.margins(&call, &mut [&mut frame, &mut lent_key, &mut lent_value])?;
+        self.margins(&call, &mut [&mut frame, &mut lent_key, &mut lent_bytes])?;
         self.unchanged(&call, "key", &mut lent_key, key)?;
-        self.unchanged(&call, "value", &mut lent_value, value)?;
+        self.unchanged(&call, "value", &mut lent_bytes, bytes)?;
         let mut predicted = held.known.clone();
         let number = match &mut predicted {
             Err(refused) => {
@@ -446,7 +498,7 @@ impl<'a> Comparer<'a> {
                 *refused
             }
             Ok(state) => {
-                let mut other = state.clone();
+                let (mut other, old) = (state.clone(), state.find(key).ok());
                 let (told, other) = if replacing {
                     (state.replace(key, value), other.put(key, value))
                 } else {
@@ -455,6 +507,9 @@ impl<'a> Comparer<'a> {
                 self.tally.count(of, &told);
                 if matches!(told.number, PRESENT | ABSENT) && other.number == NO_ROOM {
                     self.tally.add(Entry::NoneNeeded(of));
+                }
+                if let Some(old) = old {
+                    self.count_stamp(old.given(), value, told.number);
                 }
                 told.number
             }
@@ -590,11 +645,18 @@ impl<'a> Comparer<'a> {
             return Ok(None);
         };
         let expected = image(state.edition, state.f, state.n, &state.records());
-        self.unchanged(&call, "output as it should be", &mut out, &expected)?;
         let packed = self.held(expected);
         if packed.refusal().is_some() || packed.state().records() != state.records() {
             return self.differs(format!("{call}: the image does not read back"));
         }
+        let written = out.seen().to_vec();
+        if written != packed.bytes {
+            if let Ok(is) = &self.held(written).known {
+                let what = differing(is, packed.state());
+                return self.differs(format!("{call} wrote another image: {what}"));
+            }
+        }
+        self.unchanged(&call, "output as it should be", &mut out, &packed.bytes)?;
         let (slots, bytes) = given_back(state);
         let (is, was) = (packed.state(), state);
         let kept = is.u + slots == was.u && is.b + bytes <= was.b;
@@ -694,7 +756,7 @@ impl<'a> Comparer<'a> {
         answers: &[u8],
     ) -> Compared<(u32, u64)> {
         self.step += 1;
-        let read = batch::changes(batch);
+        let read = batch::changes(self.edition(), batch);
         let some = read.as_ref().map_or("no".to_string(), |changes| changes.len().to_string());
         let call = format!("batch of {some} changes in {} bytes", batch.len());
         let (mut frame, mut lent_second) = (self.lend(&held.bytes), self.lend(second));
@@ -818,6 +880,14 @@ impl<'a> Comparer<'a> {
                 ];
                 for (case, _) in cases.into_iter().filter(|(_, holds)| *holds) {
                     self.tally.add(Entry::Batch(case));
+                }
+                let (was, is) = (before.records(), applied.state.records());
+                let restamped = |key: &Vec<u8>| {
+                    let (was, is) = (&was[key], is.get(key));
+                    is.is_some_and(|is| is.bytes == was.bytes && is.stamp != was.stamp)
+                };
+                if !stopped && was.keys().any(restamped) {
+                    self.tally.add(Entry::Stamp(Stamp::AloneInBatch));
                 }
             }
             _ => {}
@@ -1015,10 +1085,14 @@ fn differing(found: &State, predicted: &State) -> String {
         return format!("U, B, R, X and the lists by kind are {is:?} and not {should:?}");
     }
     let (is, should) = (found.records(), predicted.records());
-    if is != should {
-        let keys = should.keys().chain(is.keys());
-        let key = keys.into_iter().find(|key| is.get(*key) != should.get(*key));
-        return format!("the record set, first at {}", shown(key.map_or(&[], |key| key)));
+    let mut keys = should.keys().chain(is.keys());
+    if let Some(key) = keys.find(|key| is.get(*key) != should.get(*key)) {
+        return match (is.get(key), should.get(key)) {
+            (Some(is), Some(should)) if is.bytes == should.bytes => {
+                format!("the stamp of {} is {} and not {}", shown(key), is.stamp, should.stamp)
+            }
+            _ => format!("the record set, first at {}", shown(key)),
+        };
     }
     let (is, should) = (bodies(&found.tree), bodies(&predicted.tree));
     if is != should {

@@ -7,6 +7,7 @@
 use crate::layout::*;
 use crate::random::Random;
 use crate::slotless::{bodies, ByKind, State, Tree};
+use crate::value::{set_stamp, Given};
 use std::rc::Rc;
 
 /// What is left to give out.
@@ -50,7 +51,7 @@ pub fn build(
     let mut extent_sizes = 0;
     let mut records = 0;
     each_record(tree, &mut |key, value| {
-        extent_sizes += extent_bytes(key.len(), value.len());
+        extent_sizes += extent_bytes(key.len(), value.bytes.len());
         records += 1;
     });
     let least = d + body_sizes + extent_sizes + dead + spare.bytes;
@@ -63,11 +64,11 @@ pub fn build(
     (frame, state)
 }
 
-fn each_record(tree: &Option<Rc<Tree>>, visit: &mut dyn FnMut(&[u8], &[u8])) {
+fn each_record(tree: &Option<Rc<Tree>>, visit: &mut dyn FnMut(&[u8], Given)) {
     if let Some(tree) = tree {
         tree.each(&mut |node| {
             if let Tree::Leaf { key, value } = node {
-                visit(key, value);
+                visit(key, value.given());
             }
         });
     }
@@ -149,7 +150,7 @@ impl<'a> Builder<'a> {
             for _ in 0..node.bodies() {
                 let slot = self.give(node.kind());
                 if let Tree::Leaf { key, value } = node {
-                    let size = extent_bytes(key.len(), value.len());
+                    let size = extent_bytes(key.len(), value.bytes.len());
                     self.parts.push(Part::Extent { slot, size });
                 }
                 live.push(slot);
@@ -211,9 +212,11 @@ impl<'a> Builder<'a> {
                 let extent = self.extent_places[slot];
                 set32(&mut self.frame, body + LEAF_EXTENT, extent);
                 set16(&mut self.frame, body + LEAF_KEY_LENGTH, key.len());
-                set16(&mut self.frame, body + LEAF_VALUE_LENGTH, value.len());
+                let Given { bytes, stamp } = value.given();
+                set16(&mut self.frame, body + LEAF_VALUE_LENGTH, bytes.len());
+                set_stamp(&mut self.frame, body + LEAF_STAMP.start, stamp);
                 self.frame[extent..][..key.len()].copy_from_slice(key);
-                self.frame[extent + key.len()..][..value.len()].copy_from_slice(value);
+                self.frame[extent + key.len()..][..bytes.len()].copy_from_slice(bytes);
             }
             Tree::Prefix { bytes, below } => {
                 // A chain: all full but the last, which has the tree below.

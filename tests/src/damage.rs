@@ -2,7 +2,8 @@
 //! frame".
 //!
 //! Believed here: for each damage, the number every call must give, the rule
-//! it breaks, and mostly that it breaks no other. A damage that breaks one
+//! it breaks, and mostly that it breaks no other. In edition 2 one that meets a
+//! stamp breaks none. A damage that breaks one
 //! rule alone shows a check that lacks just this rule; so the book-keeping
 //! around it (lists, X, R, zeros in what is freed) is made right again where it
 //! has to be. The number of the packing that takes the old rule is another one
@@ -15,8 +16,10 @@ use crate::random::Random;
 use crate::slotless::{inner, ByKind, Tree};
 use crate::store::{
     self, body_at, children, release, take, write_chain, write_inner, write_prefix, Chain,
+    LeafFields,
 };
 use crate::unused::soiled;
+use crate::value::Value;
 use std::collections::BTreeMap;
 use std::ops::Range;
 use std::rc::Rc;
@@ -36,6 +39,8 @@ pub enum Aim {
     Alone(Rule),
     /// Gives 2 for this rule, and others break with it.
     Among(Rule),
+    /// Gives 0: a good frame, in which the record of this key has another stamp.
+    Stamp(&'static [u8]),
 }
 
 impl Damage {
@@ -43,6 +48,7 @@ impl Damage {
         match self.aim {
             Aim::Lengths => number::LENGTHS,
             Aim::Alone(_) | Aim::Among(_) => number::NOT_GOOD,
+            Aim::Stamp(_) => number::DONE,
         }
     }
 }
@@ -69,19 +75,25 @@ fn spare(edition: Edition) -> Spare {
     }
 }
 
-fn leaf(key: &[u8], value: &[u8]) -> Rc<Tree> {
-    Rc::new(Tree::Leaf { key: key.into(), value: value.into() })
+/// The stamp of every record in edition 2: no two bytes are alike, and none is 0.
+const STAMP: u64 = 0x0102_0304_0506_0708;
+
+fn leaf(edition: Edition, key: &[u8], value: &[u8]) -> Rc<Tree> {
+    let value = Value::stamped(edition, value.into(), STAMP);
+    Rc::new(Tree::Leaf { key: key.into(), value })
 }
 
-/// An inner node at `path` whose children are Leaves at these bytes.
-fn leaves(kind: Kind, path: &[u8], bytes: impl IntoIterator<Item = u8>) -> Rc<Tree> {
-    let children: BTreeMap<u8, Rc<Tree>> = bytes
-        .into_iter()
-        .map(|byte| match byte {
-            END_BYTE => (byte, leaf(path, b"v")),
-            _ => (byte, leaf(&[path, &[byte]].concat(), b"v")),
-        })
-        .collect();
+/// An inner node at `path` whose children are Leaves: one for the path itself, and
+/// one for each of these bytes behind it.
+fn leaves(
+    edition: Edition,
+    kind: Kind,
+    path: &[u8],
+    bytes: impl IntoIterator<Item = u8>,
+) -> Rc<Tree> {
+    let one = |byte: u8| (byte, leaf(edition, &[path, &[byte]].concat(), b"v"));
+    let mut children = BTreeMap::from([(END_BYTE, leaf(edition, path, b"v"))]);
+    children.extend(bytes.into_iter().map(one));
     Rc::new(inner(kind, children))
 }
 
@@ -104,18 +116,18 @@ fn chained_key(last: u8) -> Vec<u8> {
 /// All kinds, live and freed: Node16 at the root and under "h", a Prefix over
 /// a Node4 under "b", Node48 under "c", Node256 under "d", Node4 under "e".
 fn full_tree(edition: Edition) -> Rc<Tree> {
-    let below = leaves(Kind::Node4, b"bxyz", [END_BYTE, b'm']);
+    let below = leaves(edition, Kind::Node4, b"bxyz", [b'm']);
     let mut children = BTreeMap::from([
-        (b'a', leaf(b"apple", b"red")),
+        (b'a', leaf(edition, b"apple", b"red")),
         (b'b', Rc::new(Tree::Prefix { bytes: b"xyz".to_vec(), below })),
-        (b'c', leaves(Kind::Node48, b"c", [END_BYTE].into_iter().chain(b'A'..=b'L'))),
-        (b'd', leaves(Kind::Node256, b"d", [END_BYTE].into_iter().chain(100..=136))),
-        (b'e', leaves(Kind::Node4, b"e", [END_BYTE, b'a', b'b'])),
-        (b'f', leaf(b"f", &vec![b'v'; long_value(edition)])),
-        (b'h', leaves(Kind::Node16, b"h", [END_BYTE, b'a', b'b', b'c'])),
+        (b'c', leaves(edition, Kind::Node48, b"c", b'A'..=b'L')),
+        (b'd', leaves(edition, Kind::Node256, b"d", 100..=136)),
+        (b'e', leaves(edition, Kind::Node4, b"e", [b'a', b'b'])),
+        (b'f', leaf(edition, b"f", &vec![b'v'; long_value(edition)])),
+        (b'h', leaves(edition, Kind::Node16, b"h", [b'a', b'b', b'c'])),
     ]);
     if edition == Edition::Two {
-        let ends = [b'a', b'b'].map(|byte| (byte, leaf(&chained_key(byte), b"v")));
+        let ends = [b'a', b'b'].map(|byte| (byte, leaf(edition, &chained_key(byte), b"v")));
         let below = Rc::new(inner(Kind::Node4, BTreeMap::from(ends)));
         children.insert(b'g', Rc::new(Tree::Prefix { bytes: CHAIN.to_vec(), below }));
     }
@@ -268,8 +280,8 @@ impl Specimen {
             let key = [&old[..old.len() - 2], &[last]].concat();
             let fields = store::leaf_fields(&self.bytes, slot);
             store::retire(&mut self.bytes, &fields);
-            let extent = store::write_extent(&mut self.bytes, &key, b"v");
-            store::write_leaf(&mut self.bytes, slot, extent, key.len(), 1);
+            let new = store::new_extent(&mut self.bytes, &key, Value::plain(b"v"));
+            store::write_leaf(&mut self.bytes, slot, &new);
         }
     }
 
@@ -348,6 +360,7 @@ fn make_all(edition: Edition) -> Vec<Damage> {
     places(&mut shop);
     inner_nodes(&mut shop);
     zeros(&mut shop);
+    leaf_ends(&mut shop);
     single_prefixes(&mut shop);
     leaf_keys(&mut shop);
     if edition == Edition::Two {
@@ -750,9 +763,7 @@ fn places(shop: &mut Workshop) {
         s.wipe_extent(b"eb");
         s.set(body + LEAF_EXTENT, extent);
     });
-    shop.full(rule, "an extent over its own Leaf's zero field", |s| {
-        // The key's bytes are not zero, so only the last unit may be shared:
-        // a freed body lends the first.
+    shop.full(rule, "a freed body over the last unit of a live Leaf", |s| {
         let freed = s.list(Kind::Leaf)[0];
         let live = s.node(b"apple", Kind::Leaf);
         s.set_offset(freed, body_at(&s.bytes, live) + UNIT);
@@ -848,8 +859,7 @@ fn inner_nodes(shop: &mut Workshop) {
 }
 
 fn zeros(shop: &mut Workshop) {
-    let live: [(Kind, &[u8]); 6] = [
-        (Kind::Leaf, b"apple"),
+    let live: [(Kind, &[u8]); 5] = [
         (Kind::Prefix, b"bxyz"),
         (Kind::Node4, b"e"),
         (Kind::Node16, b"h"),
@@ -857,7 +867,8 @@ fn zeros(shop: &mut Workshop) {
         (Kind::Node256, b"d"),
     ];
     for (kind, key) in live {
-        for at in [kind.zero_field().start, kind.zero_field().end - 1] {
+        let zero = kind.zero_field(shop.edition).expect("only a Leaf can have none");
+        for at in [zero.start, zero.end - 1] {
             let name = format!("byte {at} of a {kind:?} set");
             shop.full(Aim::Alone(Rule::ZeroField), &name, |s| {
                 let body = s.body(key, kind);
@@ -902,6 +913,27 @@ fn zeros(shop: &mut Workshop) {
             s.bytes[body + Kind::Node48.child_at(place - 1) + CHILD_BYTES - 1] = 1;
         });
     }
+}
+
+/// A Leaf's last eight bytes are zero in edition 1, and in edition 2 a stamp, which
+/// can be any.
+fn leaf_ends(shop: &mut Workshop) {
+    const KEY: &[u8] = b"apple";
+    let aim = match shop.edition {
+        Edition::One => Aim::Alone(Rule::ZeroField),
+        Edition::Two => Aim::Stamp(KEY),
+    };
+    for at in LEAF_STAMP {
+        let bit = at % 8;
+        shop.full(aim, &format!("bit {bit} of byte {at} of a Leaf turned"), |s| {
+            let body = s.body(KEY, Kind::Leaf);
+            s.bytes[body + at] ^= 1 << bit;
+        });
+    }
+    shop.full(aim, "the last eight bytes of a Leaf 255", |s| {
+        let body = s.body(KEY, Kind::Leaf);
+        s.bytes[body + LEAF_STAMP.start..body + LEAF_STAMP.end].fill(u8::MAX);
+    });
 }
 
 fn single_prefixes(shop: &mut Workshop) {
@@ -981,8 +1013,9 @@ fn leaf_keys(shop: &mut Workshop) {
         move |s: &mut Specimen| {
             let slot = s.node(key, Kind::Leaf);
             let fields = store::leaf_fields(&s.bytes, slot);
-            let total = fields.key_length + fields.value_length;
-            store::write_leaf(&mut s.bytes, slot, fields.extent, key_length, total - key_length);
+            let value_length = fields.key_length + fields.value_length - key_length;
+            let other = LeafFields { key_length, value_length, ..fields };
+            store::write_leaf(&mut s.bytes, slot, &other);
         }
     };
     let rule = Aim::Alone(Rule::KeyLength);
@@ -1042,8 +1075,8 @@ fn leaf_keys(shop: &mut Workshop) {
         let first = s.get(field);
         let node = take(&mut s.bytes, Kind::Node4);
         let second = take(&mut s.bytes, Kind::Leaf);
-        let extent = store::write_extent(&mut s.bytes, b"e", b"");
-        store::write_leaf(&mut s.bytes, second, extent, 1, 0);
+        let new = store::new_extent(&mut s.bytes, b"e", Value::plain(b""));
+        store::write_leaf(&mut s.bytes, second, &new);
         write_inner(&mut s.bytes, node, &[(1, first), (2, second)]);
         s.set(field, node);
         s.add(AT_R, 1);
@@ -1061,8 +1094,8 @@ fn leaf_keys(shop: &mut Workshop) {
         let fields = store::leaf_fields(&s.bytes, slots[0]);
         store::retire(&mut s.bytes, &fields);
         for slot in slots {
-            let extent = store::write_extent(&mut s.bytes, &key, b"");
-            store::write_leaf(&mut s.bytes, slot, extent, key.len(), 0);
+            let new = store::new_extent(&mut s.bytes, &key, Value::plain(b""));
+            store::write_leaf(&mut s.bytes, slot, &new);
         }
         write_inner(&mut s.bytes, node, &[(1, slots[0]), (2, slots[1])]);
         let path = s.walked(&key)[1..].to_vec();
@@ -1109,8 +1142,8 @@ fn chains(shop: &mut Workshop) {
         let (first, key) = (s.get(field), [&b"apple"[..], &[b'p'; 230]].concat());
         let fields = store::leaf_fields(&s.bytes, first);
         store::retire(&mut s.bytes, &fields);
-        let extent = store::write_extent(&mut s.bytes, &key, b"");
-        store::write_leaf(&mut s.bytes, first, extent, key.len(), 0);
+        let new = store::new_extent(&mut s.bytes, &key, Value::plain(b""));
+        store::write_leaf(&mut s.bytes, first, &new);
         let bodies = [take(&mut s.bytes, Kind::Prefix), take(&mut s.bytes, Kind::Prefix)];
         let top = write_chain(&mut s.bytes, &bodies, &key[1..1 + 2 * LONGEST_PREFIX], first);
         s.set(field, top);
@@ -1181,8 +1214,8 @@ fn chains(shop: &mut Workshop) {
     shop.full(rule, "a key that goes on behind a byte 0 as if it were no other", |s| {
         let field = s.field_to(b"e");
         let (first, second) = (s.get(field), take(&mut s.bytes, Kind::Leaf));
-        let extent = store::write_extent(&mut s.bytes, b"e\0a", b"");
-        store::write_leaf(&mut s.bytes, second, extent, 3, 0);
+        let new = store::new_extent(&mut s.bytes, b"e\0a", Value::plain(b""));
+        store::write_leaf(&mut s.bytes, second, &new);
         let node = take(&mut s.bytes, Kind::Node4);
         write_inner(&mut s.bytes, node, &[(0, first), (b'a', second)]);
         s.set(field, node);

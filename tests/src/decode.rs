@@ -3,13 +3,14 @@
 //! Believed here: which parts of a frame document 01 settles apart from slots
 //! and places: the counters, the list lengths and the tree with the places of
 //! Node48 children. Two frames with equal models differ only in what is free.
-//! The Prefixes of a chain are one shared beginning: in a good frame its length
-//! says how it is cut into them. A frame from before Q-3 has a model too: what it has freed is no part of it.
+//! A record's stamp is settled as its value is. The Prefixes of a chain are one
+//! shared beginning: in a good frame its length says how it is cut into them. A
+//! frame from before Q-3 has a model too: what it has freed is no part of it.
 
 use crate::check::Reading;
 use crate::layout::*;
 use crate::slotless::{ByKind, State, Tree};
-use crate::store::{body_at, chain, children, leaf_fields, slot_kind};
+use crate::store::{body_at, chain, children, leaf_record, slot_kind};
 use std::collections::BTreeMap;
 use std::rc::Rc;
 
@@ -39,10 +40,8 @@ fn tree(frame: &[u8], slot: usize) -> Option<Rc<Tree>> {
     let node = match slot_kind(frame, slot) {
         Kind::EmptyRoot => return None,
         Kind::Leaf => {
-            let leaf = leaf_fields(frame, slot);
-            let extent = &frame[leaf.extent..][..leaf.key_length + leaf.value_length];
-            let (key, value) = extent.split_at(leaf.key_length);
-            Tree::Leaf { key: key.into(), value: value.into() }
+            let (key, value) = leaf_record(frame, slot);
+            Tree::Leaf { key: key.into(), value: value.owned() }
         }
         Kind::Prefix => {
             let chain = chain(frame, slot);

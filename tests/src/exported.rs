@@ -1,13 +1,15 @@
 //! The exported C functions, behind the same calls.
 //!
 //! Believed here: the C declarations; those of edition 2 are edition 1's under other
-//! names. The bindings link the archive that has them.
+//! names, but that a put and a replacement take a stamp besides, and that a look-up
+//! tells it. The bindings link the archive that has them.
 
 use crate::compare::Calls;
 use crate::layout::number::{ABSENT, DONE};
 use crate::layout::{Edition, INFO_NUMBERS};
 use crate::names::{Asked, Page};
 use crate::store::Found;
+use crate::value::{Given, NO_STAMP};
 use frame_store as _;
 
 /// Declares a function of each edition, both alike.
@@ -36,24 +38,8 @@ mod c {
             frame_len: usize,
             key: *const u8,
             key_len: usize,
-            place_len_and_slots: *mut u64,
-            three: usize,
-        ) -> u32;
-        frame_put, frame2_put: fn(
-            frame: *mut u8,
-            frame_len: usize,
-            key: *const u8,
-            key_len: usize,
-            value: *const u8,
-            value_len: usize,
-        ) -> u32;
-        frame_replace, frame2_replace: fn(
-            frame: *mut u8,
-            frame_len: usize,
-            key: *const u8,
-            key_len: usize,
-            value: *const u8,
-            value_len: usize,
+            found: *mut u64,
+            numbers: usize,
         ) -> u32;
         frame_erase, frame2_erase: fn(
             frame: *mut u8,
@@ -100,6 +86,40 @@ mod c {
     }
 
     extern "C" {
+        pub fn frame_put(
+            frame: *mut u8,
+            frame_len: usize,
+            key: *const u8,
+            key_len: usize,
+            value: *const u8,
+            value_len: usize,
+        ) -> u32;
+        pub fn frame2_put(
+            frame: *mut u8,
+            frame_len: usize,
+            key: *const u8,
+            key_len: usize,
+            value: *const u8,
+            value_len: usize,
+            stamp: u64,
+        ) -> u32;
+        pub fn frame_replace(
+            frame: *mut u8,
+            frame_len: usize,
+            key: *const u8,
+            key_len: usize,
+            value: *const u8,
+            value_len: usize,
+        ) -> u32;
+        pub fn frame2_replace(
+            frame: *mut u8,
+            frame_len: usize,
+            key: *const u8,
+            key_len: usize,
+            value: *const u8,
+            value_len: usize,
+            stamp: u64,
+        ) -> u32;
         pub fn frame_pack_before(
             frame: *const u8,
             frame_len: usize,
@@ -119,6 +139,25 @@ macro_rules! call {
             }
         }
     };
+}
+
+/// A put or a replacement, which takes a stamp in edition 2 alone.
+macro_rules! call_with_stamp {
+    ($edition:expr, $one:ident, $two:ident, $frame:ident, $key:ident, $value:ident) => {{
+        let (frame, frame_len) = ($frame.as_mut_ptr(), $frame.len());
+        let (key, key_len) = ($key.as_ptr(), $key.len());
+        let Given { bytes, stamp } = $value;
+        let (value, value_len) = (bytes.as_ptr(), bytes.len());
+        match $edition {
+            Edition::One => {
+                assert_eq!(stamp, NO_STAMP, "edition 1 passes no stamp");
+                unsafe { c::$one(frame, frame_len, key, key_len, value, value_len) }
+            }
+            Edition::Two => unsafe {
+                c::$two(frame, frame_len, key, key_len, value, value_len, stamp)
+            },
+        }
+    }};
 }
 
 pub struct Exported(pub Edition);
@@ -141,32 +180,12 @@ impl Calls for Exported {
         look_up_by_all_lengths(self.0, frame, key)
     }
 
-    fn put(&self, frame: &mut [u8], key: &[u8], value: &[u8]) -> u32 {
-        call!(
-            self.0,
-            frame_put,
-            frame2_put,
-            frame.as_mut_ptr(),
-            frame.len(),
-            key.as_ptr(),
-            key.len(),
-            value.as_ptr(),
-            value.len(),
-        )
+    fn put(&self, frame: &mut [u8], key: &[u8], value: Given) -> u32 {
+        call_with_stamp!(self.0, frame_put, frame2_put, frame, key, value)
     }
 
-    fn replace(&self, frame: &mut [u8], key: &[u8], value: &[u8]) -> u32 {
-        call!(
-            self.0,
-            frame_replace,
-            frame2_replace,
-            frame.as_mut_ptr(),
-            frame.len(),
-            key.as_ptr(),
-            key.len(),
-            value.as_ptr(),
-            value.len(),
-        )
+    fn replace(&self, frame: &mut [u8], key: &[u8], value: Given) -> u32 {
+        call_with_stamp!(self.0, frame_replace, frame2_replace, frame, key, value)
     }
 
     fn erase(&self, frame: &mut [u8], key: &[u8]) -> u32 {
@@ -298,14 +317,24 @@ fn info_by_all_lengths(edition: Edition, frame: &[u8]) -> (u32, [u64; INFO_NUMBE
     (given, told)
 }
 
-/// Place, length and slots go into three numbers if three are lent and the call
-/// is not refused, and nowhere else. Told as the call's own result has them:
-/// all 0 of a refusal.
+/// The most numbers that a look-up tells, in edition 2.
+const MOST_FOUND: usize = 4;
+/// Place, length and slots; in edition 2 the stamp as well.
+fn found_numbers(edition: Edition) -> usize {
+    match edition {
+        Edition::One => 3,
+        Edition::Two => MOST_FOUND,
+    }
+}
+
+/// What is found goes into as many numbers as the edition tells, if so many are lent
+/// and the call is not refused, and nowhere else. Told as the call's own result has
+/// it: all 0 of a refusal, and no stamp of edition 1.
 fn look_up_by_all_lengths(edition: Edition, frame: &[u8], key: &[u8]) -> Found {
     use std::hint::black_box;
-    let call = |three: usize| {
-        let mut numbers = [KNOWN; 6];
-        let lent = numbers[1..].as_mut_ptr();
+    let call = |lent: usize| {
+        let mut numbers = [KNOWN; MOST_FOUND + 2];
+        let found = numbers[1..].as_mut_ptr();
         let given = call!(
             edition,
             frame_look_up,
@@ -314,22 +343,27 @@ fn look_up_by_all_lengths(edition: Edition, frame: &[u8], key: &[u8]) -> Found {
             frame.len(),
             key.as_ptr(),
             key.len(),
+            found,
             lent,
-            three,
         );
         (given, *black_box(&mut numbers))
     };
-    let (number, [before, place, length, slots, after @ ..]) = call(3);
-    assert_eq!((before, after), (KNOWN, [KNOWN; 2]), "look-up wrote beside its three numbers");
-    for other in [0, 1, 2, 4] {
+    let told = found_numbers(edition);
+    let (number, [before, numbers @ ..]) = call(told);
+    let (found, after) = numbers.split_at(told);
+    let beside = [before].iter().chain(after).all(|number| *number == KNOWN);
+    assert!(beside, "look-up wrote beside its {told} numbers");
+    for other in (0..=MOST_FOUND + 1).filter(|other| *other != told) {
         let (again, numbers) = call(other);
         assert_eq!(again, number, "look-up with {other} numbers gives another answer");
-        assert_eq!(numbers, [KNOWN; 6], "look-up wrote though {other} numbers were lent");
+        assert_eq!(numbers, [KNOWN; MOST_FOUND + 2], "look-up wrote though {other} were lent");
     }
     if !matches!(number, DONE | ABSENT) {
-        let lent = [place, length, slots];
-        assert_eq!(lent, [KNOWN; 3], "a look-up refused with {number} wrote");
-        return Found { number, place: 0, length: 0, slots: 0 };
+        let kept = found.iter().all(|number| *number == KNOWN);
+        assert!(kept, "a look-up refused with {number} wrote");
+        return Found::refused(number);
     }
-    Found { number, place, length, slots }
+    let (&[place, length, slots], stamp) = found.split_first_chunk().expect("three in both");
+    let stamp = stamp.first().copied().unwrap_or(NO_STAMP);
+    Found { number, place, length, slots, stamp }
 }

@@ -13,11 +13,13 @@ use crate::crafted::{build, Spare};
 use crate::layout::*;
 use crate::names::Asked;
 use crate::random::Random;
+use crate::run::Rounds;
 use crate::slotless::{bodies, ByKind, State, Tree};
 use crate::store;
 use crate::tally::Entry;
 use crate::trees::{aimed, random_tree, small_value, Change};
 use crate::unused::{soiled, speckled};
+use crate::value::Value;
 use std::rc::Rc;
 
 /// How keys of one history look.
@@ -75,8 +77,8 @@ fn refused_keys(edition: Edition) -> &'static [&'static [u8]] {
 
 /// Puts, replacements, erases, look-ups, checks and packs over one frame after
 /// another.
-pub fn histories(comparer: &mut Comparer, seed: u64, rounds: u64) -> Compared<()> {
-    for round in 0..rounds {
+pub fn histories(comparer: &mut Comparer, seed: u64, rounds: Rounds) -> Compared<()> {
+    for round in rounds {
         comparer.begin(format!("history of seed {seed}, round {round}"));
         let mut random = Random::new(seed.wrapping_mul(1_000_003).wrapping_add(round));
         let (alphabet, f, n) = match (comparer.edition(), round % 6) {
@@ -119,11 +121,11 @@ fn history(
         };
         let put_chance = if growing { 8 } else { 2 };
         if random.below(10) < put_chance {
-            let value = if wide { vec![] } else { small_value(random) };
+            let value = if wide { random.value(edition, 0) } else { small_value(edition, random) };
             match random.below(4) {
-                0 => comparer.put(held, &key, &value)?,
-                1 => comparer.replace(held, &key, &value)?,
-                _ => comparer.put_or_replace(held, &key, &value)?,
+                0 => comparer.put(held, &key, value.given())?,
+                1 => comparer.replace(held, &key, value.given())?,
+                _ => comparer.put_or_replace(held, &key, value.given())?,
             };
         } else if random.one_in(3) {
             comparer.erase(held, &key)?;
@@ -157,8 +159,8 @@ fn some_key(random: &mut Random, state: &State) -> Option<Vec<u8>> {
 
 fn make(comparer: &mut Comparer, held: &mut Held, change: &Change) -> Compared<u32> {
     match change {
-        Change::Put { key, value } => comparer.put(held, key, value),
-        Change::Replace { key, value } => comparer.replace(held, key, value),
+        Change::Put { key, value } => comparer.put(held, key, value.given()),
+        Change::Replace { key, value } => comparer.replace(held, key, value.given()),
         Change::Erase { key } => comparer.erase(held, key),
     }
 }
@@ -167,8 +169,8 @@ fn make(comparer: &mut Comparer, held: &mut Held, change: &Change) -> Compared<u
 /// replacement of an absent one.
 fn make_in_vain(comparer: &mut Comparer, held: &mut Held, change: &Change) -> Compared<()> {
     match change {
-        Change::Put { key, value } => comparer.replace(held, key, value).map(|_| ()),
-        Change::Replace { key, value } => comparer.put(held, key, value).map(|_| ()),
+        Change::Put { key, value } => comparer.replace(held, key, value.given()).map(|_| ()),
+        Change::Replace { key, value } => comparer.put(held, key, value.given()).map(|_| ()),
         Change::Erase { .. } => Ok(()),
     }
 }
@@ -177,8 +179,8 @@ const ROOMY: Spare = Spare { slots: 16, bytes: 4_096 };
 
 /// One change aimed at a node, in crafted frames with just enough room for
 /// it, one slot less, one unit less, and both; then a few more in a roomy one.
-pub fn crafted_frames(comparer: &mut Comparer, seed: u64, rounds: u64) -> Compared<()> {
-    for round in 0..rounds {
+pub fn crafted_frames(comparer: &mut Comparer, seed: u64, rounds: Rounds) -> Compared<()> {
+    for round in rounds {
         comparer.begin(format!("crafted frames of seed {seed}, round {round}"));
         let mut random = Random::new(seed.wrapping_mul(1_000_033).wrapping_add(round));
         let random = &mut random;
@@ -267,15 +269,20 @@ fn crafted(
 }
 
 /// Good frames of the largest F and N, with high slot numbers and a long list.
-pub fn large_frames(comparer: &mut Comparer, seed: u64, rounds: u64) -> Compared<()> {
-    const LEAVES: usize = 1_500;
+pub fn large_frames(comparer: &mut Comparer, seed: u64, rounds: Rounds) -> Compared<()> {
     const SLOTS_LEFT: usize = 40;
-    for round in 0..rounds {
+    for round in rounds {
         comparer.begin(format!("large frames of seed {seed}, round {round}"));
         let mut random = Random::new(seed.wrapping_mul(1_000_037).wrapping_add(round));
         let random = &mut random;
         let edition = comparer.edition();
-        let tree = Some(random_tree(edition, random, LEAVES));
+        // As many as fit with room to spare, whatever their keys: those of edition 2
+        // are longer.
+        let leaves = match edition {
+            Edition::One => 1_500,
+            Edition::Two => 600,
+        };
+        let tree = Some(random_tree(edition, random, leaves));
         let mut lists = ByKind::default();
         lists[Kind::Leaf.number()] = random.below(3);
         lists[Kind::Prefix.number()] = random.below(3);
@@ -287,8 +294,9 @@ pub fn large_frames(comparer: &mut Comparer, seed: u64, rounds: u64) -> Compared
         let mut held = crafted(comparer, random, &tree, &lists, 0, spare)?;
         for length in [32_767, 32_768, 65_535, 65_536, 1, 65_535, 65_534, 65_535, 65_535] {
             let key = aimed(edition, random, &held.state().tree).key().to_vec();
-            let value = vec![random.byte(); length];
-            comparer.put_or_replace(&mut held, &key, &value)?;
+            let bytes = vec![random.byte(); length];
+            let value = Value { bytes: &bytes[..], stamp: random.stamp(edition) };
+            comparer.put_or_replace(&mut held, &key, value)?;
             comparer.look_up(&held, &key)?;
         }
         for _ in 0..30 {
@@ -305,8 +313,8 @@ pub fn large_frames(comparer: &mut Comparer, seed: u64, rounds: u64) -> Compared
 /// Frames from before: crafted ones, and in what they have freed, or never given
 /// out, any bytes or a single one. Every call refuses them but one, and what that
 /// packs can be changed. In edition 2 every call refuses them.
-pub fn frames_before(comparer: &mut Comparer, seed: u64, rounds: u64) -> Compared<()> {
-    for round in 0..rounds {
+pub fn frames_before(comparer: &mut Comparer, seed: u64, rounds: Rounds) -> Compared<()> {
+    for round in rounds {
         comparer.begin(format!("frames from before, seed {seed}, round {round}"));
         let mut random = Random::new(seed.wrapping_mul(1_000_151).wrapping_add(round));
         let random = &mut random;
@@ -342,12 +350,14 @@ fn all_calls(comparer: &mut Comparer, random: &mut Random, held: &Held) -> Compa
     comparer.check(held)?;
     comparer.info(held)?;
     comparer.look_up(held, b"a")?;
-    comparer.put(&mut held.clone(), b"a", b"value")?;
-    comparer.replace(&mut held.clone(), b"a", b"value")?;
+    let value = comparer.stamped(b"value");
+    comparer.put(&mut held.clone(), b"a", value)?;
+    comparer.replace(&mut held.clone(), b"a", value)?;
     comparer.erase(&mut held.clone(), b"a")?;
-    let changes = [Change::Put { key: b"a".to_vec(), value: b"value".to_vec() }];
+    let changes = [Change::Put { key: b"a".to_vec(), value: value.owned() }];
     let second = random.bytes(held.bytes().len());
-    comparer.batch(&mut held.clone(), &second, &laid(&changes, 0), &[0xEE; 1])?;
+    let batch = laid(comparer.edition(), &changes, 0);
+    comparer.batch(&mut held.clone(), &second, &batch, &[0xEE; 1])?;
     let asked = Asked { prefix: b"", start: None, delimiter: Some(b'/') };
     comparer.list(held, &asked, &random.bytes(40))?;
     let out = random.bytes(held.bytes().len());
@@ -366,8 +376,8 @@ pub fn every_call(comparer: &mut Comparer, stage: String, bytes: Vec<u8>) -> Com
 
 /// Good frames of the other edition, and the same with the number of this one. What
 /// is good in edition 1 is so in edition 2, but for the number.
-pub fn other_edition(comparer: &mut Comparer, seed: u64, rounds: u64) -> Compared<()> {
-    for round in 0..rounds {
+pub fn other_edition(comparer: &mut Comparer, seed: u64, rounds: Rounds) -> Compared<()> {
+    for round in rounds {
         comparer.begin(format!("frames of the other edition, seed {seed}, round {round}"));
         let mut random = Random::new(seed.wrapping_mul(1_000_171).wrapping_add(round));
         let random = &mut random;
@@ -394,8 +404,8 @@ pub fn other_edition(comparer: &mut Comparer, seed: u64, rounds: u64) -> Compare
 }
 
 /// Bytes of any kind and length, with and without a likely header.
-pub fn arbitrary_bytes(comparer: &mut Comparer, seed: u64, rounds: u64) -> Compared<()> {
-    for round in 0..rounds {
+pub fn arbitrary_bytes(comparer: &mut Comparer, seed: u64, rounds: Rounds) -> Compared<()> {
+    for round in rounds {
         comparer.begin(format!("arbitrary bytes of seed {seed}, round {round}"));
         let mut random = Random::new(seed.wrapping_mul(1_000_039).wrapping_add(round));
         let random = &mut random;
@@ -426,8 +436,8 @@ pub fn arbitrary_bytes(comparer: &mut Comparer, seed: u64, rounds: u64) -> Compa
 }
 
 /// Good frames with a few bytes changed, wherever they are looked at.
-pub fn scratched_frames(comparer: &mut Comparer, seed: u64, rounds: u64) -> Compared<()> {
-    for round in 0..rounds {
+pub fn scratched_frames(comparer: &mut Comparer, seed: u64, rounds: Rounds) -> Compared<()> {
+    for round in rounds {
         comparer.begin(format!("scratched frames of seed {seed}, round {round}"));
         let mut random = Random::new(seed.wrapping_mul(1_000_081).wrapping_add(round));
         let random = &mut random;
@@ -464,11 +474,13 @@ pub fn scratched_frames(comparer: &mut Comparer, seed: u64, rounds: u64) -> Comp
 /// dead extents; in edition 2 one with a chain and keys of bytes 0 besides; all of
 /// 1,024 bytes.
 pub fn small_frames(edition: Edition) -> Vec<Vec<u8>> {
+    const STAMPS: [u64; 6] = [7, 0, u64::MAX, 1 << 63, 255, 256];
     let made = |n: usize, puts: &[&[u8]], erases: &[&[u8]]| {
         let mut frame = vec![0; SHORTEST_FRAME];
         assert_eq!(store::format(edition, &mut frame, SHORTEST_FRAME, n), number::DONE);
-        for key in puts {
-            assert_eq!(store::put(edition, &mut frame, key, b"v"), number::DONE);
+        for (key, stamp) in puts.iter().zip(STAMPS.into_iter().cycle()) {
+            let value = Value::stamped(edition, &b"v"[..], stamp);
+            assert_eq!(store::put(edition, &mut frame, key, value), number::DONE);
         }
         for key in erases {
             assert_eq!(store::erase(edition, &mut frame, key), number::DONE);

@@ -1,19 +1,22 @@
 //! The packed image, built from a record set and nothing else.
 //!
-//! Believed here: the section "The packed image" of document 01, and of Q-7 in
-//! document 02 that a shared beginning is a chain of Prefixes, each full but the
-//! last. It knows no live frame and shares no writer with the store: it splits a
-//! sorted run of records, and each part is appended to the end of what is already
-//! there.
+//! Believed here: the section "The packed image" of document 01, and of document 02
+//! that a shared beginning is a chain of Prefixes, each full but the last, and
+//! that a record's stamp is in its Leaf. It knows no live frame and shares no
+//! writer with the store: it splits a sorted run of records, and each part is
+//! appended to the end of what is already there.
 
 use crate::layout::*;
 use crate::store::Records;
+use crate::value::Given;
 
 /// The bytes that packing any good frame with these records, F and N gives.
 pub fn image(edition: Edition, f: usize, n: usize, records: &Records) -> Vec<u8> {
     let walked = |key: &[u8]| edition.walked(key);
-    let sorted: Vec<Record> =
-        records.iter().map(|(key, value)| Record { key, value, walked: walked(key) }).collect();
+    let sorted: Vec<Record> = records
+        .iter()
+        .map(|(key, value)| Record { key, value: value.given(), walked: walked(key) })
+        .collect();
     let start = data_start(n);
     let mut image = Image { edition, entries: Vec::new(), data: Vec::new(), start };
     if sorted.is_empty() {
@@ -26,7 +29,7 @@ pub fn image(edition: Edition, f: usize, n: usize, records: &Records) -> Vec<u8>
 
 struct Record<'a> {
     key: &'a [u8],
-    value: &'a [u8],
+    value: Given<'a>,
     walked: Vec<u8>,
 }
 
@@ -78,9 +81,10 @@ impl Image {
         let extent = self.start + self.data.len();
         self.write(at + LEAF_EXTENT, &(extent as u32).to_le_bytes());
         self.write(at + LEAF_KEY_LENGTH, &(record.key.len() as u16).to_le_bytes());
-        self.write(at + LEAF_VALUE_LENGTH, &(record.value.len() as u16).to_le_bytes());
+        self.write(at + LEAF_VALUE_LENGTH, &(record.value.bytes.len() as u16).to_le_bytes());
+        self.write(at + LEAF_STAMP.start, &record.value.stamp.to_le_bytes());
         self.data.extend_from_slice(record.key);
-        self.data.extend_from_slice(record.value);
+        self.data.extend_from_slice(record.value.bytes);
         self.data.resize(rounded(self.data.len()), 0);
         slot
     }

@@ -2,7 +2,7 @@
 //! that compares any store with it.
 //!
 //! `layout` and `check`, which have a package of their own (`tools/rules`), and
-//! `store`, `names` and `batch` are the second store. `slotless` and `image` are two
+//! `value`, `store`, `names` and `batch` are the second store. `slotless` and `image` are two
 //! further readings of the documents, and the store is held to both.
 //! `compare` holds any store's calls to all of them; `run` is what the gate runs.
 
@@ -26,11 +26,14 @@ pub mod random;
 pub mod run;
 pub mod session;
 pub mod slotless;
+pub mod stamps;
 pub mod store;
 pub mod tally;
 pub mod touched;
 pub mod trees;
 pub mod unused;
+pub mod value;
 pub mod worked;
 pub mod wrong;
 pub mod wrong_editions;
+pub mod wrong_stamps;

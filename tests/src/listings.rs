@@ -11,6 +11,7 @@ use crate::layout::number::{BUFFER, DONE};
 use crate::layout::Edition;
 use crate::names::{Asked, LENGTH_BYTES};
 use crate::random::Random;
+use crate::run::Rounds;
 use crate::slotless::ByKind;
 use crate::store::{self, Records};
 use crate::trees::random_tree;
@@ -40,7 +41,8 @@ fn some_frame(edition: Edition, random: &mut Random) -> Held {
         if random.one_in(20) {
             key.resize(edition.longest_key(), *random.pick(letters));
         }
-        store::put(edition, &mut frame, &key, b"");
+        let value = random.value(edition, 0);
+        store::put(edition, &mut frame, &key, value.given());
     }
     Held::new(edition, frame)
 }
@@ -121,9 +123,9 @@ fn room(random: &mut Random, held: &Held, asked: &Asked) -> usize {
 }
 
 /// Listings of every sort over one frame after another.
-pub fn listings(comparer: &mut Comparer, seed: u64, rounds: u64) -> Compared<()> {
+pub fn listings(comparer: &mut Comparer, seed: u64, rounds: Rounds) -> Compared<()> {
     const LISTINGS: usize = 12;
-    for round in 0..rounds {
+    for round in rounds {
         comparer.begin(format!("listings of seed {seed}, round {round}"));
         let mut random = Random::new(seed.wrapping_mul(1_000_099).wrapping_add(round));
         let random = &mut random;
@@ -202,7 +204,8 @@ fn changing_pages(
         start = entries.last().cloned().or(start);
         let records: Records = held.state().records();
         let keys: Vec<Vec<u8>> = records.into_keys().collect();
-        comparer.put(&mut held, &near_a_key(comparer.edition(), random, &keys), b"")?;
+        let (key, value) = (near_a_key(comparer.edition(), random, &keys), comparer.stamped(b""));
+        comparer.put(&mut held, &key, value)?;
         if let Some(key) = (!keys.is_empty()).then(|| random.pick(&keys)) {
             comparer.erase(&mut held, key)?;
         }

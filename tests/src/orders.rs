@@ -12,10 +12,12 @@ use crate::crafted::{build, Spare};
 use crate::layout::number::{ABSENT, DONE, PRESENT, REPLACED};
 use crate::layout::{Edition, Kind};
 use crate::random::Random;
+use crate::run::Rounds;
 use crate::slotless::ByKind;
 use crate::store::Records;
 use crate::tally::Entry;
 use crate::trees::{aimed, random_tree, small_value, Change};
+use crate::value::Value;
 use std::collections::BTreeMap;
 
 const F: usize = 131_072;
@@ -42,7 +44,7 @@ fn some_records(edition: Edition, random: &mut Random) -> Records {
         let mut key = random.pick(starts).to_vec();
         key.extend((0..random.from_to(1, 2)).map(|_| random.key_byte(edition)));
         let length = random.below(20);
-        records.insert(key, random.bytes(length));
+        records.insert(key, random.value(edition, length));
     }
     records
 }
@@ -52,21 +54,29 @@ fn some_records(edition: Edition, random: &mut Random) -> Records {
 fn reach(comparer: &mut Comparer, random: &mut Random, records: &Records) -> Compared<Held> {
     let fill = random.byte();
     let mut held = fresh(comparer, fill)?;
-    let mut order: Vec<(&Vec<u8>, &Vec<u8>)> = records.iter().collect();
+    let edition = comparer.edition();
+    let mut order: Vec<(&Vec<u8>, &Value<Vec<u8>>)> = records.iter().collect();
     random.shuffle(&mut order);
     let mut strangers = Vec::new();
     for (key, value) in order {
         if random.one_in(4) {
-            comparer.put_or_replace(&mut held, key, b"another")?;
+            // In edition 2 at times the same bytes with another stamp.
+            let bytes = match edition {
+                Edition::Two if random.one_in(2) => &value.bytes[..],
+                _ => b"another",
+            };
+            let another = Value { bytes, stamp: random.stamp(edition) };
+            comparer.put_or_replace(&mut held, key, another)?;
         }
         if random.one_in(4) {
-            let stranger = [&key[..], &[random.key_byte(comparer.edition())]].concat();
+            let stranger = [&key[..], &[random.key_byte(edition)]].concat();
             if !records.contains_key(&stranger) {
-                comparer.put_or_replace(&mut held, &stranger, b"stranger")?;
+                let value = Value { bytes: &b"stranger"[..], stamp: random.stamp(edition) };
+                comparer.put_or_replace(&mut held, &stranger, value)?;
                 strangers.push(stranger);
             }
         }
-        comparer.put_or_replace(&mut held, key, value)?;
+        comparer.put_or_replace(&mut held, key, value.given())?;
     }
     for stranger in strangers {
         comparer.erase(&mut held, &stranger)?;
@@ -74,8 +84,8 @@ fn reach(comparer: &mut Comparer, random: &mut Random, records: &Records) -> Com
     Ok(held)
 }
 
-pub fn same_records(comparer: &mut Comparer, seed: u64, rounds: u64) -> Compared<()> {
-    for round in 0..rounds {
+pub fn same_records(comparer: &mut Comparer, seed: u64, rounds: Rounds) -> Compared<()> {
+    for round in rounds {
         comparer.begin(format!("same records, seed {seed}, round {round}"));
         let mut random = Random::new(seed.wrapping_mul(15_485_863).wrapping_add(round));
         let mut records = some_records(comparer.edition(), &mut random);
@@ -90,7 +100,12 @@ pub fn same_records(comparer: &mut Comparer, seed: u64, rounds: u64) -> Compared
             return comparer.differs("a packed image packs to another".to_string());
         }
         let (key, mut value) = records.pop_last().expect("there are records");
-        value.push(b'!');
+        // In edition 2 in every second round by the stamp alone.
+        if comparer.edition() == Edition::Two && round % 2 == 1 {
+            value.stamp ^= 1 << random.below(u64::BITS as usize);
+        } else {
+            value.bytes.push(b'!');
+        }
         records.insert(key, value);
         let changed = reach(comparer, &mut random, &records)?;
         if packed(comparer, &changed, 0xEE)? == image {
@@ -104,9 +119,9 @@ pub fn same_records(comparer: &mut Comparer, seed: u64, rounds: u64) -> Compared
 const STAY_OF_TEN: u64 = 8;
 
 /// Nothing is predicted here: the calls are held to one another.
-pub fn any_order(comparer: &mut Comparer, seed: u64, rounds: u64) -> Compared<()> {
-    let mut stay = 0;
-    for round in 0..rounds {
+pub fn any_order(comparer: &mut Comparer, seed: u64, rounds: Rounds) -> Compared<()> {
+    let (mut stay, all) = (0, rounds.end - rounds.start);
+    for round in rounds {
         comparer.begin(format!("any order, seed {seed}, round {round}"));
         let mut random = Random::new(seed.wrapping_mul(32_452_843).wrapping_add(round));
         let (frame, changes) = some_changes(comparer.edition(), &mut random);
@@ -135,8 +150,8 @@ pub fn any_order(comparer: &mut Comparer, seed: u64, rounds: u64) -> Compared<()
             comparer.tally.add(Entry::ShuffledFramesDiffer);
         }
     }
-    if stay * 10 < rounds * STAY_OF_TEN {
-        return comparer.differs(format!("only {stay} of {rounds} pairs are without a refusal"));
+    if stay * 10 < all * STAY_OF_TEN {
+        return comparer.differs(format!("only {stay} of {all} pairs are without a refusal"));
     }
     Ok(())
 }
@@ -161,8 +176,8 @@ fn some_changes(edition: Edition, random: &mut Random) -> (Vec<u8>, Vec<Change>)
     let changes = (0..some_calls).map(|_| {
         let key = random.pick(&keys).clone();
         match random.below(5) {
-            0 | 1 => Change::Put { key, value: small_value(random) },
-            2 | 3 => Change::Replace { key, value: small_value(random) },
+            0 | 1 => Change::Put { key, value: small_value(edition, random) },
+            2 | 3 => Change::Replace { key, value: small_value(edition, random) },
             _ => Change::Erase { key },
         }
     });
@@ -195,8 +210,8 @@ fn made(calls: &dyn Calls, frame: &[u8], changes: &[Change]) -> Made {
     let mut answers: BTreeMap<Vec<u8>, Vec<u32>> = BTreeMap::new();
     for change in changes {
         let given = match change {
-            Change::Put { key, value } => calls.put(&mut frame, key, value),
-            Change::Replace { key, value } => calls.replace(&mut frame, key, value),
+            Change::Put { key, value } => calls.put(&mut frame, key, value.given()),
+            Change::Replace { key, value } => calls.replace(&mut frame, key, value.given()),
             Change::Erase { key } => calls.erase(&mut frame, key),
         };
         answers.entry(change.key().to_vec()).or_default().push(given);

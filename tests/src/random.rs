@@ -1,6 +1,7 @@
 //! A small random source (splitmix64) that a seed repeats exactly.
 
 use crate::layout::{Edition, ESCAPE};
+use crate::value::{Value, NO_STAMP};
 
 pub struct Random {
     state: u64,
@@ -53,6 +54,26 @@ impl Random {
 
     pub fn bytes(&mut self, length: usize) -> Vec<u8> {
         (0..length).map(|_| self.byte()).collect()
+    }
+
+    /// A stamp that can be passed: of edition 2 any, and often the least or the
+    /// most.
+    pub fn stamp(&mut self, edition: Edition) -> u64 {
+        if edition == Edition::One {
+            return NO_STAMP;
+        }
+        match self.below(6) {
+            0 => 0,
+            1 => 1,
+            2 => u64::MAX,
+            _ => self.draw(),
+        }
+    }
+
+    /// A value of so many bytes, with a stamp.
+    pub fn value(&mut self, edition: Edition, length: usize) -> Value<Vec<u8>> {
+        let bytes = self.bytes(length);
+        Value { bytes, stamp: self.stamp(edition) }
     }
 
     pub fn pick<'a, T>(&mut self, from: &'a [T]) -> &'a T {

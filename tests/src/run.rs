@@ -1,13 +1,14 @@
 //! The whole comparison, as the gate runs it.
 //!
 //! Believed here: that these stages together reach every case. The quick ones come
-//! first. Seeds are fixed unless the environment names others.
+//! first: most wrong stores go no further. Seeds are fixed unless the environment names others.
 
 use crate::compare::{Calls, Compared, Comparer};
 use crate::layout::Edition;
 use crate::tally::Tally;
-use crate::{batches, chains, damage, history, listings, orders, worked};
+use crate::{batches, chains, damage, history, listings, orders, stamps, worked};
 use std::env;
+use std::ops::Range;
 
 /// Which random calls are made, and how many.
 #[derive(Clone, Copy, Debug)]
@@ -34,52 +35,48 @@ impl Effort {
     }
 }
 
-/// Stops at the first difference; gives the cases that were reached.
+/// Which rounds of a stage.
+pub type Rounds = Range<u64>;
+
+/// Stops at the first difference; gives the cases that were reached. Of the stages of
+/// many rounds each has its first ones before any has the rest.
 pub fn all_stages(calls: &dyn Calls, effort: Effort) -> Compared<Tally> {
-    let Effort { seed, rounds } = effort;
+    const FIRST: u64 = 16;
     let mut comparer = Comparer::new(calls);
     worked_cases(&mut comparer)?;
+    checks_of_damages(&mut comparer)?;
+    random_calls(&mut comparer, effort, |rounds| 0..rounds.div_ceil(FIRST))?;
     damages(&mut comparer)?;
     limits(&mut comparer)?;
-    if calls.edition() == Edition::Two {
-        chains::chains(&mut comparer, seed, rounds)?;
-    }
-    history::other_edition(&mut comparer, seed, rounds * 100)?;
-    listings::listings(&mut comparer, seed, rounds * 250)?;
-    batches::batches(&mut comparer, seed, rounds * 250)?;
-    batches::damaged_batches(&mut comparer)?;
-    history::frames_before(&mut comparer, seed, rounds * 100)?;
-    history::arbitrary_bytes(&mut comparer, seed, rounds * 500)?;
-    history::scratched_frames(&mut comparer, seed, rounds * 100)?;
-    history::histories(&mut comparer, seed, rounds * 12)?;
-    history::crafted_frames(&mut comparer, seed, rounds * 2_000)?;
-    history::large_frames(&mut comparer, seed, rounds * 2)?;
-    orders::same_records(&mut comparer, seed, rounds * 4)?;
-    orders::any_order(&mut comparer, seed, rounds * 400)?;
+    random_calls(&mut comparer, effort, |rounds| rounds.div_ceil(FIRST)..rounds)?;
+    long_stages(&mut comparer, effort)?;
     Ok(std::mem::take(&mut comparer.tally))
 }
 
-/// What is told beforehand of small cases; most wrong stores go no further.
+/// What is told beforehand of small cases.
 pub fn worked_cases(comparer: &mut Comparer) -> Compared<()> {
     worked::worked_frames(comparer)?;
     worked::puts_and_replacements(comparer)?;
+    stamps::worked_stamps(comparer)?;
     worked::slots_visited(comparer)?;
     worked::worked_listings(comparer)?;
     worked::worked_batches(comparer)?;
     worked::wiped_bytes(comparer)?;
-    if comparer.edition() == Edition::Two {
-        chains::worked_chains(comparer)?;
-    }
-    Ok(())
+    worked::order_of_refusals(comparer)?;
+    batches::damaged_batches(comparer)
 }
 
 pub fn limits(comparer: &mut Comparer) -> Compared<()> {
-    worked::order_of_refusals(comparer)?;
     worked::format_limits(comparer)?;
     worked::lengths_at_the_limits(comparer)?;
-    worked::growth_and_shrinking(comparer)
+    worked::growth_and_shrinking(comparer)?;
+    if comparer.edition() == Edition::Two {
+        chains::worked_chains(comparer)?;
+    }
+    worked::most_slots_visited(comparer)
 }
 
+/// Every call.
 pub fn damages(comparer: &mut Comparer) -> Compared<()> {
     for frame in damage::undamaged(comparer.edition()) {
         history::every_call(comparer, "the frame before any damage".to_string(), frame)?;
@@ -89,4 +86,40 @@ pub fn damages(comparer: &mut Comparer) -> Compared<()> {
         history::every_call(comparer, stage, damage.bytes.clone())?;
     }
     Ok(())
+}
+
+/// The check alone, which most wrong checks show in.
+fn checks_of_damages(comparer: &mut Comparer) -> Compared<()> {
+    for damage in damage::all(comparer.edition()) {
+        comparer.begin(format!("check of damage: {}", damage.name));
+        let held = comparer.held(damage.bytes.clone());
+        comparer.check(&held)?;
+    }
+    Ok(())
+}
+
+/// Stages of many short rounds, and of each of them this part.
+fn random_calls(
+    comparer: &mut Comparer,
+    Effort { seed, rounds }: Effort,
+    part: fn(u64) -> Rounds,
+) -> Compared<()> {
+    let some = |of: u64| part(rounds * of);
+    history::other_edition(comparer, seed, some(100))?;
+    listings::listings(comparer, seed, some(250))?;
+    batches::batches(comparer, seed, some(250))?;
+    history::frames_before(comparer, seed, some(100))?;
+    history::arbitrary_bytes(comparer, seed, some(500))?;
+    history::scratched_frames(comparer, seed, some(100))?;
+    history::crafted_frames(comparer, seed, some(2_000))?;
+    history::histories(comparer, seed, some(12))
+}
+
+fn long_stages(comparer: &mut Comparer, Effort { seed, rounds }: Effort) -> Compared<()> {
+    if comparer.edition() == Edition::Two {
+        chains::chains(comparer, seed, 0..rounds)?;
+    }
+    history::large_frames(comparer, seed, 0..rounds * 2)?;
+    orders::same_records(comparer, seed, 0..rounds * 4)?;
+    orders::any_order(comparer, seed, 0..rounds * 400)
 }

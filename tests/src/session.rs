@@ -8,6 +8,7 @@ use crate::layout::number::{DONE, LENGTHS, PRESENT};
 use crate::layout::{get32, AT_B, AT_R, AT_U};
 use crate::random::Random;
 use crate::store::Found;
+use crate::value::Value;
 
 pub const GREETING: &[u8] = b"frame session 1\n";
 pub const LONGEST_LINE: usize = 1_024;
@@ -79,6 +80,7 @@ impl Session<'_> {
 
 /// The session asks for the replacement that a plain put does not make.
 fn put_or_replace(calls: &dyn Calls, frame: &mut [u8], key: &[u8], value: &[u8]) -> u32 {
+    let value = Value::plain(value);
     match calls.put(frame, key, value) {
         PRESENT => calls.replace(frame, key, value),
         given => given,

@@ -13,6 +13,7 @@ use crate::layout::*;
 use crate::names::Asked;
 use crate::store::Records;
 use crate::trees::Change;
+use crate::value::{Given, Value};
 use std::collections::{BTreeMap, BTreeSet};
 use std::rc::Rc;
 
@@ -23,7 +24,7 @@ pub type ByKind = [usize; LISTS + 1];
 pub enum Tree {
     Leaf {
         key: Rc<[u8]>,
-        value: Rc<[u8]>,
+        value: Value<Rc<[u8]>>,
     },
     /// A shared beginning of any length.
     Prefix {
@@ -160,7 +161,7 @@ impl State {
         if let Some(tree) = &self.tree {
             tree.each(&mut |node| {
                 if let Tree::Leaf { key, value } = node {
-                    found.insert(key.to_vec(), value.to_vec());
+                    found.insert(key.to_vec(), value.given().owned());
                 }
             });
         }
@@ -168,7 +169,7 @@ impl State {
     }
 
     /// The value of a present key, or where the walk ends.
-    pub fn find(&self, key: &[u8]) -> Result<Rc<[u8]>, End> {
+    pub fn find(&self, key: &[u8]) -> Result<Value<Rc<[u8]>>, End> {
         let string = self.edition.walked(key);
         let mut rest = &string[..];
         let mut tree = self.tree.as_ref().ok_or(End::EmptyFrame)?;
@@ -225,7 +226,7 @@ impl State {
         matching.map(cut).filter(after).collect()
     }
 
-    pub fn put(&mut self, key: &[u8], value: &[u8]) -> Told {
+    pub fn put(&mut self, key: &[u8], value: Given) -> Told {
         if let Some(refused) = self.record_refusal(key, value) {
             return Told::only(refused);
         }
@@ -233,10 +234,10 @@ impl State {
             return Told::only(PRESENT);
         }
         let (change, after) = self.with(key, value);
-        self.settle(change, after, extent_bytes(key.len(), value.len()), 0, DONE)
+        self.settle(change, after, extent_bytes(key.len(), value.bytes.len()), 0, DONE)
     }
 
-    pub fn replace(&mut self, key: &[u8], value: &[u8]) -> Told {
+    pub fn replace(&mut self, key: &[u8], value: Given) -> Told {
         if let Some(refused) = self.record_refusal(key, value) {
             return Told::only(refused);
         }
@@ -247,19 +248,22 @@ impl State {
         let (change, after) = self.with(key, value);
         let (new_extent, retired) = match change {
             (Case::ReplaceSameLength, _) => (0, 0),
-            _ => (extent_bytes(key.len(), value.len()), extent_bytes(key.len(), old.len())),
+            _ => {
+                let size = |value: Given| extent_bytes(key.len(), value.bytes.len());
+                (size(value), size(old.given()))
+            }
         };
         self.settle(change, after, new_extent, retired, REPLACED)
     }
 
     /// The refusal that a put or a replacement earns by its key and its value.
-    fn record_refusal(&self, key: &[u8], value: &[u8]) -> Option<u32> {
-        let of_value = (value.len() > LONGEST_VALUE).then_some(VALUE_LENGTH);
+    fn record_refusal(&self, key: &[u8], value: Given) -> Option<u32> {
+        let of_value = (value.bytes.len() > LONGEST_VALUE).then_some(VALUE_LENGTH);
         self.edition.key_refusal(key).or(of_value)
     }
 
-    /// The tree with this record, whatever value the key had.
-    fn with(&self, key: &[u8], value: &[u8]) -> (Changed, Option<Rc<Tree>>) {
+    /// The tree with this record, whatever value and stamp the key had.
+    fn with(&self, key: &[u8], value: Given) -> (Changed, Option<Rc<Tree>>) {
         let mut after = self.tree.clone();
         let change = match &mut after {
             None => {
@@ -273,8 +277,8 @@ impl State {
 
     pub fn make(&mut self, change: &Change) -> Told {
         match change {
-            Change::Put { key, value } => self.put(key, value),
-            Change::Replace { key, value } => self.replace(key, value),
+            Change::Put { key, value } => self.put(key, value.given()),
+            Change::Replace { key, value } => self.replace(key, value.given()),
             Change::Erase { key } => self.erase(key),
         }
     }
@@ -295,7 +299,7 @@ impl State {
         let mut after = self.tree.clone();
         let tree = after.as_mut().expect("a key is present");
         let change = remove(Rc::make_mut(tree), &self.edition.walked(key), 0);
-        let retired = extent_bytes(key.len(), old.len());
+        let retired = extent_bytes(key.len(), old.bytes.len());
         self.settle(change, after, 0, retired, DONE)
     }
 
@@ -394,8 +398,8 @@ impl Tree {
     }
 }
 
-fn leaf(key: &[u8], value: &[u8]) -> Rc<Tree> {
-    Rc::new(Tree::Leaf { key: key.into(), value: value.into() })
+fn leaf(key: &[u8], value: Given) -> Rc<Tree> {
+    Rc::new(Tree::Leaf { key: key.into(), value: value.owned() })
 }
 
 /// An inner node whose children all take their places anew, in byte order.
@@ -419,19 +423,19 @@ fn fork(one: (u8, Rc<Tree>), other: (u8, Rc<Tree>)) -> Rc<Tree> {
     Rc::new(inner(Kind::Node4, BTreeMap::from([one, other])))
 }
 
-fn insert(edition: Edition, tree: &mut Tree, depth: usize, key: &[u8], value: &[u8]) -> Changed {
+fn insert(edition: Edition, tree: &mut Tree, depth: usize, key: &[u8], value: Given) -> Changed {
     let string = edition.walked(key);
     let rest = &string[depth..];
     match tree {
         Tree::Leaf { key: there, value: old } if **there == *key => {
-            let case = if old.len() == value.len() {
+            let (was, is) = (old.bytes.len(), value.bytes.len());
+            let case = if was == is {
                 Case::ReplaceSameLength
             } else {
-                let new = extent_bytes(key.len(), value.len());
-                let same_rounded = new == extent_bytes(key.len(), old.len());
+                let same_rounded = extent_bytes(key.len(), is) == extent_bytes(key.len(), was);
                 Case::ReplaceOtherLength { same_rounded }
             };
-            *old = value.into();
+            *old = value.owned();
             (case, None)
         }
         Tree::Leaf { key: there, .. } => {

@@ -3,20 +3,23 @@
 //! Believed here: format, look-up, put, erase and pack of document 01, and info;
 //! of document 02 the replacement, the slots that a look-up visits,
 //! that whatever frees a body or an extent writes zero over it, and the packing
-//! that still takes the old rule, and chains of Prefixes, of which a call
-//! needs or frees as many as the frame then has more or fewer. The edition
-//! says what keys and walked strings are; in edition 1 no chain is longer than
-//! one Prefix, because no shared beginning is longer than 112 bytes.
+//! that still takes the old rule, chains of Prefixes, of which a call needs
+//! or frees as many as the frame then has more or fewer, and the stamp that a
+//! put or a replacement passes, which the Leaf keeps in its last eight bytes and a
+//! look-up gives back. The edition says what keys and walked strings are; in
+//! edition 1 no chain is longer than one Prefix, because no shared beginning is
+//! longer than 112 bytes, and every stamp is 0.
 //! Clear before fast: every call checks the whole frame, works out all it needs,
 //! compares that with the room left, and only then writes.
 
 use crate::check::{check, check_before};
 use crate::layout::number::*;
 use crate::layout::*;
+use crate::value::{get_stamp, set_stamp, Given, Value};
 use std::collections::BTreeMap;
 use std::ops::Range;
 
-pub type Records = BTreeMap<Vec<u8>, Vec<u8>>;
+pub type Records = BTreeMap<Vec<u8>, Value<Vec<u8>>>;
 
 pub fn format(edition: Edition, frame: &mut [u8], f: usize, n: usize) -> u32 {
     if !frame_length_allowed(f) || !slot_capacity_allowed(n) || frame.len() != f {
@@ -37,27 +40,41 @@ pub fn format(edition: Edition, frame: &mut [u8], f: usize, n: usize) -> u32 {
     DONE
 }
 
-/// What a look-up tells: the number, the place and the length of the value, and
-/// how many slots were visited after the frame's check, the last one included.
+/// What a look-up tells: the number, the place and the length of the value, how
+/// many slots were visited after the frame's check, the last one included, and the
+/// stamp.
 #[derive(Clone, Copy, PartialEq, Eq, Debug)]
 pub struct Found {
     pub number: u32,
     pub place: u64,
     pub length: u64,
     pub slots: u64,
+    /// Edition 1 does not tell it.
+    pub stamp: u64,
+}
+
+impl Found {
+    pub fn refused(number: u32) -> Found {
+        Found { number, place: 0, length: 0, slots: 0, stamp: 0 }
+    }
+
+    pub fn absent(slots: u64) -> Found {
+        Found { slots, ..Found::refused(ABSENT) }
+    }
 }
 
 pub fn look_up(edition: Edition, frame: &[u8], key: &[u8]) -> Found {
     if let Err(number) = refusal(edition, frame, key) {
-        return Found { number, place: 0, length: 0, slots: 0 };
+        return Found::refused(number);
     }
     let steps = walk(frame, &edition.walked(key));
     let slots = steps.len() as u64;
     match present(frame, &steps, key) {
-        None => Found { number: ABSENT, place: 0, length: 0, slots },
+        None => Found::absent(slots),
         Some(leaf) => {
             let place = (leaf.extent + leaf.key_length) as u64;
-            Found { number: DONE, place, length: leaf.value_length as u64, slots }
+            let (length, stamp) = (leaf.value_length as u64, leaf.stamp);
+            Found { number: DONE, place, length, slots, stamp }
         }
     }
 }
@@ -69,11 +86,11 @@ pub fn value<'a>(edition: Edition, frame: &'a [u8], key: &[u8]) -> &'a [u8] {
 }
 
 /// A record whose key is new; a present key is told, and nothing is needed.
-pub fn put(edition: Edition, frame: &mut [u8], key: &[u8], value: &[u8]) -> u32 {
+pub fn put(edition: Edition, frame: &mut [u8], key: &[u8], value: Given) -> u32 {
     put_or_refuse(edition, frame, key, value).unwrap_or_else(|refused| refused)
 }
 
-fn put_or_refuse(edition: Edition, frame: &mut [u8], key: &[u8], value: &[u8]) -> Result<u32, u32> {
+fn put_or_refuse(edition: Edition, frame: &mut [u8], key: &[u8], value: Given) -> Result<u32, u32> {
     record_refusal(edition, frame, key, value)?;
     let string = edition.walked(key);
     let steps = walk(frame, &string);
@@ -95,7 +112,7 @@ fn put_or_refuse(edition: Edition, frame: &mut [u8], key: &[u8], value: &[u8]) -
 /// A record whose key is absent, with the walked bytes left at the walk's end.
 struct NewRecord<'a> {
     key: &'a [u8],
-    value: &'a [u8],
+    value: Given<'a>,
     rest: &'a [u8],
 }
 
@@ -103,7 +120,7 @@ impl NewRecord<'_> {
     /// Room for the extent, a Leaf and what is needed besides.
     fn room(&self, frame: &[u8], besides: &[Kind]) -> Result<(), u32> {
         let bodies = [&[Kind::Leaf], besides].concat();
-        room(frame, &bodies, extent_bytes(self.key.len(), self.value.len()))
+        room(frame, &bodies, extent_bytes(self.key.len(), self.value.bytes.len()))
     }
 
     /// The same for a Node4 and so many Prefixes.
@@ -189,8 +206,9 @@ fn add_to_inner(frame: &mut [u8], end: &Step, record: &NewRecord) -> Result<(), 
     Ok(())
 }
 
-/// Another value for a present key; an absent one is told, and nothing is needed.
-pub fn replace(edition: Edition, frame: &mut [u8], key: &[u8], value: &[u8]) -> u32 {
+/// Another value and another stamp for a present key; an absent one is told, and
+/// nothing is needed.
+pub fn replace(edition: Edition, frame: &mut [u8], key: &[u8], value: Given) -> u32 {
     replace_or_refuse(edition, frame, key, value).unwrap_or_else(|refused| refused)
 }
 
@@ -198,18 +216,21 @@ fn replace_or_refuse(
     edition: Edition,
     frame: &mut [u8],
     key: &[u8],
-    value: &[u8],
+    value: Given,
 ) -> Result<u32, u32> {
     record_refusal(edition, frame, key, value)?;
     let steps = walk(frame, &edition.walked(key));
     let leaf = present(frame, &steps, key).ok_or(ABSENT)?;
-    if leaf.value_length == value.len() {
-        frame[leaf.extent + leaf.key_length..][..value.len()].copy_from_slice(value);
+    let (slot, bytes) = (last(&steps).slot, value.bytes);
+    if leaf.value_length == bytes.len() {
+        frame[leaf.extent + leaf.key_length..][..bytes.len()].copy_from_slice(bytes);
+        let body = body_at(frame, slot);
+        set_stamp(frame, body + LEAF_STAMP.start, value.stamp);
         return Ok(REPLACED);
     }
-    room(frame, &[], extent_bytes(key.len(), value.len()))?;
-    let extent = write_extent(frame, key, value);
-    write_leaf(frame, last(&steps).slot, extent, key.len(), value.len());
+    room(frame, &[], extent_bytes(key.len(), bytes.len()))?;
+    let new = new_extent(frame, key, value);
+    write_leaf(frame, slot, &new);
     retire(frame, &leaf);
     Ok(REPLACED)
 }
@@ -344,9 +365,7 @@ fn pack_slot(frame: &[u8], slot: usize, out: &mut [u8]) -> usize {
     match slot_kind(frame, slot) {
         Kind::EmptyRoot => panic!("a frame with records has no EmptyRoot"),
         Kind::Leaf => {
-            let leaf = leaf_fields(frame, slot);
-            let (key, value) = frame[leaf.extent..][..leaf.key_length + leaf.value_length]
-                .split_at(leaf.key_length);
+            let (key, value) = leaf_record(frame, slot);
             add_leaf(out, key, value)
         }
         Kind::Prefix => {
@@ -379,10 +398,8 @@ fn gather(frame: &[u8], slot: usize, found: &mut Records) {
     match slot_kind(frame, slot) {
         Kind::EmptyRoot => {}
         Kind::Leaf => {
-            let leaf = leaf_fields(frame, slot);
-            let (key, value) = frame[leaf.extent..][..leaf.key_length + leaf.value_length]
-                .split_at(leaf.key_length);
-            found.insert(key.to_vec(), value.to_vec());
+            let (key, value) = leaf_record(frame, slot);
+            found.insert(key.to_vec(), value.owned());
         }
         Kind::Prefix => gather(frame, prefix_child(frame, slot), found),
         _ => {
@@ -403,9 +420,9 @@ fn refusal(edition: Edition, frame: &[u8], key: &[u8]) -> Result<(), u32> {
 }
 
 /// Of a put or a replacement, whether the key is there or not.
-fn record_refusal(edition: Edition, frame: &[u8], key: &[u8], value: &[u8]) -> Result<(), u32> {
+fn record_refusal(edition: Edition, frame: &[u8], key: &[u8], value: Given) -> Result<(), u32> {
     refusal(edition, frame, key)?;
-    if value.len() > LONGEST_VALUE {
+    if value.bytes.len() > LONGEST_VALUE {
         return Err(VALUE_LENGTH);
     }
     Ok(())
@@ -549,6 +566,8 @@ pub(crate) struct LeafFields {
     pub extent: usize,
     pub key_length: usize,
     pub value_length: usize,
+    /// What edition 1 keeps zero.
+    pub stamp: u64,
 }
 
 impl LeafFields {
@@ -564,7 +583,16 @@ pub(crate) fn leaf_fields(frame: &[u8], slot: usize) -> LeafFields {
         extent: get32(frame, body + LEAF_EXTENT),
         key_length: get16(frame, body + LEAF_KEY_LENGTH),
         value_length: get16(frame, body + LEAF_VALUE_LENGTH),
+        stamp: get_stamp(frame, body + LEAF_STAMP.start),
     }
+}
+
+/// Key and value of a live Leaf.
+pub(crate) fn leaf_record(frame: &[u8], slot: usize) -> (&[u8], Given<'_>) {
+    let leaf = leaf_fields(frame, slot);
+    let extent = &frame[leaf.extent..][..leaf.key_length + leaf.value_length];
+    let (key, bytes) = extent.split_at(leaf.key_length);
+    (key, Value { bytes, stamp: leaf.stamp })
 }
 
 pub(crate) fn leaf_walked(edition: Edition, frame: &[u8], slot: usize) -> Vec<u8> {
@@ -573,15 +601,22 @@ pub(crate) fn leaf_walked(edition: Edition, frame: &[u8], slot: usize) -> Vec<u8
 }
 
 /// A new Leaf with a new extent.
-pub(crate) fn add_leaf(frame: &mut [u8], key: &[u8], value: &[u8]) -> usize {
+pub(crate) fn add_leaf(frame: &mut [u8], key: &[u8], value: Given) -> usize {
     let leaf = take(frame, Kind::Leaf);
-    let extent = write_extent(frame, key, value);
-    write_leaf(frame, leaf, extent, key.len(), value.len());
+    let fields = new_extent(frame, key, value);
+    write_leaf(frame, leaf, &fields);
     leaf
 }
 
+/// A new extent, and the fields of the Leaf that names it.
+pub(crate) fn new_extent(frame: &mut [u8], key: &[u8], value: Given) -> LeafFields {
+    let Value { bytes, stamp } = value;
+    let extent = write_extent(frame, key, bytes);
+    LeafFields { extent, key_length: key.len(), value_length: bytes.len(), stamp }
+}
+
 /// A new extent at B, its padding zero; gives its place.
-pub(crate) fn write_extent(frame: &mut [u8], key: &[u8], value: &[u8]) -> usize {
+fn write_extent(frame: &mut [u8], key: &[u8], value: &[u8]) -> usize {
     let at = get32(frame, AT_B);
     let size = extent_bytes(key.len(), value.len());
     let extent = &mut frame[at..at + size];
@@ -592,11 +627,12 @@ pub(crate) fn write_extent(frame: &mut [u8], key: &[u8], value: &[u8]) -> usize 
     at
 }
 
-pub(crate) fn write_leaf(frame: &mut [u8], slot: usize, extent: usize, key: usize, value: usize) {
+pub(crate) fn write_leaf(frame: &mut [u8], slot: usize, leaf: &LeafFields) {
     let body = clear_body(frame, slot, Kind::Leaf);
-    set32(frame, body + LEAF_EXTENT, extent);
-    set16(frame, body + LEAF_KEY_LENGTH, key);
-    set16(frame, body + LEAF_VALUE_LENGTH, value);
+    set32(frame, body + LEAF_EXTENT, leaf.extent);
+    set16(frame, body + LEAF_KEY_LENGTH, leaf.key_length);
+    set16(frame, body + LEAF_VALUE_LENGTH, leaf.value_length);
+    set_stamp(frame, body + LEAF_STAMP.start, leaf.stamp);
 }
 
 pub(crate) fn retire(frame: &mut [u8], leaf: &LeafFields) {

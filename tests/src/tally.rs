@@ -66,6 +66,46 @@ impl Key {
     ];
 }
 
+/// What edition 2 makes of stamps.
+#[derive(Clone, Copy, PartialEq, Eq, PartialOrd, Ord, Debug)]
+pub enum Stamp {
+    /// A look-up tells 0,
+    Least,
+    /// the largest number,
+    Most,
+    /// or another one.
+    Between,
+    /// A replacement has another stamp than the record, and the same value,
+    Alone,
+    /// another value of the same length,
+    WithSameLength,
+    /// or one of another length.
+    WithOtherLength,
+    /// A replacement has the record's stamp, and another value of the same length.
+    Kept,
+    /// A put that finds its key present has another stamp,
+    LeftByPut,
+    /// or a replacement that is refused for room.
+    LeftWithoutRoom,
+    /// After a batch a record has another stamp, and the same value.
+    AloneInBatch,
+}
+
+impl Stamp {
+    pub const ALL: [Stamp; 10] = [
+        Stamp::Least,
+        Stamp::Most,
+        Stamp::Between,
+        Stamp::Alone,
+        Stamp::WithSameLength,
+        Stamp::WithOtherLength,
+        Stamp::Kept,
+        Stamp::LeftByPut,
+        Stamp::LeftWithoutRoom,
+        Stamp::AloneInBatch,
+    ];
+}
+
 /// How a case ended.
 #[derive(Clone, Copy, PartialEq, Eq, PartialOrd, Ord, Debug)]
 pub enum Outcome {
@@ -189,6 +229,7 @@ pub enum Entry {
     Beginning(Beginning),
     /// A put, a replacement, a look-up or an erase that was done.
     Key(Call, Key),
+    Stamp(Stamp),
     /// Every call on a good frame of the other edition.
     OtherEdition,
     /// Every call on such a frame with the number of this edition in its header.
@@ -442,12 +483,13 @@ fn of_edition_1() -> Vec<Entry> {
     all
 }
 
-/// Shared beginnings at the ends of full Prefixes, and keys with bytes 0.
+/// Shared beginnings at the ends of full Prefixes, keys with bytes 0, and stamps.
 fn of_edition_2() -> Vec<Entry> {
     let mut all: Vec<Entry> = chains::expected().into_iter().map(Entry::Beginning).collect();
     for call in [Call::LookUp, Call::Put, Call::Replace, Call::Erase] {
         all.extend(Key::ALL.map(|key| Entry::Key(call, key)));
     }
     all.extend(Listing::OF_ZEROS.map(Entry::Listing));
+    all.extend(Stamp::ALL.map(Entry::Stamp));
     all
 }

@@ -2,8 +2,8 @@
 //!
 //! Believed here: "What each call has to settle". From the frame before, the
 //! step names the bodies it rewrites, the slots it frees, the kinds it needs,
-//! the child field it relinks and the extent it overwrites or retires. All
-//! other bytes are equal after the call. What stays free is which listed slot
+//! the child field it relinks, the extent it overwrites or retires, and the stamp
+//! that it overwrites, which edition 2 alone has. All other bytes are equal after the call. What stays free is which listed slot
 //! is taken, the places of fresh bodies and of the extent between the old B
 //! and the new, the links of a list that is touched, and what padding holds.
 //! Bytes that are freed change, and are zero after: a rule of the frame says so.
@@ -15,6 +15,7 @@
 use crate::check::Reading;
 use crate::layout::*;
 use crate::store::{self, Chain, Link, Step};
+use crate::value::Given;
 use std::collections::BTreeSet;
 use std::ops::Range;
 
@@ -27,6 +28,7 @@ pub struct Touched {
     needed: Vec<Kind>,
     relinked: Option<Link>,
     extents: Vec<Range<usize>>,
+    stamp: Option<Range<usize>>,
 }
 
 /// A shared beginning that is cut or joined.
@@ -101,16 +103,17 @@ pub fn by_replace(
     before: &[u8],
     reading: &Reading,
     key: &[u8],
-    value: &[u8],
+    value: Given,
 ) -> Touched {
     let steps = store::walk(before, &edition.walked(key));
     let Step { slot, .. } = steps[steps.len() - 1];
-    let same_length = store::leaf_fields(before, slot).value_length == value.len();
-    Touched {
-        rewritten: if same_length { vec![] } else { vec![slot] },
-        extents: vec![reading.extents[&slot].clone()],
-        ..Touched::default()
+    let touched = Touched { extents: vec![reading.extents[&slot].clone()], ..Touched::default() };
+    if store::leaf_fields(before, slot).value_length != value.bytes.len() {
+        return Touched { rewritten: vec![slot], ..touched };
     }
+    let body = store::body_at(before, slot);
+    let stamp = body + LEAF_STAMP.start..body + LEAF_STAMP.end;
+    Touched { stamp: (edition == Edition::Two).then_some(stamp), ..touched }
 }
 
 /// For an erase that is not refused, of a key that is present beside others.
@@ -224,6 +227,7 @@ impl Touched {
         allow(entry_at(old_u + 1)..entry_at(new_u + 1));
         allow(get32(before, AT_B)..get32(after, AT_B));
         self.extents.iter().cloned().for_each(&mut allow);
+        self.stamp.iter().cloned().for_each(&mut allow);
         if let Some(Link::Child(field)) = self.relinked {
             allow(field..field + CHILD_BYTES);
         }

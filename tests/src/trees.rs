@@ -10,6 +10,7 @@
 use crate::layout::*;
 use crate::random::Random;
 use crate::slotless::{self, Tree};
+use crate::value::{Given, Value};
 use std::collections::BTreeMap;
 use std::rc::Rc;
 
@@ -195,8 +196,10 @@ fn inner(edition: Edition, random: &mut Random, path: &mut Vec<u8>, left: &mut u
 }
 
 fn leaf(random: &mut Random, begun: Begun) -> Tree {
+    let edition = begun.edition;
     let key = begun.some_key(random);
-    Tree::Leaf { key: key.into(), value: small_value(random).into() }
+    let value = small_value(edition, random);
+    Tree::Leaf { key: key.into(), value: value.given().owned() }
 }
 
 /// The beginning of a key, made a key by a few bytes more, or none; in edition 2
@@ -213,15 +216,20 @@ fn extended(edition: Edition, random: &mut Random, mut start: Vec<u8>) -> Vec<u8
     start
 }
 
-pub fn small_value(random: &mut Random) -> Vec<u8> {
+/// In edition 2 at times one that many records have, so that a replacement can differ
+/// in the stamp alone.
+pub fn small_value(edition: Edition, random: &mut Random) -> Value<Vec<u8>> {
+    if edition == Edition::Two && random.one_in(6) {
+        return Value { bytes: b"same".to_vec(), stamp: random.stamp(edition) };
+    }
     let length = if random.one_in(12) { random.below(300) } else { random.below(20) };
-    random.bytes(length)
+    random.value(edition, length)
 }
 
 #[derive(Clone, PartialEq, Eq, Debug)]
 pub enum Change {
-    Put { key: Vec<u8>, value: Vec<u8> },
-    Replace { key: Vec<u8>, value: Vec<u8> },
+    Put { key: Vec<u8>, value: Value<Vec<u8>> },
+    Replace { key: Vec<u8>, value: Value<Vec<u8>> },
     Erase { key: Vec<u8> },
 }
 
@@ -238,7 +246,7 @@ impl Change {
 pub fn aimed(edition: Edition, random: &mut Random, tree: &Option<Rc<Tree>>) -> Change {
     let Some(tree) = tree else {
         let key = extended(edition, random, Vec::new());
-        return Change::Put { key, value: small_value(random) };
+        return Change::Put { key, value: small_value(edition, random) };
     };
     match at_some_node(edition, random, tree) {
         Change::Put { key, value } if holds(tree, &key) => Change::Replace { key, value },
@@ -273,7 +281,7 @@ fn at_some_node(edition: Edition, random: &mut Random, tree: &Rc<Tree>) -> Chang
     }
     let (path, node) = random.pick(&of_kind);
     match node {
-        Tree::Leaf { key, value } => at_leaf(edition, random, path, key, value),
+        Tree::Leaf { key, value } => at_leaf(edition, random, path, key, value.given()),
         Tree::Prefix { bytes, .. } => {
             let matched = cut_at(random, bytes.len());
             parting(edition, random, [path, &bytes[..matched]].concat(), &[bytes[matched]])
@@ -356,17 +364,22 @@ fn with_paths<'a>(tree: &'a Tree, path: &mut Vec<u8>, found: &mut Vec<(Vec<u8>, 
     path.truncate(depth);
 }
 
-fn at_leaf(edition: Edition, random: &mut Random, path: &[u8], key: &[u8], value: &[u8]) -> Change {
+fn at_leaf(edition: Edition, random: &mut Random, path: &[u8], key: &[u8], value: Given) -> Change {
     let string = edition.walked(key);
+    let long = value.bytes.len();
     match random.below(6) {
         0 => Change::Erase { key: key.to_vec() },
-        1 => Change::Replace { key: key.to_vec(), value: random.bytes(value.len()) },
+        1 if edition == Edition::Two && random.one_in(2) => {
+            let stamp = random.stamp(edition);
+            Change::Replace { key: key.to_vec(), value: Value { stamp, ..value.owned() } }
+        }
+        1 => Change::Replace { key: key.to_vec(), value: random.value(edition, long) },
         2 => {
             // Another length, most often with the same rounded size.
-            let length = if value.is_empty() { 1 } else { value.len() - 1 };
-            Change::Replace { key: key.to_vec(), value: random.bytes(length) }
+            let length = if long == 0 { 1 } else { long - 1 };
+            Change::Replace { key: key.to_vec(), value: random.value(edition, length) }
         }
-        3 => Change::Replace { key: key.to_vec(), value: small_value(random) },
+        3 => Change::Replace { key: key.to_vec(), value: small_value(edition, random) },
         _ if path.len() == string.len() => Change::Erase { key: key.to_vec() },
         _ => {
             let shared = random.from_to(path.len(), string.len() - 1);
@@ -382,7 +395,7 @@ fn parting(edition: Edition, random: &mut Random, start: Vec<u8>, there: &[u8]) 
         Some(key) => key,
         None => Begun::new(edition, &start).some_key(random),
     };
-    Change::Put { key, value: small_value(random) }
+    Change::Put { key, value: small_value(edition, random) }
 }
 
 /// A key whose walked string goes with `start` and then with none of `there`, if

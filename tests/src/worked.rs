@@ -11,6 +11,7 @@ use crate::compare::{Compared, Comparer, Held};
 use crate::layout::*;
 use crate::names::Asked;
 use crate::trees::Change;
+use crate::value::Value;
 
 const SMALL: (usize, usize) = (1_024, 8);
 const LARGE: (usize, usize) = (524_288, 10_240);
@@ -43,6 +44,7 @@ pub fn formatted(comparer: &mut Comparer, (f, n): (usize, usize), fill: u8) -> C
     Ok(made.expect("F and N are within the limits"))
 }
 
+/// With some stamp in edition 2, on which no figure hangs.
 pub fn put(
     comparer: &mut Comparer,
     held: &mut Held,
@@ -50,6 +52,7 @@ pub fn put(
     value: &[u8],
     figures: Figures,
 ) -> Compared<()> {
+    let value = comparer.stamped(value);
     let number = comparer.put(held, key, value)?;
     figures.hold(comparer, held, number)
 }
@@ -61,6 +64,7 @@ fn replace(
     value: &[u8],
     figures: Figures,
 ) -> Compared<()> {
+    let value = comparer.stamped(value);
     let number = comparer.replace(held, key, value)?;
     figures.hold(comparer, held, number)
 }
@@ -181,7 +185,8 @@ pub fn growth_and_shrinking(comparer: &mut Comparer) -> Compared<()> {
             get_entry(held.bytes(), root).1
         };
         for children in 1..=60 {
-            comparer.put(&mut held, &key(children), b"v")?;
+            let value = comparer.stamped(b"v");
+            comparer.put(&mut held, &key(children), value)?;
             let expected = match children {
                 1 => 1,
                 2..=4 => 4,
@@ -287,8 +292,7 @@ const PATHS: [Path; 14] = [
     (&[b"zz\x01", b"zz\x02"], b"za", 1),
 ];
 
-/// worked paths; every length of a key with the most slots that it can
-/// have; none for a refused look-up.
+/// worked paths; none for a refused look-up.
 pub fn slots_visited(comparer: &mut Comparer) -> Compared<()> {
     comparer.begin("slots that a look-up visits".to_string());
     for (keys, key, slots) in PATHS {
@@ -307,6 +311,12 @@ pub fn slots_visited(comparer: &mut Comparer) -> Compared<()> {
         visited(comparer, &comparer.held(not_good), key, 0)?;
         visited(comparer, &comparer.held(held.bytes()[..1_016].to_vec()), key, 0)?;
     }
+    Ok(())
+}
+
+/// every length of a key with the most slots that it can have.
+pub fn most_slots_visited(comparer: &mut Comparer) -> Compared<()> {
+    comparer.begin("the most slots that a look-up visits".to_string());
     match comparer.edition() {
         Edition::One => row_of_edition_1(comparer),
         Edition::Two => row_of_edition_2(comparer),
@@ -361,7 +371,7 @@ fn row_of_edition_2(comparer: &mut Comparer) -> Compared<()> {
 }
 
 fn visited(comparer: &mut Comparer, held: &Held, key: &[u8], slots: u64) -> Compared<()> {
-    let told = comparer.look_up(held, key)?;
+    let told = comparer.look_up(held, key)?.slots;
     if told != slots {
         let way = key.escape_ascii();
         return comparer.differs(format!("the way of {way} has {slots} slots, and not {told}"));
@@ -477,15 +487,20 @@ type Values<'a> = (Option<&'a [u8]>, Option<&'a [u8]>);
 /// Changes; number and place; answers; what is there after them.
 type Batched<'a> = (Vec<Change>, (u32, u64), &'a [u8], Values<'a>);
 
+/// What every change of a worked batch passes in edition 2.
+const BATCHED_STAMP: u64 = 0x8877_6655_4433_2211;
+
 /// batches on W2, told beforehand.
 pub fn worked_batches(comparer: &mut Comparer) -> Compared<()> {
     comparer.begin("worked batches".to_string());
     let mut w2 = formatted(comparer, SMALL, 0)?;
     let figures = Figures { name: "W2", number: 0, fields: &[] };
     put(comparer, &mut w2, b"a", b"1", figures)?;
-    let put = |key: &[u8], value: &[u8]| Change::Put { key: key.into(), value: value.into() };
+    let edition = comparer.edition();
+    let value = |bytes: &[u8]| Value::stamped(edition, bytes.to_vec(), BATCHED_STAMP);
+    let put = |key: &[u8], bytes: &[u8]| Change::Put { key: key.into(), value: value(bytes) };
     let replace =
-        |key: &[u8], value: &[u8]| Change::Replace { key: key.into(), value: value.into() };
+        |key: &[u8], bytes: &[u8]| Change::Replace { key: key.into(), value: value(bytes) };
     let erase = |key: &[u8]| Change::Erase { key: key.into() };
     let long = vec![7; LONGEST_VALUE + 1];
     let fill = vec![7; 1_024];
@@ -514,7 +529,7 @@ pub fn worked_batches(comparer: &mut Comparer) -> Compared<()> {
     for (changes, told, answers, values) in cases {
         // With bytes between the changes, and room for fewer answers and for more.
         for (gap, lent) in [(0, changes.len() + 1), (3, changes.len() / 2)] {
-            let batch = laid(&changes, gap);
+            let batch = laid(edition, &changes, gap);
             let mut given = vec![0xEE; lent];
             let mut held = w2.clone();
             let call = comparer.batch(&mut held, &[0xEE; 1_024], &batch, &given)?;
@@ -524,14 +539,14 @@ pub fn worked_batches(comparer: &mut Comparer) -> Compared<()> {
             let expected = answers.iter().copied().chain(std::iter::repeat(0xEE)).take(lent);
             let as_told = call == told && given.iter().copied().eq(expected);
             let records = held.state().records();
-            let found = |key: &[u8]| records.get(key).map(Vec::as_slice);
+            let found = |key: &[u8]| records.get(key).map(|value| &value.bytes[..]);
             if !as_told || (found(b"a"), found(b"b")) != values {
                 return comparer.differs(format!("{changes:?}: {call:?}, {given:?}, {records:?}"));
             }
         }
     }
     // 12 before any change; 7 before 12; 2 before 7; 1 before 2.
-    let right = laid(&[put(b"b", b"2"), erase(b"c"), put(b"c", b"3")], 0);
+    let right = laid(edition, &[put(b"b", b"2"), erase(b"c"), put(b"c", b"3")], 0);
     let altered = |alter: fn(&mut Vec<u8>)| {
         let mut batch = right.clone();
         alter(&mut batch);
@@ -631,13 +646,14 @@ pub fn wiped_bytes(comparer: &mut Comparer) -> Compared<()> {
     // In a batch, and in the frame that it is made in.
     put(comparer, &mut held, b"line", b"secret", done())?;
     let changes = [
-        Change::Replace { key: b"line".to_vec(), value: b"open".to_vec() },
+        Change::Replace { key: b"line".to_vec(), value: comparer.stamped(b"open").owned() },
         Change::Erase { key: b"user".to_vec() },
     ];
+    let batch = laid(comparer.edition(), &changes, 0);
     let mut frames = [held.bytes().to_vec(), vec![0xEE; 2_048]];
-    comparer.batch(&mut held, &frames[1], &laid(&changes, 0), &[0xEE; 2])?;
+    comparer.batch(&mut held, &frames[1], &batch, &[0xEE; 2])?;
     let [first, second] = &mut frames;
-    comparer.calls().batch(first, second, &laid(&changes, 0), &mut [0; 2]);
+    comparer.calls().batch(first, second, &batch, &mut [0; 2]);
     for frame in frames.map(|frame| comparer.held(frame)).iter().chain([&held]) {
         stands(comparer, frame, b"secret", 0)?;
         stands(comparer, frame, b"nobody", 0)?;
@@ -716,7 +732,8 @@ pub fn order_of_refusals(comparer: &mut Comparer) -> Compared<()> {
     for bytes in [full.bytes().to_vec(), not_good, wrong_length, before] {
         let mut held = comparer.held(bytes);
         for key in keys {
-            for value in [&b""[..], b"v", &fill, &long_value] {
+            for bytes in [&b""[..], b"v", &fill, &long_value] {
+                let value = comparer.stamped(bytes);
                 comparer.put(&mut held, key, value)?;
                 comparer.replace(&mut held, key, value)?;
             }

@@ -5,22 +5,23 @@
 //! of them, and must let pass the store that differs only where the documents allow
 //! it.
 
-use crate::batch::{self, AT_KIND, AT_VALUE_LENGTH, COUNT_BYTES, OFFSET_BYTES, PUT};
+use crate::batch::{self, AT_KIND, AT_STAMP, AT_VALUE_LENGTH, COUNT_BYTES, OFFSET_BYTES, PUT};
 use crate::check::{self, Rule};
 use crate::compare::{Calls, Second};
 use crate::image::image;
 use crate::layout::number::*;
 use crate::layout::*;
 use crate::names::{self, Asked, Page, LENGTH_BYTES};
-use crate::store::{self, body_at, children, release, set_link, take, Found, Step};
+use crate::store::{self, body_at, children, release, set_link, take, Found, LeafFields, Step};
 use crate::trees::Change;
 use crate::unused;
+use crate::value::Given;
 use std::ops::Range;
 
 type Format = dyn Fn(&mut [u8], usize, usize) -> u32;
 type Check = dyn Fn(&[u8]) -> u32;
 type LookUp = dyn Fn(&[u8], &[u8]) -> Found;
-type Put = dyn Fn(&mut [u8], &[u8], &[u8]) -> u32;
+type Put = dyn Fn(&mut [u8], &[u8], Given) -> u32;
 type Erase = dyn Fn(&mut [u8], &[u8]) -> u32;
 type Pack = dyn Fn(&[u8], &mut [u8]) -> u32;
 type List = dyn Fn(&[u8], &Asked, &mut [u8]) -> Page;
@@ -80,10 +81,10 @@ impl Calls for Altered {
     fn look_up(&self, frame: &[u8], key: &[u8]) -> Found {
         (self.look_up)(frame, key)
     }
-    fn put(&self, frame: &mut [u8], key: &[u8], value: &[u8]) -> u32 {
+    fn put(&self, frame: &mut [u8], key: &[u8], value: Given) -> u32 {
         (self.put)(frame, key, value)
     }
-    fn replace(&self, frame: &mut [u8], key: &[u8], value: &[u8]) -> u32 {
+    fn replace(&self, frame: &mut [u8], key: &[u8], value: Given) -> u32 {
         (self.replace)(frame, key, value)
     }
     fn erase(&self, frame: &mut [u8], key: &[u8]) -> u32 {
@@ -136,7 +137,7 @@ impl With {
     pub fn put(
         self,
         name: &str,
-        put: impl Fn(&mut [u8], &[u8], &[u8]) -> u32 + 'static,
+        put: impl Fn(&mut [u8], &[u8], Given) -> u32 + 'static,
     ) -> Altered {
         Altered { put: Box::new(put), ..Altered::named(self.0, name) }
     }
@@ -144,7 +145,7 @@ impl With {
     pub fn replace(
         self,
         name: &str,
-        replace: impl Fn(&mut [u8], &[u8], &[u8]) -> u32 + 'static,
+        replace: impl Fn(&mut [u8], &[u8], Given) -> u32 + 'static,
     ) -> Altered {
         Altered { replace: Box::new(replace), ..Altered::named(self.0, name) }
     }
@@ -340,7 +341,7 @@ pub fn look_ups(edition: Edition) -> Vec<Altered> {
     vec![
         told("a look-up that always says 8", |found, _, _, _| {
             if found.number == DONE {
-                *found = Found { number: ABSENT, place: 0, length: 0, ..*found };
+                *found = Found::absent(found.slots);
             }
         }),
         told("a look-up that trusts the path", |found, frame, key, edition| {
@@ -352,7 +353,7 @@ pub fn look_ups(edition: Edition) -> Vec<Altered> {
                 let leaf = store::leaf_fields(frame, slot);
                 let (place, length) = (leaf.extent + leaf.key_length, leaf.value_length);
                 let (place, length) = (place as u64, length as u64);
-                *found = Found { number: DONE, place, length, ..*found };
+                *found = Found { number: DONE, place, length, stamp: leaf.stamp, ..*found };
             }
         }),
         told("a look-up that reads long lengths as negative", |found, _, _, _| {
@@ -428,7 +429,7 @@ pub(crate) fn end_of_way(edition: Edition, frame: &[u8], key: &[u8]) -> Option<S
 }
 
 /// What a put was before document 02.
-fn put_or_replace(right: Second, frame: &mut [u8], key: &[u8], value: &[u8]) -> u32 {
+fn put_or_replace(right: Second, frame: &mut [u8], key: &[u8], value: Given) -> u32 {
     match right.put(frame, key, value) {
         PRESENT => right.replace(frame, key, value),
         given => given,
@@ -471,7 +472,7 @@ pub fn puts(edition: Edition) -> Vec<Altered> {
             "a put that takes 32,768 bytes for a negative length",
             move |frame, key, value| {
                 let given = right.put(&mut frame.to_vec(), key, value);
-                if value.len() > 32_767 && given == DONE {
+                if value.bytes.len() > 32_767 && given == DONE {
                     return VALUE_LENGTH;
                 }
                 right.put(frame, key, value)
@@ -490,7 +491,8 @@ pub fn puts(edition: Edition) -> Vec<Altered> {
             "a put that says 11 and takes a value of the same length",
             move |frame, key, value| {
                 let given = right.put(frame, key, value);
-                if given == PRESENT && right.look_up(frame, key).length == value.len() as u64 {
+                if given == PRESENT && right.look_up(frame, key).length == value.bytes.len() as u64
+                {
                     right.replace(frame, key, value);
                 }
                 given
@@ -564,7 +566,7 @@ pub fn puts(edition: Edition) -> Vec<Altered> {
         }),
         with.put("a put that looks at the value before the key", move |frame, key, value| {
             match right.put(frame, key, value) {
-                KEY_LENGTH | KEY_HOLDS_ZERO if value.len() > LONGEST_VALUE => VALUE_LENGTH,
+                KEY_LENGTH | KEY_HOLDS_ZERO if value.bytes.len() > LONGEST_VALUE => VALUE_LENGTH,
                 given => given,
             }
         }),
@@ -711,9 +713,11 @@ pub fn replaces(edition: Edition) -> Vec<Altered> {
                     let leaf = store::leaf_fields(frame, slot);
                     let size = extent_bytes(leaf.key_length, leaf.value_length);
                     let same_key = frame[leaf.extent..][..leaf.key_length] == *key;
-                    if same_key && extent_bytes(key.len(), value.len()) == size {
-                        frame[leaf.extent + key.len()..][..value.len()].copy_from_slice(value);
-                        store::write_leaf(frame, slot, leaf.extent, key.len(), value.len());
+                    let Given { bytes, stamp } = value;
+                    if same_key && extent_bytes(key.len(), bytes.len()) == size {
+                        frame[leaf.extent + key.len()..][..bytes.len()].copy_from_slice(bytes);
+                        let new = LeafFields { value_length: bytes.len(), stamp, ..leaf };
+                        store::write_leaf(frame, slot, &new);
                         return REPLACED;
                     }
                 }
@@ -736,12 +740,12 @@ pub fn replaces(edition: Edition) -> Vec<Altered> {
             "a replacement that takes a new extent for the same length",
             move |frame, key, value| {
                 let found = right.look_up(frame, key);
-                let size = extent_bytes(key.len(), value.len());
-                let same = found.number == DONE && found.length == value.len() as u64;
+                let size = extent_bytes(key.len(), value.bytes.len());
+                let same = found.number == DONE && found.length == value.bytes.len() as u64;
                 if same && get32(frame, AT_B) + size <= frame.len() {
                     let step = end_of_way(edition, frame, key).expect("the key is there");
-                    let extent = store::write_extent(frame, key, value);
-                    store::write_leaf(frame, step.slot, extent, key.len(), value.len());
+                    let new = store::new_extent(frame, key, value);
+                    store::write_leaf(frame, step.slot, &new);
                     set32(frame, AT_X, get32(frame, AT_X) + size);
                     return REPLACED;
                 }
@@ -752,9 +756,9 @@ pub fn replaces(edition: Edition) -> Vec<Altered> {
             "a replacement that changes the value it is lent",
             move |frame, key, value| {
                 let given = right.replace(frame, key, value);
-                if given == REPLACED && !value.is_empty() {
+                if given == REPLACED && !value.bytes.is_empty() {
                     // As a C function could: the comparer looks at memory anew.
-                    let first = value.as_ptr().cast_mut();
+                    let first = value.bytes.as_ptr().cast_mut();
                     unsafe { first.write_volatile(first.read_volatile() ^ 1) };
                 }
                 given
@@ -935,7 +939,7 @@ fn as_good(edition: Edition, frame: &[u8]) -> Option<Vec<u8>> {
     only_before.then(|| unused::wiped(frame, &reading))
 }
 
-fn highest_place(right: Second, frame: &mut [u8], key: &[u8], value: &[u8]) -> u32 {
+fn highest_place(right: Second, frame: &mut [u8], key: &[u8], value: Given) -> u32 {
     let edition = right.edition();
     let step = end_of_way(edition, frame, key);
     let given = right.put(frame, key, value);
@@ -1362,9 +1366,7 @@ pub fn by_the_old_rule(edition: Edition) -> Vec<Altered> {
 fn pack_keeping_node16(frame: &[u8], slot: usize, out: &mut [u8]) -> usize {
     match store::slot_kind(frame, slot) {
         Kind::Leaf => {
-            let leaf = store::leaf_fields(frame, slot);
-            let extent = &frame[leaf.extent..][..leaf.key_length + leaf.value_length];
-            let (key, value) = extent.split_at(leaf.key_length);
+            let (key, value) = store::leaf_record(frame, slot);
             store::add_leaf(out, key, value)
         }
         Kind::Prefix => {
@@ -1644,7 +1646,7 @@ pub fn lists(edition: Edition) -> Vec<Altered> {
 
 /// How a batch is applied by these calls.
 #[derive(Clone, Copy)]
-struct Applying<'a> {
+pub(crate) struct Applying<'a> {
     calls: &'a dyn Calls,
     stops: fn(u32) -> bool,
     back_if_refused: bool,
@@ -1653,7 +1655,7 @@ struct Applying<'a> {
 }
 
 impl Applying<'_> {
-    fn right(edition: Edition) -> Applying<'static> {
+    pub fn right(edition: Edition) -> Applying<'static> {
         let calls: &'static Second = match edition {
             Edition::One => &Second(Edition::One),
             Edition::Two => &Second(Edition::Two),
@@ -1668,7 +1670,7 @@ impl Applying<'_> {
     }
 
     /// The changes of a batch whose frames and layout are right.
-    fn apply(
+    pub fn apply(
         &self,
         frame: &mut [u8],
         second: &mut [u8],
@@ -1680,8 +1682,8 @@ impl Applying<'_> {
         let mut result = (DONE, 0);
         for (index, change) in changes.iter().enumerate() {
             let number = match change {
-                Change::Put { key, value } => self.calls.put(second, key, value),
-                Change::Replace { key, value } => self.calls.replace(second, key, value),
+                Change::Put { key, value } => self.calls.put(second, key, value.given()),
+                Change::Replace { key, value } => self.calls.replace(second, key, value.given()),
                 Change::Erase { key } => self.calls.erase(second, key),
             };
             if (self.stops)(number) {
@@ -1702,9 +1704,14 @@ impl Applying<'_> {
 }
 
 /// The changes of a batch that the second store would start on.
-fn started(edition: Edition, frame: &[u8], second: &[u8], batch: &[u8]) -> Option<Vec<Change>> {
+pub(crate) fn started(
+    edition: Edition,
+    frame: &[u8],
+    second: &[u8],
+    batch: &[u8],
+) -> Option<Vec<Change>> {
     let begun = check::check(edition, frame) == DONE && frame.len() == second.len();
-    begun.then(|| batch::changes(batch).ok()).flatten()
+    begun.then(|| batch::changes(edition, batch).ok()).flatten()
 }
 
 pub fn batches(edition: Edition) -> Vec<Altered> {
@@ -1767,7 +1774,7 @@ pub fn batches(edition: Edition) -> Vec<Altered> {
         with.batch(
             "a batch that looks at its layout before the lengths",
             move |frame, second, batch, answers| match right.batch(frame, second, batch, answers) {
-                (OUTPUT_LENGTH, _) if batch::changes(batch).is_err() => (LAYOUT, 0),
+                (OUTPUT_LENGTH, _) if batch::changes(edition, batch).is_err() => (LAYOUT, 0),
                 given => given,
             },
         ),
@@ -1822,7 +1829,7 @@ pub fn batches(edition: Edition) -> Vec<Altered> {
             "a batch that clears the answers that are left",
             move |frame, second, batch, answers| {
                 let given = right.batch(frame, second, batch, answers);
-                let count = batch::changes(batch).map_or(0, |changes| changes.len());
+                let count = batch::changes(edition, batch).map_or(0, |changes| changes.len());
                 if given == (DONE, 0) && count < answers.len() {
                     answers[count..].fill(0);
                 }
@@ -1861,7 +1868,7 @@ pub fn batches(edition: Edition) -> Vec<Altered> {
             "a batch that wants its changes end to end",
             move |frame, second, batch, answers| {
                 let exact = started(edition, frame, second, batch)
-                    .is_none_or(|changes| batch::laid(&changes, 0).len() == batch.len());
+                    .is_none_or(|changes| batch::laid(edition, &changes, 0).len() == batch.len());
                 if exact {
                     right.batch(frame, second, batch, answers)
                 } else {
@@ -1896,8 +1903,8 @@ pub fn batches(edition: Edition) -> Vec<Altered> {
         "a batch whose changes may overlap",
         move |frame, second, batch, answers| {
             let begun = check::check(edition, frame) == DONE && frame.len() == second.len();
-            let back = batch::changes(batch) == Err(batch::Fault::RunsBack);
-            match (begun && back).then(|| anywhere(batch)).flatten() {
+            let back = batch::changes(edition, batch) == Err(batch::Fault::RunsBack);
+            match (begun && back).then(|| anywhere(edition, batch)).flatten() {
                 Some(changes) => Applying::right(edition).apply(frame, second, &changes, answers),
                 None => right.batch(frame, second, batch, answers),
             }
@@ -1907,7 +1914,7 @@ pub fn batches(edition: Edition) -> Vec<Altered> {
 }
 
 /// Alters each change of a batch whose fields lie in it.
-fn each_change(batch: &mut [u8], alter: fn(&mut [u8], usize)) {
+pub(crate) fn each_change(batch: &mut [u8], alter: fn(&mut [u8], usize)) {
     if batch.len() < COUNT_BYTES {
         return;
     }
@@ -1917,19 +1924,19 @@ fn each_change(batch: &mut [u8], alter: fn(&mut [u8], usize)) {
             return;
         }
         let at = get32(batch, offset);
-        if at + batch::AT_KEY <= batch.len() {
+        if at + AT_STAMP <= batch.len() {
             alter(batch, at);
         }
     }
 }
 
 /// The changes of a batch whose offsets lie in it, wherever they lead.
-fn anywhere(batch: &[u8]) -> Option<Vec<Change>> {
+fn anywhere(edition: Edition, batch: &[u8]) -> Option<Vec<Change>> {
     let count = get32(batch, 0);
     let one = |index: usize| {
         let at = get32(batch, COUNT_BYTES + OFFSET_BYTES * index);
         let alone = [&1u32.to_le_bytes()[..], &8u32.to_le_bytes(), batch.get(at..)?].concat();
-        batch::changes(&alone).ok()?.pop()
+        batch::changes(edition, &alone).ok()?.pop()
     };
     (0..count).map(one).collect()
 }
@@ -1961,9 +1968,11 @@ pub fn bound_to_an_order(edition: Edition) -> Vec<Altered> {
             given
         }),
         with.replace("a replacement that keeps the longest value", move |frame, key, value| {
-            let longest = store::records(frame).into_values().max_by_key(Vec::len);
+            let longest = store::records(frame).into_values().max_by_key(|value| value.bytes.len());
             match longest {
-                Some(longest) if longest.len() > value.len() => right.replace(frame, key, &longest),
+                Some(longest) if longest.bytes.len() > value.bytes.len() => {
+                    right.replace(frame, key, longest.given())
+                }
                 _ => right.replace(frame, key, value),
             }
         }),

@@ -112,7 +112,7 @@ pub fn keys() -> Vec<Altered> {
         WITH.look_up("a look-up that gives 4", move |frame, key| {
             let mut found = RIGHT.look_up(frame, key);
             if matches!(found.number, DONE | ABSENT) && zero(key) {
-                found = store::Found { number: KEY_HOLDS_ZERO, place: 0, length: 0, slots: 0 };
+                found = store::Found::refused(KEY_HOLDS_ZERO);
             }
             found
         }),
@@ -122,7 +122,7 @@ pub fn keys() -> Vec<Altered> {
         WITH.look_up("a look-up that refuses more than 112 bytes", move |frame, key| {
             let mut found = RIGHT.look_up(frame, key);
             if matches!(found.number, DONE | ABSENT) && longer(key) {
-                found = store::Found { number: KEY_LENGTH, place: 0, length: 0, slots: 0 };
+                found = store::Found::refused(KEY_LENGTH);
             }
             found
         }),
@@ -170,11 +170,11 @@ pub fn keys() -> Vec<Altered> {
         }),
         WITH.batch("a batch with the keys of edition 1", |frame, second, batch, answers| {
             let begun = check::check(TWO, frame) == DONE && frame.len() == second.len();
-            let changes = batch::changes(batch).unwrap_or_default();
+            let changes = batch::changes(TWO, batch).unwrap_or_default();
             let refused = changes.iter().position(|it| refused_by_edition_1(it.key()).is_some());
             match refused.filter(|_| begun) {
                 Some(at) => {
-                    let (before, number) = (batch::laid(&changes[..at], 0), changes[at].key());
+                    let (before, number) = (batch::laid(TWO, &changes[..at], 0), changes[at].key());
                     let mut own = frame.to_vec();
                     match RIGHT.batch(&mut own, second, &before, &mut []) {
                         (DONE, _) => (

@@ -10,6 +10,7 @@ use second_store::layout::number::{DONE, NO_ROOM, REPLACED};
 use second_store::layout::{data_start, get32, number, Edition, Kind, AT_B, AT_N, AT_U};
 use second_store::random::Random;
 use second_store::slotless::bodies;
+use second_store::value::Value;
 
 type Setting = (Vec<u8>, Vec<u8>);
 
@@ -65,7 +66,7 @@ fn frame_of(f: usize, n: usize, settings: &[Setting]) -> Vec<u8> {
     let mut frame = vec![0; f];
     assert_eq!(EXPORTED.format(&mut frame, f, n), DONE);
     for (key, value) in settings {
-        assert_eq!(EXPORTED.put(&mut frame, key, value), DONE);
+        assert_eq!(EXPORTED.put(&mut frame, key, Value::plain(value)), DONE);
     }
     frame
 }
@@ -111,11 +112,11 @@ fn frames_for_dotted_settings() {
         for turn in 0..count * CHANGES {
             let (key, _) = &all[turn % count];
             let value = value(&mut random);
-            let mut given = EXPORTED.replace(&mut frame, key, &value);
+            let mut given = EXPORTED.replace(&mut frame, key, Value::plain(&value));
             if given == NO_ROOM {
                 frame = packed(&frame);
                 packings += 1;
-                given = EXPORTED.replace(&mut frame, key, &value);
+                given = EXPORTED.replace(&mut frame, key, Value::plain(&value));
             }
             assert_eq!(given, REPLACED, "{count} settings, change {turn}");
         }

@@ -6,7 +6,8 @@ use second_store::image::image;
 use second_store::layout::{get32, Edition, AT_B};
 use second_store::run::{all_stages, limits, worked_cases, Effort};
 use second_store::store::{self, Records};
-use second_store::{chains, check, history, worked};
+use second_store::value::Value;
+use second_store::{chains, check, history, stamps, worked};
 
 fn passes(compared: Compared<()>) {
     if let Err(difference) = compared {
@@ -42,8 +43,14 @@ fn puts_and_replacements_hold() {
 }
 
 #[test]
+fn worked_stamps_hold() {
+    holds(stamps::worked_stamps);
+}
+
+#[test]
 fn slots_visited_hold() {
     holds(worked::slots_visited);
+    holds(worked::most_slots_visited);
 }
 
 #[test]
@@ -187,7 +194,8 @@ fn two_orders_pack_to_one_image() {
         };
         let key = |byte: u8| [&start[..], &[byte % 7 + 1, byte, byte % 3 + 1]].concat();
         let keys: Vec<Vec<u8>> = (1..=200).map(key).collect();
-        let value = |key: &[u8]| key[start.len()..].repeat(3);
+        let stamp = |key: &[u8]| u64::from(key[start.len() + 1]) << 56;
+        let value = |key: &[u8]| Value::stamped(edition, key[start.len()..].repeat(3), stamp(key));
         let records: Records = keys.iter().map(|key| (key.clone(), value(key))).collect();
         let f = 65_536;
         let expected = image(edition, f, 600, &records);
@@ -196,8 +204,9 @@ fn two_orders_pack_to_one_image() {
             let mut frame = vec![0; f];
             assert_eq!(store::format(edition, &mut frame, f, 600), 0);
             for key in order {
-                assert_eq!(store::put(edition, &mut frame, key, b"first"), 0);
-                assert_eq!(store::replace(edition, &mut frame, key, &value(key)), 9);
+                let first = Value::stamped(edition, &b"first"[..], 1);
+                assert_eq!(store::put(edition, &mut frame, key, first), 0);
+                assert_eq!(store::replace(edition, &mut frame, key, value(key).given()), 9);
             }
             assert_eq!(store::records(&frame), records);
             let mut out = vec![1; f];
@@ -227,7 +236,7 @@ fn a_frame_of_the_other_edition_is_not_good() {
             assert_eq!(check::check(edition, &frame), 0);
             let other = edition.other();
             assert_eq!(check::check(other, &frame), 2);
-            assert_eq!(store::put(other, &mut frame, b"key", b"value"), 2);
+            assert_eq!(store::put(other, &mut frame, b"key", Value::plain(b"value")), 2);
         }
     }
 }

@@ -1,18 +1,20 @@
 //! W1 to W11, the lengths and children that document 01 lists under "Run and
-//! compared", and puts, replacements, listings, batches, wiped bytes, chains and
-//! bytes 0 of document 02, told step by step: the number given and U, B, R and X after it,
-//! or what is listed. The exported calls and the second store are held to the
-//! stored lines, and these to the figures that document 01 prints.
+//! compared", and puts, replacements, listings, batches, wiped bytes, chains, bytes 0
+//! and stamps of document 02, told step by step: the number given and U, B, R and X
+//! after it, what is listed, or bytes of a packed image. The exported calls and the
+//! second store are held to the stored lines, and these to the figures that document
+//! 01 and docs/FORMAT.md print.
 
 use second_store::batch::laid;
 use second_store::compare::{Calls, Second};
 use second_store::exported::Exported;
 use second_store::layout::{
-    get16, get32, get_entry, Edition, Kind, AT_B, AT_R, AT_ROOT, AT_U, AT_X, LISTS,
+    get16, get32, get_entry, Edition, Kind, AT_B, AT_R, AT_ROOT, AT_U, AT_X, LISTS, UNIT,
 };
 use second_store::names::{Asked, Page};
 use second_store::store::Found;
 use second_store::trees::Change;
+use second_store::value::{Given, Value};
 use std::fmt::Write;
 
 const STORED: &str = include_str!("../vectors.txt");
@@ -84,6 +86,24 @@ const TOLD_BY_Q7: [&str; 13] = [
     "Q-7 put 1 bytes 0: 0 U 2 ",
 ];
 
+/// And of stamps: those of 1,700,000,000 are docs/FORMAT.md's.
+const TOLD_BY_Q8: [&str; 14] = [
+    "Q-8 put a=1, stamp 1234605616436508552: 0 U 2 B 128 R 1 X 0 told 1234605616436508552",
+    "  at 96: 70 00 00 00 01 00 01 00",
+    "  at 104: 88 77 66 55 44 33 22 11",
+    "  at 112: 61 31 00 00 00 00 00 00",
+    "Q-8 put a=2, stamp 1: 11 U 2 B 128 R 1 X 0 told 1234605616436508552",
+    "Q-8 replace a=2, stamp 1: 9 U 2 B 128 R 1 X 0 told 1",
+    "Q-8 replace a=2, stamp 0: 9 U 2 B 128 R 1 X 0 told 0",
+    "Q-8 replace a=23, stamp 18446744073709551615: 9 U 2 B 136 R 1 X 8 told 18446744073709551615",
+    "Q-8 replace a of 895, stamp 1: 6 U 2 B 136 R 1 X 8 told 18446744073709551615",
+    "Q-8 replace b=2, stamp 1: 8 U 2 B 136 R 1 X 8 told 0",
+    "  at 384: 00 f1 53 65 00 00 00 00",
+    "  at 520: 01 00 00 00 00 00 00 00",
+    "Q-8 batch of 47 bytes, put a=1, erase a: 0 U 1 B 104 R 0 X 0 place 0 answers [0, 0]",
+    "  stamps of a 1700000000, of b 18446744073709551615",
+];
+
 /// Children and the kind they are kept in, on the way up and down.
 const UP: [(u8, usize); 6] = [(4, 4), (5, 5), (16, 5), (17, 6), (48, 6), (49, 7)];
 const DOWN: [(u8, usize); 6] = [(38, 7), (37, 6), (13, 6), (12, 5), (4, 5), (3, 4)];
@@ -113,12 +133,12 @@ impl Told<'_> {
     }
 
     fn put(&mut self, step: &str, frame: &mut [u8], key: &[u8], value: &[u8]) {
-        let given = self.calls.put(frame, key, value);
+        let given = self.calls.put(frame, key, Value::plain(value));
         self.line(step, given, frame);
     }
 
     fn replace(&mut self, step: &str, frame: &mut [u8], key: &[u8], value: &[u8]) {
-        let given = self.calls.replace(frame, key, value);
+        let given = self.calls.replace(frame, key, Value::plain(value));
         self.line(step, given, frame);
     }
 
@@ -128,7 +148,7 @@ impl Told<'_> {
     }
 
     fn look_up(&mut self, frame: &[u8], key: &[u8], expected: &[u8]) {
-        let Found { number, place, length, slots } = self.calls.look_up(frame, key);
+        let Found { number, place, length, slots, .. } = self.calls.look_up(frame, key);
         let value = &frame[place as usize..][..length as usize];
         let same = if value == expected { "the same" } else { "not the same" };
         let told = format!("{number} long {length} slots {slots} {same}");
@@ -184,7 +204,7 @@ impl Told<'_> {
     fn growth_and_shrinking(&mut self) {
         let mut frame = self.format("children 0", WIDE);
         for n in 1..=MOST_CHILDREN {
-            let given = self.calls.put(&mut frame, &[n], b"v");
+            let given = self.calls.put(&mut frame, &[n], Value::plain(b"v"));
             self.children(n, given, &frame);
         }
         for n in (1..=MOST_CHILDREN).rev() {
@@ -272,8 +292,8 @@ impl Told<'_> {
         let mut second = vec![0; SMALL.0];
         let mut answers = vec![0xEE; changes.len()];
         self.calls.format(&mut first, SMALL.0, SMALL.1);
-        self.calls.put(&mut first, b"a", b"1");
-        let batch = laid(changes, 0);
+        self.calls.put(&mut first, b"a", Value::plain(b"1"));
+        let batch = laid(self.calls.edition(), changes, 0);
         let (given, place) = self.calls.batch(&mut first, &mut second, &batch, &mut answers);
         write!(self.text, "Q-6 batch of {} bytes, {step}", batch.len()).expect("a text");
         self.counts(given, &first);
@@ -282,9 +302,10 @@ impl Told<'_> {
     }
 
     fn batches(&mut self) {
-        let put = |key: &[u8], value: &[u8]| Change::Put { key: key.into(), value: value.into() };
+        let value = |bytes: &[u8]| Value::plain(bytes.to_vec());
+        let put = |key: &[u8], bytes: &[u8]| Change::Put { key: key.into(), value: value(bytes) };
         let replace =
-            |key: &[u8], value: &[u8]| Change::Replace { key: key.into(), value: value.into() };
+            |key: &[u8], bytes: &[u8]| Change::Replace { key: key.into(), value: value(bytes) };
         let erase = |key: &[u8]| Change::Erase { key: key.into() };
         self.batch("none", &[]);
         self.batch("put a=2, put b=2", &[put(b"a", b"2"), put(b"b", b"2")]);
@@ -335,7 +356,7 @@ impl Told<'_> {
 impl Told<'_> {
     /// The number of a put in edition 2, the counts, and the freed Prefixes.
     fn chained(&mut self, step: &str, frame: &mut [u8], key: &[u8]) {
-        let given = self.calls.put(frame, key, b"v");
+        let given = self.calls.put(frame, key, Value::plain(b"v"));
         self.text += step;
         self.counts(given, frame);
         self.prefixes(frame);
@@ -397,11 +418,99 @@ impl Told<'_> {
     }
 }
 
+/// Q-8.
+impl Told<'_> {
+    /// The number of a put or a replacement, the counts, and the stamp that a look-up
+    /// of the key then tells.
+    fn stamped(&mut self, step: &str, given: u32, frame: &[u8], (key, stamp): (&[u8], u64)) {
+        write!(self.text, "Q-8 {step}, stamp {stamp}").expect("a text takes more");
+        self.counts(given, frame);
+        let told = self.calls.look_up(frame, key).stamp;
+        writeln!(self.text, " told {told}").expect("a text takes more");
+    }
+
+    fn put_stamped(&mut self, step: &str, frame: &mut [u8], key: &[u8], value: Given) {
+        let given = self.calls.put(frame, key, value);
+        self.stamped(step, given, frame, (key, value.stamp));
+    }
+
+    fn replace_stamped(&mut self, step: &str, frame: &mut [u8], key: &[u8], value: Given) {
+        let given = self.calls.replace(frame, key, value);
+        self.stamped(step, given, frame, (key, value.stamp));
+    }
+
+    /// Of the packed image, the counts and the units at these places.
+    fn packed_units(&mut self, frame: &[u8], places: impl IntoIterator<Item = usize>) {
+        let mut packed = vec![0; frame.len()];
+        let given = self.calls.pack(frame, &mut packed);
+        self.line("Q-8 pack", given, &packed);
+        for at in places {
+            let unit = packed[at..at + UNIT].iter().map(|byte| format!(" {byte:02x}"));
+            writeln!(self.text, "  at {at}:{}", unit.collect::<String>()).expect("a text");
+        }
+    }
+
+    /// Records of docs/FORMAT.md have this stamp.
+    const SINCE: u64 = 1_700_000_000;
+
+    fn stamps(&mut self) {
+        let value = |bytes: &'static [u8], stamp: u64| Value { bytes, stamp };
+        let mut frame = self.format("Q-8 format", SMALL);
+        let first = value(b"1", 0x1122_3344_5566_7788);
+        self.put_stamped("put a=1", &mut frame, b"a", first);
+        self.packed_units(&frame, (96..120).step_by(UNIT));
+        self.put_stamped("put a=2", &mut frame, b"a", value(b"2", 1));
+        self.replace_stamped("replace a=2", &mut frame, b"a", value(b"2", 1));
+        self.replace_stamped("replace a=2", &mut frame, b"a", value(b"2", 0));
+        self.replace_stamped("replace a=23", &mut frame, b"a", value(b"23", u64::MAX));
+        self.replace_stamped("replace a of 895", &mut frame, b"a", value(&[b'v'; 895], 1));
+        self.replace_stamped("replace b=2", &mut frame, b"b", value(b"2", 1));
+        self.put_stamped("put b=2", &mut frame, b"b", value(b"2", first.stamp));
+        self.packed_units(&frame, (96..168).step_by(UNIT));
+        let mut frame = self.format("Q-8 format for a chain", SMALL);
+        let key = |last: &[u8]| [&[b'a'; 113][..], last].concat();
+        self.put_stamped("put 113 a and x", &mut frame, &key(b"x"), value(b"1", Self::SINCE));
+        self.put_stamped("put 113 a and y", &mut frame, &key(b"y"), value(b"2", 1));
+        self.packed_units(&frame, [376, 384, 504, 512, 520, 640]);
+    }
+
+    /// The batch of docs/FORMAT.md, and one on records that have stamps.
+    fn stamped_batches(&mut self) {
+        let since = Self::SINCE.to_le_bytes();
+        let put = [&[1, 0, 1, 0, 1, 0, 0, 0][..], &since, b"a1"].concat();
+        let erase = [&[3, 0, 1, 0, 0, 0, 0, 0][..], &[0; 8], b"a"].concat();
+        let head = [2, 0, 0, 0, 12, 0, 0, 0, 30, 0, 0, 0];
+        let mut frame = self.format("Q-8 format for a batch", SMALL);
+        self.stamped_batch("put a=1, erase a", &mut frame, &[&head[..], &put, &erase].concat());
+        for (key, stamp) in [(b"a", 1), (b"b", u64::MAX)] {
+            let given = self.calls.put(&mut frame, key, Value { bytes: b"0", stamp });
+            self.line("Q-8 put", given, &frame);
+        }
+        // The value is as long as the one that is there; b is there.
+        let replace = [&[2][..], &put[1..]].concat();
+        let present = [&put[..16], b"b1"].concat();
+        let step = "replace a=1, put b=1";
+        self.stamped_batch(step, &mut frame, &[&head[..], &replace, &present].concat());
+    }
+
+    fn stamped_batch(&mut self, step: &str, frame: &mut [u8], batch: &[u8]) {
+        let (mut second, mut answers) = (vec![0; frame.len()], [0xEE; 2]);
+        let (given, place) = self.calls.batch(frame, &mut second, batch, &mut answers);
+        write!(self.text, "Q-8 batch of {} bytes, {step}", batch.len()).expect("a text");
+        self.counts(given, frame);
+        writeln!(self.text, " place {place} answers {answers:?}").expect("a text takes more");
+        let [a, b] = [b"a", b"b"].map(|key| self.calls.look_up(frame, key).stamp);
+        writeln!(self.text, "  stamps of a {a}, of b {b}").expect("a text takes more");
+    }
+}
+
 /// The calls of edition 1, and those of edition 2.
 fn told(calls: &dyn Calls, second: &dyn Calls) -> String {
     let mut of_two = Told { calls: second, text: String::new() };
     of_two.chains();
     of_two.zeros();
+    of_two.stamps();
+    of_two.stamped_batches();
     told_of_one(calls) + &of_two.text
 }
 
@@ -420,7 +529,9 @@ fn told_of_one(calls: &dyn Calls) -> String {
 #[test]
 fn the_stored_lines_have_the_printed_figures() {
     let lines: Vec<&str> = STORED.lines().collect();
-    for printed in PRINTED.into_iter().chain(TOLD_BY_Q5).chain(TOLD_BY_Q3).chain(TOLD_BY_Q7) {
+    let of_document_02 =
+        TOLD_BY_Q5.into_iter().chain(TOLD_BY_Q3).chain(TOLD_BY_Q7).chain(TOLD_BY_Q8);
+    for printed in PRINTED.into_iter().chain(of_document_02) {
         assert!(lines.iter().any(|line| line.starts_with(printed)), "no line {printed}");
     }
     let top = lines.iter().position(|line| line.starts_with("children 49: "));

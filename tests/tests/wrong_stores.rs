@@ -6,7 +6,7 @@ use second_store::layout::Edition;
 use second_store::orders;
 use second_store::run::{all_stages, Effort};
 use second_store::wrong::{self, Altered};
-use second_store::wrong_editions;
+use second_store::{wrong_editions, wrong_stamps};
 
 const FIXED: Effort = Effort { seed: 1, rounds: 1 };
 
@@ -16,6 +16,11 @@ fn all_caught(stores: fn(Edition) -> Vec<Altered>, at_least: usize) {
 }
 
 fn caught(stores: Vec<Altered>, at_least: usize) {
+    caught_for(stores, at_least, "");
+}
+
+/// Each for what it does wrong: the difference that is told has this text.
+fn caught_for(stores: Vec<Altered>, at_least: usize, reason: &str) {
     assert!(stores.len() >= at_least, "only {} wrong stores", stores.len());
     let mut missed = Vec::new();
     for store in &stores {
@@ -24,6 +29,7 @@ fn caught(stores: Vec<Altered>, at_least: usize) {
             Err(difference) => {
                 let told = difference.to_string();
                 println!("{}: {}", store.name, told.lines().next().unwrap_or_default());
+                assert!(told.contains(reason), "{}, but not for {reason}: {told}", store.name);
             }
         }
     }
@@ -115,25 +121,66 @@ fn wrong_listings_of_edition_2_are_caught() {
     caught(wrong_editions::lists(), 10);
 }
 
+#[test]
+fn stores_with_other_stamps_are_caught() {
+    caught_for(wrong_stamps::records(), 20, "the stamp of");
+}
+
+#[test]
+fn stamps_that_are_written_where_nothing_should_be_are_caught() {
+    caught_for(wrong_stamps::left_alone(), 3, "of the frame left alone");
+}
+
+#[test]
+fn look_ups_that_tell_other_stamps_are_caught() {
+    caught_for(wrong_stamps::look_ups(), 7, "told the stamp");
+}
+
+#[test]
+fn batches_with_the_stamp_in_another_layout_are_caught() {
+    caught_for(wrong_stamps::layouts(), 3, "batch of");
+}
+
+#[test]
+fn checks_that_refuse_stamps_are_caught() {
+    caught_for(wrong_stamps::checks(), 4, "gave 2, not 0");
+}
+
+#[test]
+fn stamps_in_edition_1_are_caught() {
+    caught_for(wrong_stamps::checks_of_edition_1(), 1, "gave 0, not 2");
+    caught_for(wrong_stamps::of_edition_1(), 2, "ZeroField");
+}
+
 /// Without any prediction, by two orders of the same calls.
 #[test]
 fn stores_bound_to_an_order_are_caught() {
     for edition in Edition::ALL {
-        let stores = wrong::bound_to_an_order(edition);
+        let mut stores = wrong::bound_to_an_order(edition);
         assert!(stores.len() >= 4, "only {} wrong stores", stores.len());
+        if edition == Edition::Two {
+            stores.extend(wrong_stamps::bound_to_an_order());
+        }
         for store in &stores {
-            let caught = orders::any_order(&mut Comparer::new(store), FIXED.seed, 400).is_err();
+            let caught = orders::any_order(&mut Comparer::new(store), FIXED.seed, 0..400).is_err();
             assert!(caught, "not caught: {}", store.name);
         }
     }
 }
 
+fn passes_with_every_freedom(edition: Edition) {
+    let effort = Effort::from_environment();
+    if let Err(difference) = all_stages(&wrong::right_in_batches(edition), effort) {
+        panic!("{difference}");
+    }
+}
+
 #[test]
 fn a_store_that_uses_every_freedom_passes() {
-    let effort = Effort::from_environment();
-    for edition in Edition::ALL {
-        if let Err(difference) = all_stages(&wrong::right_in_batches(edition), effort) {
-            panic!("{difference}");
-        }
-    }
+    passes_with_every_freedom(Edition::One);
+}
+
+#[test]
+fn a_store_of_edition_2_that_uses_every_freedom_passes() {
+    passes_with_every_freedom(Edition::Two);
 }
