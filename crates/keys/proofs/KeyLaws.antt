@@ -17,7 +17,7 @@ use Rattle.model.specs.Edition.{edition1, edition2, editionOf, escaped}
 use Rattle.model.specs.Body.{Text}
 use Rattle.moves.specs.Pasted.{Pasted}
 use Rattle.keys.specs.Word.{Spelt}
-use Rattle.keys.proofs.EscapeLaws.{one-set}
+use Rattle.keys.proofs.EscapeLaws.{one-set, two-both, escaped-plain}
 use Rattle.model.proofs.StringLaws.{eqb-cases}
 use Rattle.model.proofs.Edition2.{key-passes2}
 use Rattle.model.proofs.Edition1.{key-passes, zero-free, free-zero, positive-at, at-positive, walked-at}
@@ -145,6 +145,22 @@ module _ (x y : List ℕ) (c m n : ℕ) where
   pub share-right : length y ≤ n → c + shared (drop m x) (drop n y) ≡ c
   share-right h = rw (drop-past y n h, shared-nil (drop m x)) (omega arith)
 
+-- ---- a key that is copied
+
+pasted-key : (k f g : List ℕ) → length k ≤ length g → Pasted f g 0 (length k) k → take (length k) g ≡ k
+pasted-key k f g h P = text-part g 0 k (omega arith) (λ i l. P .text (0 + i) i l refl)
+
+-- in edition 2, if it has no byte 0
+pub plain-room : (k : List ℕ) (m : ℕ) → hasZero k ≡ false → length (escaped k) ≤ m → length k + 1 < m
+plain-room k m z h = omega (arith, h, ap length (escaped-plain k z), length-append k (0 ∷ 0 ∷ []))
+
+pub spelt-plain : (k f g : List ℕ) → hasZero k ≡ false → length k + 1 < length g → Pasted f g 0 (length k) k → Spelt (escaped k) (set (set g (length k) 0) (length k + 1) 0) (length k + 2)
+spelt-plain k f g z h P =
+    rw (escaped-plain k z) (record {
+      long = sym (length-append k (0 ∷ 0 ∷ []));
+      text = two-both g (length k) 0 0 h ∙ ap (λ x. x ++ 0 ∷ 0 ∷ []) (pasted-key k f g (omega arith) P);
+    })
+
 -- ---- what the two editions make of it
 
 module _ (n : ℕ) where
@@ -179,8 +195,7 @@ module _ (n : ℕ) where
   -- the key and then one byte 0
   pub spelt-other : (k f g : List ℕ) → (n ≡ 2 → ⊥) → length k < length g → Pasted f g 0 (length k) k → Spelt (editionOf n .walked k) (set g (length k) 0) (length k + 1)
   spelt-other k f g e h P =
-      let all : take (length k) g ≡ k = text-part g 0 k (omega arith) (λ i l. P .text (0 + i) i l refl) in
       rw (of-other n e) (record {
         long = sym (walked-length k);
-        text = one-set g (length k) 0 h ∙ ap (λ x. x ++ 0 ∷ []) all;
+        text = one-set g (length k) 0 h ∙ ap (λ x. x ++ 0 ∷ []) (pasted-key k f g (omega arith) P);
       })
