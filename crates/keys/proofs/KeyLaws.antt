@@ -16,22 +16,22 @@ use Rattle.model.specs.Strings.{shared, hasZero}
 use Rattle.model.specs.Edition.{edition1, edition2, editionOf, escaped}
 use Rattle.model.specs.Body.{Text}
 use Rattle.moves.specs.Pasted.{Pasted}
-use Rattle.keys.specs.Word.{Spelt}
+use Rattle.keys.specs.Word.{Spelt, ended}
 use Rattle.keys.proofs.EscapeLaws.{one-set, two-both, escaped-plain}
 use Rattle.model.proofs.StringLaws.{eqb-cases}
-use Rattle.model.proofs.Edition2.{key-passes2}
-use Rattle.model.proofs.Edition1.{key-passes, zero-free, free-zero, positive-at, at-positive, walked-at}
+use Rattle.model.proofs.Edition2.{key-sized}
+use Rattle.model.proofs.Edition1.{zero-free, free-zero, positive-at, at-positive, walked-at}
 
 -- ---- the walked string
 
-pub walked-in : (k : List ℕ) (d : ℕ) → d < length k → getD k d 0 ≡ getD (edition1 .walked k) d 0
+pub walked-in : (k : List ℕ) (d : ℕ) → d < length k → getD k d 0 ≡ getD (ended k) d 0
 walked-in k d h = sym (walked-at k d)
 
-pub walked-out : (k : List ℕ) (d : ℕ) → length k ≤ d → 0 ≡ getD (edition1 .walked k) d 0
+pub walked-out : (k : List ℕ) (d : ℕ) → length k ≤ d → 0 ≡ getD (ended k) d 0
 walked-out k d h = sym (walked-at k d ∙ List·getD-eq-default k 0 h)
 
-pub walked-length : (k : List ℕ) → length (edition1 .walked k) ≡ length k + 1
-walked-length k = length-append k (0 ∷ [])
+pub ended-length : (k : List ℕ) → length (ended k) ≡ length k + 1
+ended-length k = length-append k (0 ∷ [])
 
 -- ---- a byte 0
 
@@ -56,7 +56,7 @@ of-other n e = rw (ne-eqb n 2 e) refl
 
 -- a key that is not refused has a byte
 pub key-some : (n : ℕ) (k : List ℕ) → editionOf n .keyFault k ≡ 0 → 1 ≤ length k
-key-some n k h = eqb-cases n 2 (λ t e. key-passes2 k (rw (of-two n e) at h) .some) (λ t e. key-passes k (rw (of-other n e) at h) .some)
+key-some n k h = key-sized n k h .some
 
 -- the refusals
 module _ (k : List ℕ) (n : ℕ) where
@@ -173,7 +173,7 @@ module _ (n : ℕ) where
   pub shared-two-far : (k l : List ℕ) (d : ℕ) → n ≡ 2 → d ≤ shared (editionOf n .walked k) (editionOf n .walked l) → d ≤ shared (escaped k) (escaped l)
   shared-two-far k l d e h = rw (of-two n e) at h
 
-  pub shared-other : (k l : List ℕ) (d r : ℕ) → (n ≡ 2 → ⊥) → r ≡ shared (drop d (edition1 .walked k)) (drop d (edition1 .walked l))
+  pub shared-other : (k l : List ℕ) (d r : ℕ) → (n ≡ 2 → ⊥) → r ≡ shared (drop d (ended k)) (drop d (ended l))
       → r ≡ shared (drop d (editionOf n .walked k)) (drop d (editionOf n .walked l))
   shared-other k l d r e q = rw (of-other n e) q
 
@@ -187,7 +187,7 @@ module _ (n : ℕ) where
   room-two k m e h = rw (of-two n e) at h
 
   pub room-other : (k : List ℕ) (m : ℕ) → (n ≡ 2 → ⊥) → length (editionOf n .walked k) ≤ m → length k < m
-  room-other k m e h = let g = rw (of-other n e) at h in omega (arith, g, walked-length k)
+  room-other k m e h = let g = rw (of-other n e) at h in omega (arith, g, ended-length k)
 
   pub spelt-two : (k g : List ℕ) (r : ℕ) → n ≡ 2 → Spelt (escaped k) g r → Spelt (editionOf n .walked k) g r
   spelt-two k g r e S = rw (of-two n e) S
@@ -196,6 +196,6 @@ module _ (n : ℕ) where
   pub spelt-other : (k f g : List ℕ) → (n ≡ 2 → ⊥) → length k < length g → Pasted f g 0 (length k) k → Spelt (editionOf n .walked k) (set g (length k) 0) (length k + 1)
   spelt-other k f g e h P =
       rw (of-other n e) (record {
-        long = sym (walked-length k);
+        long = sym (ended-length k);
         text = one-set g (length k) 0 h ∙ ap (λ x. x ++ 0 ∷ []) (pasted-key k f g (omega arith) P);
       })

@@ -7,9 +7,9 @@ ghost use Prim.Native.Nat.{_+_, _-_, _≤_, _<_};
 ghost use lib.ListN.{length, getD, take, drop};
 ghost use Rattle.pieces.specs.Decides.{Decides};
 ghost use Rattle.model.specs.Strings.{hasZero, shared};
-ghost use Rattle.model.specs.Edition.{edition1, editionOf, escaped};
+ghost use Rattle.model.specs.Edition.{editionOf, escaped};
 ghost use Rattle.model.specs.Frame.{Begins};
-ghost use Rattle.keys.specs.Word.{Spelt, weightOf, ByteFits};
+ghost use Rattle.keys.specs.Word.{Spelt, ended, weightOf, ByteFits};
 
 // the number of edition 2
 pub const SECOND: usize = 2;
@@ -280,7 +280,7 @@ fn shared_escaped(key: &[u8], other: &[u8]) -> usize
 // The same in edition 1, from depth d on.
 fn shared_plain(key: &[u8], other: &[u8], d: usize) -> usize
     requires { ⌜ length (now other) < 65536 ⌝ }
-    ensures { λ r. ⌜ r ≡ shared (drop d (edition1 .walked (now (key .entry)))) (drop d (edition1 .walked (now (other .entry)))) ⌝ }
+    ensures { λ r. ⌜ r ≡ shared (drop d (ended (now (key .entry)))) (drop d (ended (now (other .entry)))) ⌝ }
 {
     let mut i = d;
     while i <= other.len() {
