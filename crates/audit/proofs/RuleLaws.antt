@@ -11,7 +11,7 @@ use Rattle.model.specs.Frame.{rootItems, Clean, Good}
 use Rattle.model.specs.Promise.{CheckPromise}
 use Rattle.model.proofs.StringLaws.{clash, eqb-cases}
 use Rattle.model.proofs.CleanLaws.{SameKeys, stands-as}
-use Rattle.keys.proofs.KeyLaws.{of-two, of-other}
+use Rattle.model.proofs.Edition2.{of-two, of-other}
 use Rattle.audit.specs.Audit.{ruled, byRule}
 
 pub rule-of : (wiped : Bool) (E : Edition) → SameKeys E (ruled wiped E)

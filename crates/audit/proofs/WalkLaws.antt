@@ -14,18 +14,15 @@ use Rattle.layout.specs.Place.{prefixChild, prefixLength, node48Index}
 use Rattle.layout.specs.Kind.{Node48}
 use Rattle.layout.specs.Entry.{placeOf, highOf}
 use Rattle.model.specs.Strings.{pick}
-use Rattle.model.specs.Edition.{Edition, Lawful, edition1, edition2, editionOf}
+use Rattle.model.specs.Edition.{Edition, Lawful}
 use Rattle.model.specs.Tree.{extentOf}
 use Rattle.model.specs.Item.{Item, body, extent, bulk, sum}
 use Rattle.model.specs.Body.{Text, byteIn, childIn}
 use Rattle.model.specs.Frame.{LayKids, slotOf, items, itemsAll, pairs, Entry, Places, Tree, Trees}
 use Rattle.model.specs.Frame.LayKids.{nil, kid}
-use Rattle.model.proofs.StringLaws.{clash, eqb-cases}
-use Rattle.model.proofs.Edition1.{key-passes}
-use Rattle.model.proofs.Edition2.{key-passes2}
+use Rattle.model.proofs.StringLaws.{clash}
 use Rattle.model.proofs.ItemLaws.{sum-app, sum-cons}
 use Rattle.model.proofs.UniqueLaws.{leaf-unique, prefix-unique, inner-unique}
-use Rattle.keys.proofs.KeyLaws.{of-two, of-other}
 use Rattle.claims.specs.Units.{place}
 use Rattle.claims.proofs.UnitLaws.{extent-eighth}
 use Rattle.shape.specs.Shape.{PrefixHere, LeafHere, LeafTold}
@@ -92,12 +89,6 @@ pub slot-at : {Ed : Edition} {f path : List ℕ} {s kind k o d u b : ℕ} {m : L
 slot-at {Ed} {f} {path} {s} ek eo a z e A = A .of s (entry-made (sym e ∙ ek) eo) a z
 
 -- ---- a Leaf
-
--- a legal key has a byte
-pub key-some : (n : ℕ) (k : List ℕ) → editionOf n .keyFault k ≡ 0 → 1 ≤ length k
-key-some n k e = eqb-cases n 2
-    (λ t q. let z : edition2 .keyFault k ≡ 0 = rw (of-two n q) at e in key-passes2 k z .some)
-    (λ t q. let z : edition1 .keyFault k ≡ 0 = rw (of-other n q) at e in key-passes k z .some)
 
 pub leaf-whole : {Ed : Edition} {f path : List ℕ} {o d b e n : ℕ} → LeafHere Ed f path o d b e n → (e % 8 ≡ 0) × (n % 8 ≡ 0) × (e + n ≤ b)
 leaf-whole L = let z = L .long in (L .is .eights, omega arith, L .high)

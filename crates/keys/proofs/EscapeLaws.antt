@@ -4,11 +4,13 @@ use native.Mathlib.Omega.{arith}
 use native.Mathlib.Numerals.{add-one}
 use mathlib.Core.Path.{_≡_, refl, sym, _∙_, ap}
 use mathlib.Core.List.{List, [], _∷_, _++_, append-assoc}
+use mathlib.Core.Bool.{false}
 use lib.ListN.{length, take, drop, getD, set, length-set}
 use lib.Seq.{drop-cons, take-suc-set, take-set-le}
 use borrow.Author.Tests.{eq-eqb, ne-eqb}
-use Rattle.model.specs.Strings.{shared}
+use Rattle.model.specs.Strings.{shared, hasZero}
 use Rattle.model.specs.Edition.{escaped}
+use Rattle.model.proofs.StringLaws.{clash}
 use Rattle.keys.specs.Word.{Spelt, weightOf}
 
 -- ---- a byte
@@ -33,6 +35,12 @@ pub long-two : (k : List ℕ) → 2 ≤ length (escaped k)
 long-two [] = omega arith
 long-two (zero ∷ k) = let on = long-two k in omega arith
 long-two (suc b ∷ k) = let on = long-two k in omega arith
+
+-- a key without a byte 0 stands as it is, and then the end
+pub escaped-plain : (k : List ℕ) → hasZero k ≡ false → escaped k ≡ k ++ 0 ∷ 0 ∷ []
+escaped-plain [] e = refl
+escaped-plain (zero ∷ k) e = clash (cc)
+escaped-plain (suc b ∷ k) e = ap (λ (x : List ℕ). suc b ∷ x) (escaped-plain k (rw (ne-eqb (suc b) 0 (λ q. omega arith)) at e))
 
 -- ---- where it stands
 
@@ -109,7 +117,7 @@ one-set g n b h = rw (add-one n) (take-suc-set g n b h)
 two-one : (g : List ℕ) (n b c : ℕ) → n + 1 < length g → take (n + 1) (set (set g n b) (n + 1) c) ≡ take n g ++ b ∷ []
 two-one g n b c h = take-set-le (n + 1) (set g n b) (n + 1) c (omega arith) ∙ one-set g n b (omega arith)
 
-two-both : (g : List ℕ) (n b c : ℕ) → n + 1 < length g → take (n + 2) (set (set g n b) (n + 1) c) ≡ take n g ++ b ∷ c ∷ []
+pub two-both : (g : List ℕ) (n b c : ℕ) → n + 1 < length g → take (n + 2) (set (set g n b) (n + 1) c) ≡ take n g ++ b ∷ c ∷ []
 two-both g n b c h =
     let e : n + 2 ≡ n + 1 + 1 = omega arith in
     rw e (one-set (set g n b) (n + 1) c (omega (arith, length-set g n b)) ∙ ap (λ x. x ++ c ∷ []) (one-set g n b (omega arith)) ∙ append-assoc (take n g) (b ∷ []) (c ∷ []))

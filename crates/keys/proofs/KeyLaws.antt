@@ -16,22 +16,22 @@ use Rattle.model.specs.Strings.{shared, hasZero}
 use Rattle.model.specs.Edition.{edition1, edition2, editionOf, escaped}
 use Rattle.model.specs.Body.{Text}
 use Rattle.moves.specs.Pasted.{Pasted}
-use Rattle.keys.specs.Word.{Spelt}
-use Rattle.keys.proofs.EscapeLaws.{one-set}
+use Rattle.keys.specs.Word.{Spelt, ended}
+use Rattle.keys.proofs.EscapeLaws.{one-set, two-both, escaped-plain}
 use Rattle.model.proofs.StringLaws.{eqb-cases}
-use Rattle.model.proofs.Edition2.{key-passes2}
-use Rattle.model.proofs.Edition1.{key-passes, zero-free, free-zero, positive-at, at-positive, walked-at}
+use Rattle.model.proofs.Edition2.{key-sized}
+use Rattle.model.proofs.Edition1.{zero-free, free-zero, positive-at, at-positive, walked-at}
 
 -- ---- the walked string
 
-pub walked-in : (k : List ℕ) (d : ℕ) → d < length k → getD k d 0 ≡ getD (edition1 .walked k) d 0
+pub walked-in : (k : List ℕ) (d : ℕ) → d < length k → getD k d 0 ≡ getD (ended k) d 0
 walked-in k d h = sym (walked-at k d)
 
-pub walked-out : (k : List ℕ) (d : ℕ) → length k ≤ d → 0 ≡ getD (edition1 .walked k) d 0
+pub walked-out : (k : List ℕ) (d : ℕ) → length k ≤ d → 0 ≡ getD (ended k) d 0
 walked-out k d h = sym (walked-at k d ∙ List·getD-eq-default k 0 h)
 
-pub walked-length : (k : List ℕ) → length (edition1 .walked k) ≡ length k + 1
-walked-length k = length-append k (0 ∷ [])
+pub ended-length : (k : List ℕ) → length (ended k) ≡ length k + 1
+ended-length k = length-append k (0 ∷ [])
 
 -- ---- a byte 0
 
@@ -56,7 +56,7 @@ of-other n e = rw (ne-eqb n 2 e) refl
 
 -- a key that is not refused has a byte
 pub key-some : (n : ℕ) (k : List ℕ) → editionOf n .keyFault k ≡ 0 → 1 ≤ length k
-key-some n k h = eqb-cases n 2 (λ t e. key-passes2 k (rw (of-two n e) at h) .some) (λ t e. key-passes k (rw (of-other n e) at h) .some)
+key-some n k h = key-sized n k h .some
 
 -- the refusals
 module _ (k : List ℕ) (n : ℕ) where
@@ -145,6 +145,22 @@ module _ (x y : List ℕ) (c m n : ℕ) where
   pub share-right : length y ≤ n → c + shared (drop m x) (drop n y) ≡ c
   share-right h = rw (drop-past y n h, shared-nil (drop m x)) (omega arith)
 
+-- ---- a key that is copied
+
+pasted-key : (k f g : List ℕ) → length k ≤ length g → Pasted f g 0 (length k) k → take (length k) g ≡ k
+pasted-key k f g h P = text-part g 0 k (omega arith) (λ i l. P .text (0 + i) i l refl)
+
+-- in edition 2, if it has no byte 0
+pub plain-room : (k : List ℕ) (m : ℕ) → hasZero k ≡ false → length (escaped k) ≤ m → length k + 1 < m
+plain-room k m z h = omega (arith, h, ap length (escaped-plain k z), length-append k (0 ∷ 0 ∷ []))
+
+pub spelt-plain : (k f g : List ℕ) → hasZero k ≡ false → length k + 1 < length g → Pasted f g 0 (length k) k → Spelt (escaped k) (set (set g (length k) 0) (length k + 1) 0) (length k + 2)
+spelt-plain k f g z h P =
+    rw (escaped-plain k z) (record {
+      long = sym (length-append k (0 ∷ 0 ∷ []));
+      text = two-both g (length k) 0 0 h ∙ ap (λ x. x ++ 0 ∷ 0 ∷ []) (pasted-key k f g (omega arith) P);
+    })
+
 -- ---- what the two editions make of it
 
 module _ (n : ℕ) where
@@ -157,7 +173,7 @@ module _ (n : ℕ) where
   pub shared-two-far : (k l : List ℕ) (d : ℕ) → n ≡ 2 → d ≤ shared (editionOf n .walked k) (editionOf n .walked l) → d ≤ shared (escaped k) (escaped l)
   shared-two-far k l d e h = rw (of-two n e) at h
 
-  pub shared-other : (k l : List ℕ) (d r : ℕ) → (n ≡ 2 → ⊥) → r ≡ shared (drop d (edition1 .walked k)) (drop d (edition1 .walked l))
+  pub shared-other : (k l : List ℕ) (d r : ℕ) → (n ≡ 2 → ⊥) → r ≡ shared (drop d (ended k)) (drop d (ended l))
       → r ≡ shared (drop d (editionOf n .walked k)) (drop d (editionOf n .walked l))
   shared-other k l d r e q = rw (of-other n e) q
 
@@ -171,7 +187,7 @@ module _ (n : ℕ) where
   room-two k m e h = rw (of-two n e) at h
 
   pub room-other : (k : List ℕ) (m : ℕ) → (n ≡ 2 → ⊥) → length (editionOf n .walked k) ≤ m → length k < m
-  room-other k m e h = let g = rw (of-other n e) at h in omega (arith, g, walked-length k)
+  room-other k m e h = let g = rw (of-other n e) at h in omega (arith, g, ended-length k)
 
   pub spelt-two : (k g : List ℕ) (r : ℕ) → n ≡ 2 → Spelt (escaped k) g r → Spelt (editionOf n .walked k) g r
   spelt-two k g r e S = rw (of-two n e) S
@@ -179,8 +195,7 @@ module _ (n : ℕ) where
   -- the key and then one byte 0
   pub spelt-other : (k f g : List ℕ) → (n ≡ 2 → ⊥) → length k < length g → Pasted f g 0 (length k) k → Spelt (editionOf n .walked k) (set g (length k) 0) (length k + 1)
   spelt-other k f g e h P =
-      let all : take (length k) g ≡ k = text-part g 0 k (omega arith) (λ i l. P .text (0 + i) i l refl) in
       rw (of-other n e) (record {
-        long = sym (walked-length k);
-        text = one-set g (length k) 0 h ∙ ap (λ x. x ++ 0 ∷ []) all;
+        long = sym (ended-length k);
+        text = one-set g (length k) 0 h ∙ ap (λ x. x ++ 0 ∷ []) (pasted-key k f g (omega arith) P);
       })

@@ -1,5 +1,5 @@
--- A walked string written out in a lent slice, the bytes that a byte of the key becomes there in edition 2, and the string that a descent by
--- a key reads.
+-- A walked string written out in a lent slice, a key with its end as edition 1 walks it, the bytes that a byte of the key becomes in edition 2,
+-- and the string that a descent by a key reads.
 use Prim.Native.Nat.{ℕ, zero, suc, _+_, _<_}
 use mathlib.Core.Path.{_≡_}
 use mathlib.Core.List.{List, [], _∷_, _++_}
@@ -11,6 +11,10 @@ use Rattle.model.specs.Edition.{Edition}
 pub record Spelt (w g : List ℕ) (n : ℕ) : Type 0 where
   pub long : n ≡ length w
   pub text : take n g ≡ w
+
+-- a key and the byte 0 at its end: "the key and then one byte 0"
+abbrev pub ended : List ℕ → List ℕ
+ended k = k ++ 0 ∷ []
 
 -- how many bytes of the walked string a byte of the key becomes: "a byte 0 of the key becomes 0, 255"
 abbrev pub weightOf : ℕ → ℕ

@@ -7,9 +7,9 @@ ghost use Prim.Native.Nat.{_+_, _-_, _≤_, _<_};
 ghost use lib.ListN.{length, getD, take, drop};
 ghost use Rattle.pieces.specs.Decides.{Decides};
 ghost use Rattle.model.specs.Strings.{hasZero, shared};
-ghost use Rattle.model.specs.Edition.{edition1, editionOf, escaped};
+ghost use Rattle.model.specs.Edition.{editionOf, escaped};
 ghost use Rattle.model.specs.Frame.{Begins};
-ghost use Rattle.keys.specs.Word.{Spelt, weightOf, ByteFits};
+ghost use Rattle.keys.specs.Word.{Spelt, ended, weightOf, ByteFits};
 
 // the number of edition 2
 pub const SECOND: usize = 2;
@@ -103,13 +103,28 @@ fn escape(key: &[u8], word: &mut [u8]) -> usize
     n + 2
 }
 
+// The walked string of edition 2: a key without a byte 0 is copied, and any other escaped byte by byte.
+fn spell(key: &[u8], word: &mut [u8]) -> usize
+    requires { ⌜ (length (escaped (now key)) ≤ length (now word)) × (length (now word) < 65536) ⌝ }
+    ensures { λ r. ⌜ Spelt (escaped (now (key .entry))) (now (word .exit)) r ⌝ }
+{
+    if has_zero(key) {
+        return escape(key, word);
+    }
+    let n = key.len();
+    fill::paste(word, 0, key);
+    word[n] = 0;
+    word[n + 1] = 0;
+    n + END
+}
+
 // Writes the walked string of a key to the start of `word`; gives its length.
 pub fn walk(key: &[u8], word: &mut [u8], edition: usize) -> usize
     requires { ⌜ (length (editionOf edition .walked (now key)) ≤ length (now word)) × (length (now word) < 65536) ⌝ }
     ensures { λ r. ⌜ Spelt (editionOf edition .walked (now (key .entry))) (now (word .exit)) r ⌝ }
 {
     if edition == SECOND {
-        return escape(key, word);
+        return spell(key, word);
     }
     let n = key.len();
     fill::paste(word, 0, key);
@@ -265,7 +280,7 @@ fn shared_escaped(key: &[u8], other: &[u8]) -> usize
 // The same in edition 1, from depth d on.
 fn shared_plain(key: &[u8], other: &[u8], d: usize) -> usize
     requires { ⌜ length (now other) < 65536 ⌝ }
-    ensures { λ r. ⌜ r ≡ shared (drop d (edition1 .walked (now (key .entry)))) (drop d (edition1 .walked (now (other .entry)))) ⌝ }
+    ensures { λ r. ⌜ r ≡ shared (drop d (ended (now (key .entry)))) (drop d (ended (now (other .entry)))) ⌝ }
 {
     let mut i = d;
     while i <= other.len() {

@@ -10,9 +10,10 @@ use mathlib.Core.Option.{Option, none, some}
 use lib.Dec.{ltb, leb, eqb}
 use borrow.Author.Tests.{lt-ltb, le-ltb, le-leb, eq-eqb, ne-eqb}
 use Rattle.model.specs.Strings.{pick, before, All, Byte}
-use Rattle.model.specs.Edition.{edition1, edition2, editionOf}
+use Rattle.model.specs.Edition.{edition2, editionOf}
 use Rattle.model.proofs.StringLaws.{bool-cases, eqb-cases, ltb-cases, leb-cases, clash}
 use Rattle.model.proofs.Edition1.{Positive, key-passes}
+use Rattle.model.proofs.Edition2.{of-two, of-other}
 use Rattle.listing.specs.Listing.{begins, upto, entryFor}
 use Rattle.listing.specs.Seek.{weigh, reach, Guides}
 use Rattle.listing.specs.Bound.{tailUp, tailFor, boundOf}
@@ -152,11 +153,12 @@ plain-below (x ∷ g) t (y ∷ k) a w = bool-cases (ltb x y)
 decided : (w : List ℕ) (t : ℕ) (path r x : List ℕ) (n : ℕ) → (n ≡ 1 → ⊥) → x ≡ path ++ r → weigh w t path ≡ n → weigh w t x ≡ n
 decided w t path r x n o e u = rw (e, weigh-append w t path r, u, ne-eqb n 1 o)
 
-guides1 : (g : List ℕ) (t : ℕ) → Guides edition1 g t g
-guides1 g t = record {
-  above = λ path k f u. plain-above g t k (key-passes k (f .2) .chars) (decided g t path (f .0) (k ++ 0 ∷ []) 2 (λ z. omega arith) (f .1) u);
-  below = λ path k f u. plain-below g t k (key-passes k (f .2) .chars) (decided g t path (f .0) (k ++ 0 ∷ []) 0 (λ z. omega arith) (f .1) u);
-}
+guides-other : (n : ℕ) (g : List ℕ) (t : ℕ) → (n ≡ 2 → ⊥) → Guides (editionOf n) g t (boundOf (editionOf n) g t)
+guides-other n g t e =
+    rw (of-other n e) (record {
+      above = λ path k f u. plain-above g t k (key-passes k (f .2) .chars) (decided g t path (f .0) (k ++ 0 ∷ []) 2 (λ z. omega arith) (f .1) u);
+      below = λ path k f u. plain-below g t k (key-passes k (f .2) .chars) (decided g t path (f .0) (k ++ 0 ∷ []) 0 (λ z. omega arith) (f .1) u);
+    })
 
 guides2 : (g : List ℕ) (t : ℕ) → Guides edition2 g t (boundOf edition2 g t)
 guides2 g t = record {
@@ -165,8 +167,7 @@ guides2 g t = record {
 }
 
 pub guidesOf : (n : ℕ) (g : List ℕ) (t : ℕ) → Guides (editionOf n) g t (boundOf (editionOf n) g t)
-unfolding editionOf
-guidesOf n g t = bool-cases (eqb n 2) (λ e. rw e (guides2 g t)) (λ e. rw e (guides1 g t))
+guidesOf n g t = eqb-cases n 2 (λ u e. rw (of-two n e) (guides2 g t)) (λ u e. guides-other n g t e)
 
 -- ---- an entry again
 

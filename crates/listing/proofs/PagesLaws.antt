@@ -11,15 +11,15 @@ use lib.Seq.{take-all, take-at, drop-at}
 use lib.Dec.{ltb, leb, eqb}
 use Rattle.layout.specs.Number.{le}
 use Rattle.model.specs.Strings.{pick, same, before, All}
-use Rattle.model.specs.Edition.{Edition, edition1, edition2, editionOf, FitsFields, Lawful}
+use Rattle.model.specs.Edition.{Edition, editionOf, FitsFields, Lawful}
 use Rattle.model.specs.Tree.{Art}
 use Rattle.model.specs.Records.{Record, recordsOf, lookup, absent}
 use Rattle.model.specs.State.{State}
 use Rattle.model.specs.Image.{digits}
 use Rattle.model.specs.Frame.{Stands}
 use Rattle.model.proofs.StringLaws.{bool-cases, eqb-cases, ltb-cases, clash, same-refl, same-true}
-use Rattle.model.proofs.Edition1.{Positive, key-passes, key-taken}
-use Rattle.model.proofs.Edition2.{key-passes2, key-taken2}
+use Rattle.model.proofs.Edition1.{Positive}
+use Rattle.model.proofs.Edition2.{key-sized, key-part}
 use Rattle.model.proofs.PackedLaws.{LegalRecords, legal-records}
 use Rattle.model.proofs.GoodState.{TreeOk}
 use Rattle.model.proofs.StateLaws.{tree-ascending}
@@ -61,22 +61,9 @@ entry-all P d [] k h = upto-all P d k h
 entry-all P d (a ∷ p) [] h = tt
 entry-all P d (a ∷ p) (x ∷ k) h = (h .0, entry-all P d p k (h .1))
 
-legal1 : (d : Option ℕ) (p k : List ℕ) → edition1 .keyFault k ≡ 0 → edition1 .keyFault (entryFor d p k) ≡ 0
-legal1 d p k h =
-    let K = key-passes k h in
-    let a = K .short in let b = entry-short d p k in
-    key-taken (entryFor d p k) (record { some = entry-some d p k (K .some); short = omega arith; chars = entry-all Positive d p k (K .chars) })
-
-legal2 : (d : Option ℕ) (p k : List ℕ) → edition2 .keyFault k ≡ 0 → edition2 .keyFault (entryFor d p k) ≡ 0
-legal2 d p k h =
-    let K = key-passes2 k h in
-    let a = K .short in let b = entry-short d p k in
-    key-taken2 (entryFor d p k) (record { some = entry-some d p k (K .some); short = omega arith })
-
 -- so the last entry of a page may be the start key of the next
 pub entry-legal : (ed : ℕ) (d : Option ℕ) (p k : List ℕ) → editionOf ed .keyFault k ≡ 0 → editionOf ed .keyFault (entryFor d p k) ≡ 0
-unfolding editionOf
-entry-legal ed = bool-cases (eqb ed 2) (λ t. rw t legal2) (λ t. rw t legal1)
+entry-legal ed d p k h = key-part ed k (entryFor d p k) h (entry-some d p k (key-sized ed k h .some)) (entry-short d p k) (entry-all Positive d p k)
 
 -- ---- every matching key's entry is among the names, and no other
 

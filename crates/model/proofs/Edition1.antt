@@ -5,8 +5,9 @@ use native.Mathlib.Omega.{arith}
 use mathlib.Core.Path.{_≡_, refl, sym, _∙_}
 use mathlib.Core.List.{List, [], _∷_, _++_, head-eq-of-cons-eq, tail-eq-of-cons-eq}
 use mathlib.Core.Bool.{true, false}
+use mathlib.Core.Logic.{_⊎_, inl, inr}
 use lib.ListN.{length, getD, length-append}
-use lib.Dec.{lit<, lit≤}
+use lib.Dec.{lit<, lit≤, ltb, eqb}
 use borrow.Author.Tests.{lt-ltb, le-ltb, eq-eqb, ne-eqb}
 use Rattle.model.specs.Strings.{before, hasZero, All, Byte}
 use Rattle.model.specs.Edition.{edition1, Lawful}
@@ -60,6 +61,12 @@ key-passes k e = eqb-cases (length k) 0
 pub key-taken : (k : List ℕ) → Key1 k → edition1 .keyFault k ≡ 0
 key-taken k h = let o = h .some in let q = h .short in
     rw (ne-eqb (length k) 0 (omega arith), le-ltb 112 (length k) q, free-zero k (h .chars))
+
+-- a key is taken, or refused with 3 or 4
+pub key-number1 : (k : List ℕ) → (edition1 .keyFault k ≡ 0) ⊎ ((edition1 .keyFault k ≡ 3) ⊎ (edition1 .keyFault k ≡ 4))
+key-number1 k = bool-cases (eqb (length k) 0)
+    (λ t. inr (inl (rw t)))
+    (λ t. bool-cases (ltb 112 (length k)) (λ u. inr (inl (rw (t, u)))) (λ u. bool-cases (hasZero k) (λ w. inr (inr (rw (t, u, w)))) (λ w. inl (rw (t, u, w)))))
 
 -- ---- edition 1 is lawful
 

@@ -1,17 +1,18 @@
 -- Edition 2 is lawful: keys of 1 to 255 bytes of any kind; in the walked string a byte 0 of the key becomes 0, 255, and the end is 0, 0.
--- Assumes nothing.
+-- What holds of the edition of every number. Assumes nothing.
 use Prim.Native.Nat.{ℕ, zero, suc, _+_, _*_, _<_, _≤_}
 use native.Mathlib.Omega.{arith}
 use mathlib.Core.Path.{_≡_, refl, sym, _∙_}
 use mathlib.Core.List.{List, [], _∷_, _++_, head-eq-of-cons-eq, tail-eq-of-cons-eq}
 use mathlib.Core.Bool.{Bool, true, false}
+use mathlib.Core.Logic.{_⊎_, inl, inr}
 use lib.ListN.{length}
-use lib.Dec.{lit<, lit≤, eqb}
+use lib.Dec.{lit<, lit≤, ltb, eqb}
 use borrow.Author.Tests.{lt-ltb, le-ltb, eq-eqb, ne-eqb}
 use Rattle.model.specs.Strings.{pick, before, All, Byte}
 use Rattle.model.specs.Edition.{Edition, escaped, edition1, edition2, editionOf, Lawful}
-use Rattle.model.proofs.Edition1.{lawful1}
-use Rattle.model.proofs.StringLaws.{eqb-cases, ltb-cases, clash, nil-split}
+use Rattle.model.proofs.Edition1.{Positive, key-passes, key-taken, key-number1, lawful1}
+use Rattle.model.proofs.StringLaws.{bool-cases, eqb-cases, ltb-cases, clash, nil-split}
 
 -- ---- the keys that edition 2 takes
 
@@ -29,6 +30,9 @@ key-passes2 k e = eqb-cases (length k) 0
 pub key-taken2 : (k : List ℕ) → Key2 k → edition2 .keyFault k ≡ 0
 key-taken2 k h = let o = h .some in let q = h .short in
     rw (ne-eqb (length k) 0 (omega arith), le-ltb 255 (length k) q)
+
+pub key-number2 : (k : List ℕ) → (edition2 .keyFault k ≡ 0) ⊎ ((edition2 .keyFault k ≡ 3) ⊎ (edition2 .keyFault k ≡ 4))
+key-number2 k = bool-cases (eqb (length k) 0) (λ t. inr (inl (rw t))) (λ t. bool-cases (ltb 255 (length k)) (λ u. inr (inl (rw (t, u)))) (λ u. inl (rw (t, u))))
 
 -- ---- its walked strings
 
@@ -110,3 +114,29 @@ edition-one = refl
 pub edition-two : editionOf 2 ≡ edition2
 unfolding editionOf
 edition-two = refl
+
+pub of-two : (n : ℕ) → n ≡ 2 → editionOf n ≡ edition2
+unfolding editionOf
+of-two n e = rw (eq-eqb n 2 e) refl
+
+pub of-other : (n : ℕ) → (n ≡ 2 → ⊥) → editionOf n ≡ edition1
+unfolding editionOf
+of-other n e = rw (ne-eqb n 2 e) refl
+
+-- ---- the keys of every edition
+
+-- they are taken, or refused with 3 or 4
+pub key-number : (n : ℕ) (k : List ℕ) → (editionOf n .keyFault k ≡ 0) ⊎ ((editionOf n .keyFault k ≡ 3) ⊎ (editionOf n .keyFault k ≡ 4))
+key-number n k = eqb-cases n 2 (λ t q. rw (of-two n q) (key-number2 k)) (λ t q. rw (of-other n q) (key-number1 k))
+
+-- a legal one has 1 to 255 bytes
+pub key-sized : (n : ℕ) (k : List ℕ) → editionOf n .keyFault k ≡ 0 → Key2 k
+key-sized n k e = eqb-cases n 2
+    (λ t q. key-passes2 k (rw (of-two n q) at e))
+    (λ t q. let K = key-passes k (rw (of-other n q) at e) in let h = K .short in record { some = K .some; short = omega arith })
+
+-- what has bytes of a legal one alone, at least one and no more of them, is legal
+pub key-part : (n : ℕ) (k l : List ℕ) → editionOf n .keyFault k ≡ 0 → 1 ≤ length l → length l ≤ length k → (All Positive k → All Positive l) → editionOf n .keyFault l ≡ 0
+key-part n k l e a b c = eqb-cases n 2
+    (λ t q. let K = key-passes2 k (rw (of-two n q) at e) in let h = K .short in rw (of-two n q) (key-taken2 l (record { some = a; short = omega arith })))
+    (λ t q. let K = key-passes k (rw (of-other n q) at e) in let h = K .short in rw (of-other n q) (key-taken l (record { some = a; short = omega arith; chars = c (K .chars) })))

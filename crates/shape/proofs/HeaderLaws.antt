@@ -13,7 +13,7 @@ use Rattle.pieces.specs.Decides.{Decides}
 use Rattle.pieces.specs.Range.{Blank}
 use Rattle.shape.specs.Shape.{LengthFits, NumbersFit, HeaderTold}
 use Rattle.pieces.proofs.DecideLaws.{clash}
-use Rattle.keys.proofs.KeyLaws.{of-two, of-other}
+use Rattle.model.proofs.Edition2.{of-two, of-other}
 
 -- the fields read
 pub record HeaderRead (f : List ℕ) (n d b u : ℕ) : Type 0 where

@@ -10,17 +10,17 @@ use lib.Seq.{getD-take, getD-drop, length-take-le}
 use Rattle.layout.specs.Number.{byteAt, le, Bytes}
 use Rattle.layout.specs.Place.{leafExtent, leafKey, leafValue, leafStamp}
 use Rattle.layout.proofs.NumberLaws.{lt-or-le, le-lt}
-use Rattle.model.specs.Edition.{Edition, edition1, edition2, editionOf, Value, textOf}
+use Rattle.model.specs.Edition.{Edition, edition2, editionOf, Value, textOf}
 use Rattle.model.specs.Tree.{up8}
 use Rattle.model.specs.Body.{LeafAt}
 use Rattle.model.specs.Frame.{Begins}
-use Rattle.model.proofs.Edition1.{positive-at, at-positive, Key1, key-passes, key-taken, walked-at}
-use Rattle.model.proofs.Edition2.{lawfulOf, edition-two}
+use Rattle.model.proofs.Edition1.{zero-free, free-zero, positive-at, at-positive, key-passes, key-taken, walked-at}
+use Rattle.model.proofs.Edition2.{edition-two, of-two, of-other}
 use Rattle.pieces.specs.Decides.{Decides}
 use Rattle.pieces.specs.Range.{Clean, Alike}
-use Rattle.keys.specs.Word.{Spelt}
-use Rattle.keys.proofs.KeyLaws.{text-part, of-two, of-other}
-use Rattle.shape.specs.Shape.{ExtentFits, Ends, Under, LeafHere, LeafTold}
+use Rattle.keys.specs.Word.{ended}
+use Rattle.keys.proofs.KeyLaws.{text-part}
+use Rattle.shape.specs.Shape.{ExtentFits, Ends, Under, PlainUnder, LeafHere, LeafTold}
 use Rattle.pieces.proofs.DecideLaws.{clash, handed}
 use Rattle.shape.proofs.BytesLaws as here
 use Rattle.shape.proofs.BytesLaws.{bytesFrom, bytes-long, bytes-append, text-left, BeginsAt, begins-at, at-begins}
@@ -58,47 +58,50 @@ module _ (f : List ℕ) (e k : ℕ) (path : List ℕ) (depth : ℕ) where
     key-byte : (i : ℕ) → i < k → byteAt f (e + i) ≡ getD (take k (drop e f)) i 0
     key-byte i l = rw (getD-take k (drop e f) i 0 l, getD-drop)
 
-    pub plain-of : Under edition1 (take depth path) (take k (drop e f)) → PlainHere f e k path depth
+    pub plain-of : PlainUnder (take depth path) (take k (drop e f)) → PlainHere f e k path depth
     plain-of U =
         let key = take k (drop e f) in
         let m = key-long in
-        let legal = key-passes key (U .legal) in
+        let chars = zero-free key (U .clean) in
         let long = length-take-le depth path deep in
-        let B = begins-at (edition1 .walked key) (take depth path) (U .begins) in
+        let B = begins-at (ended key) (take depth path) (U .begins) in
         let W : (i : ℕ) → i < depth → getD key i 0 ≡ getD path i 0
         = λ i l. sym (walked-at key i) ∙ B .same i (omega arith) ∙ getD-take depth path i 0 l in
         record {
-          some = omega (arith, legal .some);
-          most = omega (arith, legal .short);
+          some = omega (arith, U .some);
+          most = omega (arith, U .most);
           short = omega (arith, B .short, length-append key (0 ∷ []));
           clean = λ a x y z.
               let i : e + (a - e) ≡ a = omega arith in
-              positive-at key (legal .chars) (a - e) (omega arith) (sym (key-byte (a - e) (omega arith)) ∙ rw i z);
+              positive-at key chars (a - e) (omega arith) (sym (key-byte (a - e) (omega arith)) ∙ rw i z);
           same = λ i l h. key-byte i h ∙ W i l;
           end = λ l. sym (W k l) ∙ List·getD-eq-default key 0 (omega arith);
         }
 
-    plain-is : PlainHere f e k path depth → Under edition1 (take depth path) (take k (drop e f))
+    plain-is : PlainHere f e k path depth → PlainUnder (take depth path) (take k (drop e f))
     plain-is K =
         let key = take k (drop e f) in
         let m = key-long in
         let some = K .some in
         let most = K .most in
         let long = length-take-le depth path deep in
-        let K' : Key1 key
-        = record { some = omega arith; short = omega arith; chars = at-positive key (λ i l z. K .clean (e + i) (omega arith) (omega arith) (key-byte i (omega arith) ∙ z)) } in
         let W : (i : ℕ) → i < depth → getD key i 0 ≡ getD path i 0
         = λ i l. ⊎-elim (λ h. sym (key-byte i h) ∙ K .same i l h)
         (λ h. List·getD-eq-default key 0 (omega arith) ∙ (let short = K .short in let j : i ≡ k = omega arith in rw j (sym (K .end (omega arith))))) (lt-or-le i k) in
-        let B : BeginsAt (edition1 .walked key) (take depth path)
+        let B : BeginsAt (ended key) (take depth path)
         = record {
           short = omega (arith, K .short, length-append key (0 ∷ []));
           same = λ i l. walked-at key i ∙ W i (omega arith) ∙ sym (getD-take depth path i 0 (omega arith));
         } in
-        record { legal = key-taken key K'; begins = at-begins (edition1 .walked key) (take depth path) B }
+        record {
+          some = omega arith;
+          most = omega arith;
+          clean = free-zero key (at-positive key (λ i l z. K .clean (e + i) (omega arith) (omega arith) (key-byte i (omega arith) ∙ z)));
+          begins = at-begins (ended key) (take depth path) B;
+        }
 
     -- where the rest has passed, the test of the key's bytes decides
-    pub plain-by : (n : ℕ) → 1 ≤ k → k ≤ 112 → ((i : ℕ) → i < depth → i < k → i < n) → Ends path k depth → Alike f e path 0 n → {r : Bool} → Decides (Clean f e (e + k)) r → Decides (Under edition1 (take depth path) (take k (drop e f))) r
+    pub plain-by : (n : ℕ) → 1 ≤ k → k ≤ 112 → ((i : ℕ) → i < depth → i < k → i < n) → Ends path k depth → Alike f e path 0 n → {r : Bool} → Decides (Clean f e (e + k)) r → Decides (PlainUnder (take depth path) (take k (drop e f))) r
     plain-by n a z h E F D = handed D (λ C. plain-is (plain-here n a z h E F C)) (λ U. plain-of U .clean)
 
 -- ---- a legal key of edition 2
@@ -122,8 +125,11 @@ under-part f e k D = let z : e + k - e ≡ k = omega arith in rw z at D
 pub under-two : (n : ℕ) {path key : List ℕ} {r : Bool} → n ≡ 2 → Decides (Under edition2 path key) r → Decides (Under (editionOf n) path key) r
 under-two n h D = rw (of-two n h) D
 
-pub under-other : (n : ℕ) {path key : List ℕ} {r : Bool} → (n ≡ 2 → ⊥) → Decides (Under edition1 path key) r → Decides (Under (editionOf n) path key) r
-under-other n h D = rw (of-other n h) D
+pub under-other : (n : ℕ) {path key : List ℕ} {r : Bool} → (n ≡ 2 → ⊥) → Decides (PlainUnder path key) r → Decides (Under (editionOf n) path key) r
+under-other n {path} {key} h D =
+    rw (of-other n h) (handed D
+    (λ P. record { legal = key-taken key (record { some = P .some; short = P .most; chars = zero-free key (P .clean) }); begins = P .begins })
+    (λ U. let K = key-passes key (U .legal) in record { some = K .some; most = K .short; clean = free-zero key (K .chars); begins = U .begins }))
 
 -- ---- the stamp, by the edition
 

@@ -6,10 +6,12 @@ use mathlib.Core.Bool.{Bool, true, false}
 use lib.ListN.{length, getD}
 use Rattle.layout.specs.Number.{le}
 use Rattle.layout.specs.Place.{atF, atN, atB, atU, atR, atX, atRoot, dataStart}
+use Rattle.model.specs.Strings.{hasZero}
 use Rattle.model.specs.Edition.{Edition, Value}
 use Rattle.model.specs.Tree.{extentOf}
 use Rattle.model.specs.Body.{PrefixAt}
 use Rattle.model.specs.Frame.{Numbers, FrameLength, SlotCapacity, Header, Begins, LeafOf}
+use Rattle.keys.specs.Word.{ended}
 
 -- ---- the header
 
@@ -68,6 +70,13 @@ pub record Ends (path : List ℕ) (k depth : ℕ) : Type 0 where
 pub record Under (E : Edition) (path key : List ℕ) : Type 0 where
   pub legal : E .keyFault key ≡ 0
   pub begins : Begins (E .walked key) path
+
+-- the same by edition 1: 1 to 112 bytes, none of them 0, which with the byte 0 at their end begin with the path
+pub record PlainUnder (path key : List ℕ) : Type 0 where
+  pub some : 1 ≤ length key
+  pub most : length key ≤ 112
+  pub clean : hasZero key ≡ false
+  pub begins : Begins (ended key) path
 
 -- a Leaf to which the path leads, with an extent of the size at e, between d and b
 pub record LeafHere (E : Edition) (f path : List ℕ) (o d b e size : ℕ) : Type 0 where

@@ -6,8 +6,8 @@ ghost use lib.ListN.{length, take, drop};
 ghost use Rattle.layout.specs.Number.{le};
 ghost use Rattle.layout.specs.Place.{leafStamp};
 ghost use Rattle.pieces.specs.Decides.{Decides};
-ghost use Rattle.model.specs.Edition.{edition1, edition2, editionOf};
-ghost use Rattle.shape.specs.Shape.{ExtentFits, Ends, Under, LeafTold};
+ghost use Rattle.model.specs.Edition.{edition2, editionOf};
+ghost use Rattle.shape.specs.Shape.{ExtentFits, Ends, Under, PlainUnder, LeafTold};
 
 // the most bytes that a key of edition 1 has
 const KEY_MOST: usize = 112;
@@ -56,7 +56,7 @@ fn lesser(a: usize, b: usize) -> usize
 // The k bytes at e are a legal key of edition 1, and its walked string, a byte 0 at its end, begins with the path.
 fn plain_good(f: &[u8], e: usize, k: usize, path: &[u8], depth: usize) -> bool
     requires { ⌜ (e + k ≤ length (now f)) × (depth ≤ length (now path)) ⌝ }
-    ensures { λ r. ⌜ Decides (Under edition1 (take depth (now (path .entry))) (take k (drop e (now (f .entry))))) r ⌝ }
+    ensures { λ r. ⌜ Decides (PlainUnder (take depth (now (path .entry))) (take k (drop e (now (f .entry))))) r ⌝ }
 {
     if k < 1 {
         return false;

@@ -5,14 +5,14 @@ use borrow.Author.Needs.{needs}
 use Rattle.keys.proofs.walk.Statement.{statement}
 use Rattle.keys.proofs.walk.Tie as tie
 
-escape-requires : tie.Need-escape-requires
-escape-requires c κs = (room-two _ _ _ (c .before .if1 .taken) (c .before .before .before .before .pre .0), c .before .before .before .before .pre .1)
+spell-requires : tie.Need-spell-requires
+spell-requires c κs = (room-two _ _ _ (c .before .if1 .taken) (c .before .before .before .before .pre .0), c .before .before .before .before .pre .1)
 
 same-length : tie.Need-same-length
 same-length c = search needs
 
 returns : tie.Need-returns
-returns c = spelt-two _ _ _ _ (c .before .before .before .before .if1 .taken) (c .before .before .escape .ensures)
+returns c = spelt-two _ _ _ _ (c .before .before .before .before .if1 .taken) (c .before .before .spell .ensures)
 
 paste-requires : tie.Need-paste-requires
 paste-requires c κs = let h = room-other _ _ _ (c .before .if1 .left) (c .before .before .before .before .pre .0) in omega arith
@@ -33,7 +33,7 @@ pub walk-spec : {M : Type 1} → statement M
 walk-spec =
     tie.close
     (tie.spec
-    escape-requires
+    spell-requires
     same-length
     returns
     paste-requires

@@ -3,7 +3,8 @@ use native.Mathlib.Omega.{arith}
 use Prim.Native.Nat.{_+_, _≤_}
 use borrow.Author.Needs.{needs}
 use borrow.Author.Tests.{not-true, not-false}
-use Rattle.audit.proofs.WalkLaws.{key-some, leaf-body, leaf-whole, leaf-bad, leaf-on}
+use Rattle.keys.proofs.KeyLaws.{key-some}
+use Rattle.audit.proofs.WalkLaws.{leaf-body, leaf-whole, leaf-bad, leaf-on}
 use Rattle.audit.proofs.walk.leaf.Statement.{statement}
 use Rattle.audit.proofs.walk.leaf.Tie as tie
 
