@@ -58,3 +58,14 @@ pasted-piece {f} {g} {h} {p} {o} {m} {i} {n} {k} A B l u e =
         | no q ↦ B .text a j (omega arith) (omega arith) ea
       ];
     }
+
+-- the last piece first, and the others over it
+pub pasted-over : {f g h p : List ℕ} {o i n m k : ℕ} → Piece f g o i n p → Pasted g h o m p → i ≤ m → m ≤ k → i + n ≡ k → Pasted f h o k p
+pasted-over {f} {g} {h} {p} {o} {i} {n} {m} {k} B A l u e =
+    record {
+      only = only-then o (o + k) (B .only) (A .only) (omega arith) (omega arith) (omega arith) (omega arith);
+      text = λ a j y ea. elim (decLt j m) [
+        | yes q ↦ A .text a j q ea
+        | no q ↦ A .only .above a (omega arith) ∙ B .text a j (omega arith) (omega arith) ea
+      ];
+    }

@@ -47,7 +47,8 @@ fn paste_short(f: &mut [u8], o: usize, p: &[u8])
     piece(f, o, p, n - QUARTER, QUARTER);
 }
 
-// The bytes p at o. Pieces of one length, of which the last ends with p and may go back over the one before.
+// The bytes p at o. Pieces of one length, of which the last ends with p and may lie partly under the one before. It is written first: what is read
+// soon is the start, and that is then as it was written last.
 pub fn paste(f: &mut [u8], o: usize, p: &[u8])
     requires { ⌜ o + length (now p) ≤ length (now f) ⌝ }
     ensures { λ _. ⌜ Pasted (now (f .entry)) (now (f .exit)) o (length (now (p .entry))) (now (p .entry)) ⌝ }
@@ -58,14 +59,14 @@ pub fn paste(f: &mut [u8], o: usize, p: &[u8])
         return;
     }
     if n < PIECE {
-        piece(f, o, p, 0, HALF);
         piece(f, o, p, n - HALF, HALF);
+        piece(f, o, p, 0, HALF);
         return;
     }
+    piece(f, o, p, n - PIECE, PIECE);
     let mut i = 0;
     while i + PIECE < n {
         piece(f, o, p, i, PIECE);
         i += PIECE;
     }
-    piece(f, o, p, n - PIECE, PIECE);
 }

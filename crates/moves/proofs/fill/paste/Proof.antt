@@ -1,9 +1,10 @@
--- `paste` writes the bytes of p and nothing else: its pieces cover p. The invariant: the first i are written. Assumes nothing.
+-- `paste` writes the bytes of p and nothing else: its pieces cover p. The last piece is written first; the invariant: the first i are written over it.
+-- Assumes nothing.
 use Prim.Native.Nat.{_-_, _≤_}
 use native.Mathlib.Omega.{arith}
 use borrow.Author.Needs.{needs}
 use Rattle.moves.specs.Pasted.{Pasted}
-use Rattle.moves.proofs.PasteLaws.{pasted-none, pasted-piece}
+use Rattle.moves.proofs.PasteLaws.{pasted-none, pasted-piece, pasted-over}
 use Rattle.moves.proofs.fill.paste.Statement.{statement}
 use Rattle.moves.proofs.fill.paste.Tie as tie
 
@@ -33,8 +34,11 @@ same-length-2 c = search needs
 
 returns-2 : tie.Need-returns-2 Inv-loop μ-loop
 returns-2 c =
-    let first = pasted-piece {k = 8} (pasted-none _ _ _) (c .before .before .before .before .before .before .piece .ensures) (omega arith) (omega arith) (omega arith) in
-    pasted-piece first (c .before .before .piece2 .ensures) (omega arith) (omega arith) (omega arith)
+    let first = pasted-piece {k = 8} (pasted-none _ _ _) (c .before .before .piece2 .ensures) (omega arith) (omega arith) (omega arith) in
+    pasted-over (c .before .before .before .before .before .before .piece .ensures) first (omega arith) (omega arith) (omega arith)
+
+piece-requires-3 : tie.Need-piece-requires-3 Inv-loop μ-loop
+piece-requires-3 c κs = search needs
 
 loop-holds : tie.Need-loop-holds Inv-loop μ-loop
 loop-holds c = (omega arith, pasted-none _ _ _)
@@ -42,8 +46,8 @@ loop-holds c = (omega arith, pasted-none _ _ _)
 add-loop : tie.Need-add-loop Inv-loop μ-loop
 add-loop c = search needs
 
-piece-requires-3 : tie.Need-piece-requires-3 Inv-loop μ-loop
-piece-requires-3 c κs = search needs
+piece-requires-4 : tie.Need-piece-requires-4 Inv-loop μ-loop
+piece-requires-4 c κs = search needs
 
 add-i : tie.Need-add-i Inv-loop μ-loop
 add-i c = search needs
@@ -54,18 +58,15 @@ loop-less c = search needs
 loop-again : tie.Need-loop-again Inv-loop μ-loop
 loop-again c =
     let l = c .before .before .before .before .before in
-    (omega arith, pasted-piece (l .loop .inv .1) (c .before .before .piece3 .ensures) (omega arith) (omega arith) (omega arith))
-
-piece-requires-4 : tie.Need-piece-requires-4 Inv-loop μ-loop
-piece-requires-4 c κs = search needs
+    (omega arith, pasted-piece (l .loop .inv .1) (c .before .before .piece4 .ensures) (omega arith) (omega arith) (omega arith))
 
 same-length-3 : tie.Need-same-length-3 Inv-loop μ-loop
 same-length-3 c = search needs
 
 returns-3 : tie.Need-returns-3 Inv-loop μ-loop
 returns-3 c =
-    let l = c .before .before .before .before .before in
-    pasted-piece (l .loop .inv .1) (c .before .before .piece4 .ensures) (omega arith) (omega arith) (omega arith)
+    let l = c .before in
+    pasted-over (c .before .before .before .before .piece3 .ensures) (l .loop .inv .1) (omega arith) (l .loop .inv .0) (omega arith)
 
 pub paste-spec : {M : Type 1} → statement M
 paste-spec =
@@ -80,12 +81,12 @@ paste-spec =
     piece-requires-2
     same-length-2
     returns-2
+    piece-requires-3
     loop-holds
     add-loop
-    piece-requires-3
+    piece-requires-4
     add-i
     loop-less
     loop-again
-    piece-requires-4
     same-length-3
     returns-3)
