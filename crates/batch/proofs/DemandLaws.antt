@@ -8,8 +8,7 @@ use mathlib.Core.Option.{Option, none, some}
 use mathlib.Core.Logic.{_⊎_, inl, inr, ⊎-elim}
 use lib.ListN.{length}
 use lib.Dec.{ltb, eqb}
-use Rattle.model.specs.Strings.{hasZero}
-use Rattle.model.specs.Edition.{Edition, edition1, edition2, editionOf, Value, textOf, valueFault}
+use Rattle.model.specs.Edition.{Edition, editionOf, Value, textOf, valueFault}
 use Rattle.model.specs.Tree.{Art, Change, Left, findTree}
 use Rattle.model.specs.Records.{absent}
 use Rattle.model.specs.State.{State, Done, unless, room, findIn, putChange, callPut, Write, new, replacing, either, callWrite, eraseChange, eraseDone, eraseFound, eraseIn, callErase}
@@ -17,6 +16,7 @@ use Rattle.model.specs.Frame.{Good}
 use Rattle.model.specs.Order.{isRefusal}
 use Rattle.model.specs.Call.{Call, put, replace, erase, onCall}
 use Rattle.model.proofs.StringLaws.{bool-cases, eqb-cases, clash}
+use Rattle.model.proofs.Edition2.{key-number}
 use Rattle.model.proofs.WorkedLaws.{called-stands}
 use Rattle.sequence.specs.Sequence.{Made}
 use Rattle.demands.specs.Words.{Refusal, OneOf}
@@ -30,13 +30,8 @@ use Rattle.batch.specs.Demand.{secondLength, notLaid, BatchDemand1}
 abbrev Answer : ℕ → Type 0
 Answer n = OneOf n (0 ∷ 3 ∷ 4 ∷ 5 ∷ 6 ∷ 8 ∷ 9 ∷ 11 ∷ [])
 
-key-range1 : (k : List ℕ) → OneOf (edition1 .keyFault k) (0 ∷ 3 ∷ 4 ∷ 5 ∷ [])
-key-range1 k = bool-cases (eqb (length k) 0)
-    (λ t. inr (inl (rw t)))
-    (λ t. bool-cases (ltb 112 (length k)) (λ u. inr (inl (rw (t, u)))) (λ u. bool-cases (hasZero k) (λ w. inr (inr (inl (rw (t, u, w))))) (λ w. inl (rw (t, u, w)))))
-
-key-range2 : (k : List ℕ) → OneOf (edition2 .keyFault k) (0 ∷ 3 ∷ 4 ∷ 5 ∷ [])
-key-range2 k = bool-cases (eqb (length k) 0) (λ t. inr (inl (rw t))) (λ t. bool-cases (ltb 255 (length k)) (λ u. inr (inl (rw (t, u)))) (λ u. inl (rw (t, u))))
+key-ranges : (n : ℕ) (k : List ℕ) → OneOf (editionOf n .keyFault k) (0 ∷ 3 ∷ 4 ∷ 5 ∷ [])
+key-ranges n k = ⊎-elim (λ e. inl e) (λ s. ⊎-elim (λ e. inr (inl e)) (λ e. inr (inr (inl e))) s) (key-number n k)
 
 value-range : (v : Value) → OneOf (valueFault v) (0 ∷ 3 ∷ 4 ∷ 5 ∷ [])
 value-range v = bool-cases (ltb 65535 (length (textOf v))) (λ t. inr (inr (inr (inl (rw t))))) (λ t. inl (rw t))
@@ -154,7 +149,7 @@ module _ (E : Edition) (key-range : (k : List ℕ) → OneOf (E .keyFault k) (0 
       (λ v l. laid-kept G l r (changesOf E b) refl)
       (λ v l. let R = P .other l in (R .first, R .tells))))
 
--- of both editions
+-- of every edition
 of-edition : (E : Edition) → ((k : List ℕ) → OneOf (E .keyFault k) (0 ∷ 3 ∷ 4 ∷ 5 ∷ [])) → BatchDemand1 E
 of-edition E key-range =
     record {
@@ -165,5 +160,4 @@ of-edition E key-range =
     }
 
 pub batch-demand1 : (ed : ℕ) → BatchDemand1 (editionOf ed)
-unfolding editionOf
-batch-demand1 ed = bool-cases (eqb ed 2) (λ t. rw t (of-edition edition2 key-range2)) (λ t. rw t (of-edition edition1 key-range1))
+batch-demand1 ed = of-edition (editionOf ed) (key-ranges ed)

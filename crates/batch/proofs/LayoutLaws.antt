@@ -14,7 +14,7 @@ use Rattle.layout.proofs.NumberLaws.{le-lt}
 use Rattle.model.specs.Edition.{Edition, editionOf}
 use Rattle.model.specs.Call.{Call}
 use Rattle.model.proofs.StringLaws.{bool-cases, leb-cases, clash}
-use Rattle.keys.proofs.KeyLaws.{of-two, of-other}
+use Rattle.model.proofs.Edition2.{of-two, of-other}
 use Rattle.batch.specs.Layout.{countIn, countSize, offsetAt, offsetOf, atStamp, atKey, stampAt, kindAt, endOf, isPut, isReplacement, isErase, known, callAt, sound, also, changesFrom, changesOf, laid}
 use Rattle.batch.specs.Layouts.{Layouts}
 

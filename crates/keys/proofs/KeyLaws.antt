@@ -13,13 +13,13 @@ use Rattle.pieces.specs.Decides.{Decides}
 use Rattle.pieces.specs.Range.{Clean, Alike}
 use Rattle.pieces.proofs.DecideLaws.{handed}
 use Rattle.model.specs.Strings.{shared, hasZero}
-use Rattle.model.specs.Edition.{edition1, edition2, editionOf, escaped}
+use Rattle.model.specs.Edition.{editionOf, escaped}
 use Rattle.model.specs.Body.{Text}
 use Rattle.moves.specs.Pasted.{Pasted}
 use Rattle.keys.specs.Word.{Spelt, ended}
 use Rattle.keys.proofs.EscapeLaws.{one-set, two-both, escaped-plain}
 use Rattle.model.proofs.StringLaws.{eqb-cases}
-use Rattle.model.proofs.Edition2.{key-sized}
+use Rattle.model.proofs.Edition2.{of-two, of-other, key-sized}
 use Rattle.model.proofs.Edition1.{zero-free, free-zero, positive-at, at-positive, walked-at}
 
 -- ---- the walked string
@@ -45,14 +45,6 @@ zero-test k false D = by-value (hasZero k) refl
     by-value false e = absurd (D .fails refl (λ i l u. positive-at k (zero-free k e) i u))
 
 -- ---- the two editions
-
-pub of-two : (n : ℕ) → n ≡ 2 → editionOf n ≡ edition2
-unfolding editionOf
-of-two n e = rw (eq-eqb n 2 e) refl
-
-pub of-other : (n : ℕ) → (n ≡ 2 → ⊥) → editionOf n ≡ edition1
-unfolding editionOf
-of-other n e = rw (ne-eqb n 2 e) refl
 
 -- a key that is not refused has a byte
 pub key-some : (n : ℕ) (k : List ℕ) → editionOf n .keyFault k ≡ 0 → 1 ≤ length k

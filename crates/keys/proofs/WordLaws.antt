@@ -11,9 +11,10 @@ use lib.Seq.{drop-at, drop-append-le}
 use borrow.Author.Tests.{eq-eqb, ne-eqb}
 use Rattle.model.specs.Strings.{shared}
 use Rattle.model.specs.Edition.{Edition, Legal, Lawful, editionOf}
+use Rattle.model.proofs.Edition2.{of-other}
 use Rattle.model.proofs.WellLaws.{Inside, inside-left, not-inside}
 use Rattle.keys.specs.Word.{Spelt, Spells}
-use Rattle.keys.proofs.KeyLaws.{of-other, drop-past}
+use Rattle.keys.proofs.KeyLaws.{drop-past}
 
 -- ---- words that are read
 

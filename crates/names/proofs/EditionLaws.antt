@@ -3,17 +3,15 @@ use Prim.Native.Nat.{ℕ, _<_, _≤_}
 use native.Mathlib.Omega.{arith}
 use mathlib.Core.Path.{_≡_, sym, _∙_}
 use mathlib.Core.List.{List}
+use mathlib.Core.Logic.{⊎-elim}
 use mathlib.Core.Option.{Option}
 use lib.ListN.{length, take, drop, length-take}
 use lib.Seq.{getD-take, getD-drop}
 use Rattle.layout.specs.Number.{Bytes}
-use Rattle.model.specs.Strings.{hasZero, All, Byte}
-use Rattle.model.specs.Edition.{Edition, edition1, edition2, editionOf, Lawful}
-use Rattle.model.proofs.StringLaws.{bool-cases, eqb-cases, ltb-cases}
-use Rattle.model.proofs.Edition1.{key-passes}
-use Rattle.model.proofs.Edition2.{key-passes2, lawfulOf}
+use Rattle.model.specs.Strings.{All, Byte}
+use Rattle.model.specs.Edition.{Edition, editionOf, Lawful}
+use Rattle.model.proofs.Edition2.{lawfulOf, key-number, key-sized}
 use Rattle.model.proofs.StandsGood.{bytes-text}
-use Rattle.keys.proofs.KeyLaws.{of-two, of-other}
 use Rattle.listing.specs.Listing.{entryFor}
 use Rattle.listing.proofs.PagesLaws.{entry-legal}
 
@@ -24,29 +22,12 @@ pub record Naming (E : Edition) : Type 0 where
   -- a key is refused with 3 or 4
   pub faults : (k : List ℕ) (m : ℕ) → m ≡ E .keyFault k → (m ≡ 3 → ⊥) → (m ≡ 0 → ⊥) → m ≡ 4
 
-most1 : (k : List ℕ) → edition1 .keyFault k ≡ 0 → length k ≤ 255
-most1 k e = let h = key-passes k e .short in omega arith
-
-faults1 : (k : List ℕ) (m : ℕ) → m ≡ edition1 .keyFault k → (m ≡ 3 → ⊥) → (m ≡ 0 → ⊥) → m ≡ 4
-faults1 k m e x y = eqb-cases (length k) 0
-    (λ t q. absurd (x (e ∙ rw t)))
-    (λ t q. ltb-cases 112 (length k)
-    (λ u o. absurd (x (e ∙ rw (t, u))))
-    (λ u o. bool-cases (hasZero k) (λ v. e ∙ rw (t, u, v)) (λ v. absurd (y (e ∙ rw (t, u, v))))))
-
-faults2 : (k : List ℕ) (m : ℕ) → m ≡ edition2 .keyFault k → (m ≡ 3 → ⊥) → (m ≡ 0 → ⊥) → m ≡ 4
-faults2 k m e x y = eqb-cases (length k) 0
-    (λ t q. absurd (x (e ∙ rw t)))
-    (λ t q. ltb-cases 255 (length k)
-    (λ u o. absurd (x (e ∙ rw (t, u))))
-    (λ u o. absurd (y (e ∙ rw (t, u)))))
-
 pub naming : (n : ℕ) → Naming (editionOf n)
 naming n = record {
   lawful = lawfulOf n;
   entries = entry-legal n;
-  most = eqb-cases n 2 (λ t q. rw (of-two n q) (λ k e. key-passes2 k e .short)) (λ t q. rw (of-other n q) most1);
-  faults = eqb-cases n 2 (λ t q. rw (of-two n q) faults2) (λ t q. rw (of-other n q) faults1);
+  most = λ k e. key-sized n k e .short;
+  faults = λ k m e x y. ⊎-elim (λ z. absurd (y (e ∙ z))) (λ s. ⊎-elim (λ z. absurd (x (e ∙ z))) (λ z. e ∙ z) s) (key-number n k);
 }
 
 -- a part of a frame is a string of bytes

@@ -7,9 +7,8 @@ use lib.ListN.{length, take, length-append, length-take}
 use lib.Seq.{take-take, take-at, take-all}
 use borrow.Author.Tests.{eq-eqb, ne-eqb}
 use Rattle.model.specs.Edition.{editionOf, escaped}
-use Rattle.model.proofs.Edition2.{escaped-length}
+use Rattle.model.proofs.Edition2.{escaped-length, of-two, of-other}
 use Rattle.keys.specs.Word.{Spelt}
-use Rattle.keys.proofs.KeyLaws.{of-two, of-other}
 use Rattle.keys.proofs.EscapeLaws.{long-two}
 use Rattle.listing.specs.Listing.{prefixLimit}
 use Rattle.listing.specs.Bound.{escapes, boundOf}

@@ -2,16 +2,17 @@
 use Prim.Native.Nat.{ℕ}
 use mathlib.Core.Path.{_≡_, refl, ap, sym, _∙_}
 use mathlib.Core.List.{List, []}
-use mathlib.Core.Bool.{Bool, true, false}
+use mathlib.Core.Bool.{true, false}
+use mathlib.Core.Logic.{⊎-elim}
 use mathlib.Core.Option.{Option, none, some}
 use native.Mathlib.Decide.{ℕ-discrete}
 use native.Mathlib.Omega.{arith}
 use lib.ListN.{length, take, drop}
-use lib.Dec.{eqb, ltb}
+use lib.Dec.{eqb}
 use borrow.Author.Tests.{eq-eqb, ne-eqb}
 use Rattle.layout.specs.Number.{Bytes}
-use Rattle.model.specs.Strings.{pick, hasZero}
-use Rattle.model.specs.Edition.{Edition, edition1, edition2, editionOf, Legal}
+use Rattle.model.specs.Strings.{pick}
+use Rattle.model.specs.Edition.{Edition, editionOf, Legal}
 use Rattle.model.specs.State.{State, findIn}
 use Rattle.model.specs.Visits.{visitsIn}
 use Rattle.model.specs.Frame.{Root, rootArt, Stands, Good}
@@ -20,7 +21,7 @@ use Rattle.model.specs.Promise.{Told, CheckPromise, LookUpPromise, notFound, fo
 use Rattle.descent.specs.declared.lookup.Held.{Held}
 use Rattle.descent.specs.Lookup.{partOf, valueIn, Looked, shifted, Handed}
 use Rattle.descent.proofs.LookLaws.{value-stands}
-use Rattle.model.proofs.Edition2.{lawfulOf}
+use Rattle.model.proofs.Edition2.{lawfulOf, key-number}
 use Rattle.model.proofs.TextLaws.{bytes-all}
 use Rattle.model.proofs.UniqueLaws.{root-unique, stands-unique}
 use Rattle.store.specs.Found.{ValueAt}
@@ -99,22 +100,8 @@ module _ (E : Edition) (f k : List ℕ) where
 pub check-two : (E : Edition) (f : List ℕ) (n : ℕ) → CheckPromise E f n → (n ≡ 0 → ⊥) → (n ≡ 1 → ⊥) → n ≡ 2
 check-two E f n p a b = elim (ℕ-discrete n 2) [ yes e ↦ e | no e ↦ absurd (a (p .good0 (p .told .good b e))) ]
 
-abbrev fault : Bool → Bool → Bool → ℕ
-fault x y z = pick x 3 (pick y 3 (pick z 4 0))
-
-four : (x y z : Bool) → (fault x y z ≡ 0 → ⊥) → (fault x y z ≡ 3 → ⊥) → fault x y z ≡ 4
-four true y z a b = absurd (b refl)
-four false true z a b = absurd (b refl)
-four false false true a b = refl
-four false false false a b = absurd (a refl)
-
-four-of : (second : Bool) (k : List ℕ) → let x = pick second edition2 edition1 .keyFault k in (x ≡ 0 → ⊥) → (x ≡ 3 → ⊥) → x ≡ 4
-four-of true k a b = four (eqb (length k) 0) (ltb 255 (length k)) false a b
-four-of false k a b = four (eqb (length k) 0) (ltb 112 (length k)) (hasZero k) a b
-
 pub key-four : (ed : ℕ) (k : List ℕ) → (editionOf ed .keyFault k ≡ 0 → ⊥) → (editionOf ed .keyFault k ≡ 3 → ⊥) → editionOf ed .keyFault k ≡ 4
-unfolding editionOf
-key-four ed k = four-of (eqb ed 2) k
+key-four ed k a b = ⊎-elim (λ z. absurd (a z)) (λ s. ⊎-elim (λ z. absurd (b z)) (λ z. z) s) (key-number ed k)
 
 -- ---- the ends, by the tests that led there: n is the check's number, e the key's fault
 

@@ -13,9 +13,8 @@ use Rattle.model.specs.Edition.{Edition, editionOf, Value, textOf, valueFault}
 use Rattle.model.specs.State.{State, Done, done, unless, Write, callWrite, onWrite}
 use Rattle.model.specs.Frame.{Good}
 use Rattle.model.specs.Promise.{changes, CheckPromise, WritePromise}
-use Rattle.model.proofs.Edition2.{lawfulOf}
+use Rattle.model.proofs.Edition2.{lawfulOf, of-two, of-other}
 use Rattle.model.proofs.TextLaws.{bytes-all}
-use Rattle.keys.proofs.KeyLaws.{of-two, of-other}
 use Rattle.model.proofs.StringLaws.{eqb-cases, ltb-cases}
 use Rattle.put_core.specs.Core.{Left, Asked, WriteMade}
 use Rattle.put_core.proofs.CoreLaws.{left-same}
