@@ -94,6 +94,12 @@ module _ (n : ℕ) where
   pub spelt-text : (g : List ℕ) (t : ℕ) {w : List ℕ} {m : ℕ} → n ≡ 2 → (t ≡ 1 → ⊥) → Spelt (editionOf 2 .walked g) w m → SpeltBound (editionOf n) g t w (m - 2)
   spelt-text g t {w} {m} e q S = spelt-two g t w (m - 2) e (let h = spelt-fits S in omega arith) (bound-text g t q S)
 
+  -- a text of no byte
+  pub spelt-none : (g : List ℕ) (t : ℕ) (w : List ℕ) → n ≡ 2 → length g ≡ 0 → (t ≡ 1 → ⊥) → SpeltBound (editionOf n) g t w 0
+  unfolding editionOf
+  spelt-none [] t w e h q = spelt-two [] t w 0 e (omega arith) (rw (ne-eqb t 1 q) refl)
+  spelt-none (b ∷ g) t w e h q = absurd (omega arith)
+
   pub guided : (f g : List ℕ) (t root : ℕ) {w x : List ℕ} {m : ℕ} → Sub (editionOf n) f root 0 → SpeltBound (editionOf n) g t w m → x ≡ chosenOf (editionOf n) g (take m w) → Guided (editionOf n) f g x t root
   guided f g t root S B e = record { sub = S; guides = rw e (B .guides) }
 

@@ -114,13 +114,18 @@ fn of_leaf(f: &[u8], place: usize, prefix: &[u8], delimiter: usize) -> Entry
 }
 
 // Writes what guides a seek to the bound of a text, and gives its length: in edition 2 the text's walked string without its end, and past the key that
-// is the text with the first byte of that. In edition 1 nothing.
+// is the text with the first byte of that. In edition 1 nothing, nor for a text of no byte, from which on a listing of all begins.
 fn spelt(text: &[u8], tail: usize, word: &mut [u8], edition: usize) -> usize
     requires { ⌜ (wordRoom (editionOf edition) ≤ length (now word)) × (length (now word) < 65536) × (length (now text) ≤ 255) ⌝ }
     ensures { λ r. ⌜ SpeltBound (editionOf edition) (now (text .entry)) tail (now (word .exit)) r ⌝ }
 {
     if edition != keys::SECOND {
         return 0;
+    }
+    if text.len() == 0 {
+        if tail != PAST_KEY {
+            return 0;
+        }
     }
     let n = keys::walk(text, word, keys::SECOND);
     if tail == PAST_KEY {
