@@ -1,5 +1,5 @@
-// The live tree, parent first and children in byte order, in one loop. The path that leads to a body stands in a buffer, and the inner
-// nodes whose children are not all counted yet wait in an array, the root's node first: the stack does not grow with the tree.
+// The live tree, parent first and children in byte order, without a call for each level. The path that leads to a body stands in a
+// buffer, and the inner nodes whose children are not all counted yet wait in an array, the root's node first: the stack does not grow with the tree.
 use census::Bounds;
 use census::Sums;
 use census::refused;
@@ -214,9 +214,9 @@ fn past_prefix(
     }
 }
 
-// The tree at slot s, to which no path leads, of a kind other than a Leaf's. The walk arrives at a slot: a Prefix leads it to another, and a
-// node is counted. From then on it is at child i of a node: where that is a Leaf it is counted, else the node waits and the walk arrives at
-// it; after the last child the walk goes back to the node that waits.
+// The tree at slot s, to which no path leads, of a kind other than a Leaf's. The outer loop arrives at a slot: a Prefix leads it to another, and a
+// node is counted. The inner one is then at child i of a node: where that is a Leaf it is counted, else the node waits and the outer loop arrives
+// at the child; after the last child the inner loop goes back to the node that waits.
 pub fn along(
     f: &[u8],
     map: &mut [u64],
