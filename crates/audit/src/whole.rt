@@ -160,6 +160,10 @@ const DEPTHS_SECOND: usize = 512;
 // No more nodes wait than slots are given out, and a small frame has often no more than these.
 const FEW_SLOTS: usize = 32;
 
+const SOME_SLOTS: usize = 64;
+
+const MANY_SLOTS: usize = 128;
+
 // The same with arrays for the paths of edition 1.
 fn near(f: &[u8], map: &mut [u64], edition: usize, wiped: bool) -> bool
     requires { ⌜ HeaderFits (editionOf edition) (now f) × (length (now f) ≤ 512 * length (now map)) × Seen (now map) [] × (editionOf edition .longest ≤ 113) ⌝ }
@@ -180,8 +184,38 @@ fn near_few(f: &[u8], map: &mut [u64], edition: usize, wiped: bool) -> bool
     over(f, map, &mut path, &mut waits, edition, wiped)
 }
 
-// The same with arrays for the paths of every edition.
-fn far(f: &[u8], map: &mut [u64], edition: usize, wiped: bool) -> bool
+// The same with arrays for the paths of every edition, in a frame of few slots.
+fn far_few(f: &[u8], map: &mut [u64], edition: usize, wiped: bool) -> bool
+    requires { ⌜ HeaderFits (editionOf edition) (now f) × (length (now f) ≤ 512 * length (now map)) × Seen (now map) [] × (le 4 (now f) atU ≤ 32) ⌝ }
+    ensures { λ r. ⌜ Decides (Good (byRule edition wiped) (now (f .entry))) r ⌝ }
+{
+    let mut path: [u8; DEPTHS_SECOND] = [0; DEPTHS_SECOND];
+    let mut waits: [u32; FEW_SLOTS] = [0; FEW_SLOTS];
+    over(f, map, &mut path, &mut waits, edition, wiped)
+}
+
+// The same in a frame of some slots.
+fn far_some(f: &[u8], map: &mut [u64], edition: usize, wiped: bool) -> bool
+    requires { ⌜ HeaderFits (editionOf edition) (now f) × (length (now f) ≤ 512 * length (now map)) × Seen (now map) [] × (le 4 (now f) atU ≤ 64) ⌝ }
+    ensures { λ r. ⌜ Decides (Good (byRule edition wiped) (now (f .entry))) r ⌝ }
+{
+    let mut path: [u8; DEPTHS_SECOND] = [0; DEPTHS_SECOND];
+    let mut waits: [u32; SOME_SLOTS] = [0; SOME_SLOTS];
+    over(f, map, &mut path, &mut waits, edition, wiped)
+}
+
+// The same in a frame of many slots.
+fn far_many(f: &[u8], map: &mut [u64], edition: usize, wiped: bool) -> bool
+    requires { ⌜ HeaderFits (editionOf edition) (now f) × (length (now f) ≤ 512 * length (now map)) × Seen (now map) [] × (le 4 (now f) atU ≤ 128) ⌝ }
+    ensures { λ r. ⌜ Decides (Good (byRule edition wiped) (now (f .entry))) r ⌝ }
+{
+    let mut path: [u8; DEPTHS_SECOND] = [0; DEPTHS_SECOND];
+    let mut waits: [u32; MANY_SLOTS] = [0; MANY_SLOTS];
+    over(f, map, &mut path, &mut waits, edition, wiped)
+}
+
+// The same in every frame.
+fn far_any(f: &[u8], map: &mut [u64], edition: usize, wiped: bool) -> bool
     requires { ⌜ HeaderFits (editionOf edition) (now f) × (length (now f) ≤ 512 * length (now map)) × Seen (now map) [] ⌝ }
     ensures { λ r. ⌜ Decides (Good (byRule edition wiped) (now (f .entry))) r ⌝ }
 {
@@ -190,14 +224,20 @@ fn far(f: &[u8], map: &mut [u64], edition: usize, wiped: bool) -> bool
     over(f, map, &mut path, &mut waits, edition, wiped)
 }
 
-// The same in a frame of few slots.
-fn far_few(f: &[u8], map: &mut [u64], edition: usize, wiped: bool) -> bool
-    requires { ⌜ HeaderFits (editionOf edition) (now f) × (length (now f) ≤ 512 * length (now map)) × Seen (now map) [] × (le 4 (now f) atU ≤ 32) ⌝ }
+// The same with the shortest of the last three arrays that is long enough. It is called from three places, so its arrays stand in a part of the
+// stack of their own, which a check of edition 1 does not take.
+fn far(f: &[u8], map: &mut [u64], edition: usize, wiped: bool) -> bool
+    requires { ⌜ HeaderFits (editionOf edition) (now f) × (length (now f) ≤ 512 * length (now map)) × Seen (now map) [] ⌝ }
     ensures { λ r. ⌜ Decides (Good (byRule edition wiped) (now (f .entry))) r ⌝ }
 {
-    let mut path: [u8; DEPTHS_SECOND] = [0; DEPTHS_SECOND];
-    let mut waits: [u32; FEW_SLOTS] = [0; FEW_SLOTS];
-    over(f, map, &mut path, &mut waits, edition, wiped)
+    let given = Header::slots_given(f);
+    if given <= SOME_SLOTS {
+        return far_some(f, map, edition, wiped);
+    }
+    if given <= MANY_SLOTS {
+        return far_many(f, map, edition, wiped);
+    }
+    far_any(f, map, edition, wiped)
 }
 
 // Words of the map, 64 units each, and the longest frames that the smaller maps are for.

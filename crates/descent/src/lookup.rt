@@ -9,7 +9,7 @@ ghost use Rattle.model.specs.Visits.{visitsIn};
 ghost use Rattle.model.specs.Frame.{Stands, rootArt};
 ghost use Rattle.model.specs.Touch.{findAt};
 ghost use Rattle.model.specs.Promise.{foundOf};
-ghost use Rattle.descent.specs.Spot.{Standing, Sought};
+ghost use Rattle.descent.specs.Spot.{SpotAt, Standing};
 ghost use Rattle.descent.specs.Lookup.{Looked, Handed};
 
 pub struct Held {
@@ -23,12 +23,28 @@ pub struct Held {
     pub stamp: usize,
 }
 
-// Where a key's value stands in a good frame, by what is read of the key on the way.
-fn found(f: &[u8], key: &[u8], word: &[u8], edition: usize) -> Held
-    requires { ⌜ Standing (editionOf edition) (now f) × Sought (editionOf edition) (now key) (now word) ⌝ }
+// Where the way of a legal key through a good frame ends. Edition 2 reads the walked string, written out, and edition 1 the key itself.
+fn spot_of(f: &[u8], key: &[u8], edition: usize) -> Spot
+    requires { ⌜ Standing (editionOf edition) (now f) × Legal (editionOf edition) (now key) ⌝ }
+    ensures { λ r. ⌜ ((st : State) (W : Stands (editionOf edition) (now (f .entry)) st) → SpotAt (editionOf edition) (now (key .entry)) (W .root) r) ⌝ }
+{
+    if edition == keys::SECOND {
+        if key.len() <= walk::SHORT_KEY {
+            let mut word: [u8; walk::SHORT_WORD] = [0; walk::SHORT_WORD];
+            let n = keys::walk(key, &mut word, edition);
+            return walk::descend(f, key, &word[0..n], edition);
+        }
+        return walk::descend_long(f, key, edition);
+    }
+    walk::descend(f, key, key, edition)
+}
+
+// Where a legal key's value stands in a good frame.
+pub fn find(f: &[u8], key: &[u8], edition: usize) -> Held
+    requires { ⌜ Standing (editionOf edition) (now f) × Legal (editionOf edition) (now key) ⌝ }
     ensures { λ r. ⌜ ((st : State) (W : Stands (editionOf edition) (now (f .entry)) st) → Looked (editionOf edition) (now (f .entry)) (now (key .entry)) st (W .root) r) ⌝ }
 {
-    let s = walk::descend(f, key, word, edition);
+    let s = spot_of(f, key, edition);
     if s.end != Spot::FOUND {
         return Held {
             found: false,
@@ -50,19 +66,6 @@ fn found(f: &[u8], key: &[u8], word: &[u8], edition: usize) -> Held
         slots: s.visited,
         stamp: stamp,
     }
-}
-
-// Where a legal key's value stands in a good frame.
-pub fn find(f: &[u8], key: &[u8], edition: usize) -> Held
-    requires { ⌜ Standing (editionOf edition) (now f) × Legal (editionOf edition) (now key) ⌝ }
-    ensures { λ r. ⌜ ((st : State) (W : Stands (editionOf edition) (now (f .entry)) st) → Looked (editionOf edition) (now (f .entry)) (now (key .entry)) st (W .root) r) ⌝ }
-{
-    if edition == keys::SECOND {
-        let mut word: [u8; keys::LONGEST_WORD] = [0; keys::LONGEST_WORD];
-        let n = keys::walk(key, &mut word, edition);
-        return found(f, key, &word[0..n], edition);
-    }
-    found(f, key, key, edition)
 }
 
 // The value as a part of the frame; for an absent key the empty part at its start.

@@ -8,7 +8,7 @@ use layout::entry::Entry;
 use layout::kind::Kind;
 ghost use mathlib.Core.List.{List};
 ghost use Prim.Native.Nat.{ℕ};
-ghost use Rattle.model.specs.Edition.{Edition, editionOf};
+ghost use Rattle.model.specs.Edition.{Edition, editionOf, Legal};
 ghost use Rattle.model.specs.State.{State};
 ghost use Rattle.model.specs.Frame.{Stands};
 ghost use Rattle.descent.specs.Spot.{SpotAt, Standing, Sought, Underway, AtLeaf, AtPrefix, AtNode, Stepped, SomeDescent};
@@ -89,4 +89,19 @@ pub fn descend(f: &[u8], key: &[u8], word: &[u8], edition: usize) -> Spot
             return s;
         }
     }
+}
+
+// Of a short key every walked string has room in a short word.
+pub const SHORT_KEY: usize = 31;
+
+pub const SHORT_WORD: usize = 64;
+
+// The same by the walked string of any key, written out in a word of its own.
+pub fn descend_long(f: &[u8], key: &[u8], edition: usize) -> Spot
+    requires { ⌜ Standing (editionOf edition) (now f) × Legal (editionOf edition) (now key) ⌝ }
+    ensures { λ r. ⌜ ((st : State) (W : Stands (editionOf edition) (now (f .entry)) st) → SpotAt (editionOf edition) (now (key .entry)) (W .root) r) ⌝ }
+{
+    let mut word: [u8; keys::LONGEST_WORD] = [0; keys::LONGEST_WORD];
+    let n = keys::walk(key, &mut word, edition);
+    descend(f, key, &word[0..n], edition)
 }

@@ -43,9 +43,12 @@ fn spot_of(f: &[u8], key: &[u8], edition: usize) -> Spot
     ensures { λ r. ⌜ ((st : State) (W : Stands (editionOf edition) (now (f .entry)) st) → SpotAt (editionOf edition) (now (key .entry)) (W .root) r) ⌝ }
 {
     if edition == keys::SECOND {
-        let mut word: [u8; keys::LONGEST_WORD] = [0; keys::LONGEST_WORD];
-        let n = keys::walk(key, &mut word, edition);
-        return walk::descend(f, key, &word[0..n], edition);
+        if key.len() <= walk::SHORT_KEY {
+            let mut word: [u8; walk::SHORT_WORD] = [0; walk::SHORT_WORD];
+            let n = keys::walk(key, &mut word, edition);
+            return walk::descend(f, key, &word[0..n], edition);
+        }
+        return walk::descend_long(f, key, edition);
     }
     walk::descend(f, key, key, edition)
 }

@@ -6,10 +6,12 @@ use answers::List;
 use answers::Refusal;
 use fields::header::Header;
 ghost use mathlib.Core.Path.{_≡_};
-ghost use Prim.Native.Nat.{_≤_};
+ghost use Prim.Native.Nat.{_≤_, _<_};
+ghost use lib.ListN.{length};
 ghost use Rattle.answers.specs.Number.{listNumber, listCount, listMore};
 ghost use Rattle.model.specs.Edition.{editionOf};
 ghost use Rattle.listing.specs.Listing.{startOf, delimiterOf, prefixLimit, startFault, ListPromise};
+ghost use Rattle.names.specs.Entry.{wordRoom};
 
 // the most bytes of a prefix, as of a key
 const LONGEST_PREFIX: usize = 112;
@@ -36,16 +38,18 @@ fn start_fault(start: &[u8], given: bool, edition: usize) -> usize
     keys::fault(start, edition)
 }
 
-// Entries after `start`, if one is given, of the keys that begin with `prefix`; a `delimiter` above 255 is none.
-pub fn list(
+// The listing, with a word lent in which edition 2 spells out what it seeks.
+fn list_by(
     frame: &[u8],
     prefix: &[u8],
     start: &[u8],
     given: bool,
     delimiter: usize,
     buffer: &mut [u8],
+    word: &mut [u8],
     edition: usize,
 ) -> List
+    requires { ⌜ (wordRoom (editionOf edition) ≤ length (now word)) × (length (now word) < 65536) ⌝ }
     ensures { λ r. ⌜ ListPromise (editionOf edition) (now (frame .entry)) (now (prefix .entry)) (startOf given (now (start .entry))) (delimiterOf delimiter) (now (buffer .entry)) (listNumber r) (listCount r) (listMore r) (now (buffer .exit)) ⌝ }
 {
     let n = audit::check(frame, edition);
@@ -68,11 +72,35 @@ pub fn list(
     if Header::records(frame) == 0 {
         return List::Done(0, false);
     }
+    page::fill(
+        frame,
+        Header::root(frame),
+        prefix,
+        start,
+        given,
+        delimiter,
+        buffer,
+        word,
+        edition,
+    )
+}
+
+// Entries after `start`, if one is given, of the keys that begin with `prefix`; a `delimiter` above 255 is none.
+pub fn list(
+    frame: &[u8],
+    prefix: &[u8],
+    start: &[u8],
+    given: bool,
+    delimiter: usize,
+    buffer: &mut [u8],
+    edition: usize,
+) -> List
+    ensures { λ r. ⌜ ListPromise (editionOf edition) (now (frame .entry)) (now (prefix .entry)) (startOf given (now (start .entry))) (delimiterOf delimiter) (now (buffer .entry)) (listNumber r) (listCount r) (listMore r) (now (buffer .exit)) ⌝ }
+{
     if edition == keys::SECOND {
         let mut word: [u8; keys::LONGEST_WORD] = [0; keys::LONGEST_WORD];
-        return page::fill(
+        return list_by(
             frame,
-            Header::root(frame),
             prefix,
             start,
             given,
@@ -83,9 +111,8 @@ pub fn list(
         );
     }
     let mut unspelt: [u8; 0] = [0; 0];
-    page::fill(
+    list_by(
         frame,
-        Header::root(frame),
         prefix,
         start,
         given,
