@@ -3,7 +3,7 @@ use Prim.Native.Nat.{ℕ}
 use mathlib.Core.Path.{_≡_}
 use mathlib.Core.List.{List, [], _∷_}
 use mathlib.Core.Option.{Option, none, some}
-use Rattle.model.specs.Edition.{edition1, unstamped}
+use Rattle.model.specs.Edition.{editionOf, unstamped}
 use Rattle.model.specs.Records.{Record}
 use Rattle.listing.specs.Listing.{listing}
 
@@ -57,7 +57,7 @@ table =
     ∷ []
 
 abbrev pub Gives : Row → Type 0
-Gives x = listing edition1 set (x .prefix) (x .start) (x .delimiter) (x .room) ≡ record { number = x .number; count = x .count; more = x .more; text = x .text }
+Gives x = listing (editionOf 1) set (x .prefix) (x .start) (x .delimiter) (x .room) ≡ record { number = x .number; count = x .count; more = x .more; text = x .text }
 
 abbrev pub Worked : List Row → Type 0
 Worked [] = Unit {0}
