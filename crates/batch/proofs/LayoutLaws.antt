@@ -19,7 +19,7 @@ use Rattle.batch.specs.Layout.{countIn, countSize, offsetAt, offsetOf, a
 use Rattle.batch.specs.Layouts.{Layouts}
 
 pub layouts : Layouts
-unfolding le sound atKey stampAt
+unfolding editionOf le sound atKey stampAt
 layouts = record { stamps = refl; stampless = refl; plain = refl; empty = refl; short = refl; outside = refl; large = refl; inHeader = refl; past = refl; kind4 = refl; keyPast = refl; emptyKey = refl }
 
 -- ---- by the edition

@@ -3,7 +3,7 @@ use Prim.Native.Nat.{ℕ}
 use mathlib.Core.Path.{_≡_}
 use mathlib.Core.List.{List, [], _∷_}
 use mathlib.Core.Option.{none, some}
-use Rattle.model.specs.Edition.{edition1, edition2, unstamped}
+use Rattle.model.specs.Edition.{editionOf, unstamped}
 use Rattle.model.specs.Call.{put, erase}
 use Rattle.batch.specs.Layout.{changesOf}
 
@@ -26,20 +26,20 @@ stamped =
     ∷ 3 ∷ 0 ∷ 1 ∷ 0 ∷ 0 ∷ 0 ∷ 0 ∷ 0 ∷ 7 ∷ 0 ∷ 0 ∷ 0 ∷ 0 ∷ 0 ∷ 0 ∷ 0 ∷ 97 ∷ []
 
 pub record Layouts : Type 0 where
-  pub stamps : changesOf edition2 stamped ≡ some (put (97 ∷ []) (record { bytes = 49 ∷ []; stamp = 258 }) ∷ erase (97 ∷ []) ∷ [])
+  pub stamps : changesOf (editionOf 2) stamped ≡ some (put (97 ∷ []) (record { bytes = 49 ∷ []; stamp = 258 }) ∷ erase (97 ∷ []) ∷ [])
   -- no room for a stamp
-  pub stampless : changesOf edition2 (one 8 3 0) ≡ none
-  pub plain : changesOf edition1 two ≡ some (put (97 ∷ []) (unstamped (49 ∷ [])) ∷ erase (97 ∷ []) ∷ [])
+  pub stampless : changesOf (editionOf 2) (one 8 3 0) ≡ none
+  pub plain : changesOf (editionOf 1) two ≡ some (put (97 ∷ []) (unstamped (49 ∷ [])) ∷ erase (97 ∷ []) ∷ [])
   -- no change at all
-  pub empty : changesOf edition1 (0 ∷ 0 ∷ 0 ∷ 0 ∷ []) ≡ some []
+  pub empty : changesOf (editionOf 1) (0 ∷ 0 ∷ 0 ∷ 0 ∷ []) ≡ some []
   -- shorter than its count; an offset that is not there; a count that is too large
-  pub short : changesOf edition1 (0 ∷ 0 ∷ 0 ∷ []) ≡ none
-  pub outside : changesOf edition1 (1 ∷ 0 ∷ 0 ∷ 0 ∷ []) ≡ none
-  pub large : changesOf edition1 (255 ∷ 255 ∷ 255 ∷ 255 ∷ []) ≡ none
+  pub short : changesOf (editionOf 1) (0 ∷ 0 ∷ 0 ∷ []) ≡ none
+  pub outside : changesOf (editionOf 1) (1 ∷ 0 ∷ 0 ∷ 0 ∷ []) ≡ none
+  pub large : changesOf (editionOf 1) (255 ∷ 255 ∷ 255 ∷ 255 ∷ []) ≡ none
   -- the offset lies in the header, or past the end; an unknown kind; a key that runs past the end
-  pub inHeader : changesOf edition1 (one 7 3 0) ≡ none
-  pub past : changesOf edition1 (one 9 3 0) ≡ none
-  pub kind4 : changesOf edition1 (one 8 4 0) ≡ none
-  pub keyPast : changesOf edition1 (one 8 3 1) ≡ none
+  pub inHeader : changesOf (editionOf 1) (one 7 3 0) ≡ none
+  pub past : changesOf (editionOf 1) (one 9 3 0) ≡ none
+  pub kind4 : changesOf (editionOf 1) (one 8 4 0) ≡ none
+  pub keyPast : changesOf (editionOf 1) (one 8 3 1) ≡ none
   -- an empty key is no fault of the layout: the change gets its own 3
-  pub emptyKey : changesOf edition1 (one 8 3 0) ≡ some (erase [] ∷ [])
+  pub emptyKey : changesOf (editionOf 1) (one 8 3 0) ≡ some (erase [] ∷ [])
