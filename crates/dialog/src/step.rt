@@ -16,7 +16,7 @@ ghost use mathlib.Core.Path.{_≡_};
 ghost use mathlib.Core.List.{List};
 ghost use Prim.Native.Nat.{ℕ, _+_, _≤_};
 ghost use lib.ListN.{length as List·length};
-ghost use Rattle.model.specs.Edition.{edition1};
+ghost use Rattle.model.specs.Edition.{editionOf};
 ghost use Rattle.lines.specs.Input.{Held};
 ghost use Rattle.lines.specs.Line.{Places, meant, said};
 ghost use Rattle.lines.specs.Text.{Appended};
@@ -61,7 +61,7 @@ fn format_line(
     out: &mut [u8],
 ) -> Stepped
     requires { ⌜ Wide (now out) × (16384 ≤ List·length (now buffer)) ⌝ }
-    ensures { λ r. ⌜ Answer (now (out .exit)) (r .written) (λ t. Formats edition1 (now (buffer .entry)) long length capacity (now (buffer .exit)) (r .long) t) ⌝ }
+    ensures { λ r. ⌜ Answer (now (out .exit)) (r .written) (λ t. Formats (editionOf 1) (now (buffer .entry)) long length capacity (now (buffer .exit)) (r .long) t) ⌝ }
 {
     if length > MOST_FRAME {
         return Stepped {
@@ -89,7 +89,7 @@ fn format_line(
 // "The session program's `p` and every other caller that relied on replacement must ask for it."
 fn put_line(frame: &mut [u8], key: &[u8], value: &[u8], out: &mut [u8]) -> usize
     requires { ⌜ Wide (now out) ⌝ }
-    ensures { λ r. ⌜ Answer (now (out .exit)) r (λ t. Puts edition1 (now (frame .entry)) (now (key .entry)) (now (value .entry)) (now (frame .exit)) t) ⌝ }
+    ensures { λ r. ⌜ Answer (now (out .exit)) r (λ t. Puts (editionOf 1) (now (frame .entry)) (now (key .entry)) (now (value .entry)) (now (frame .exit)) t) ⌝ }
 {
     number(
         out,
@@ -105,7 +105,7 @@ fn put_line(frame: &mut [u8], key: &[u8], value: &[u8], out: &mut [u8]) -> usize
 
 fn erase_line(frame: &mut [u8], key: &[u8], out: &mut [u8]) -> usize
     requires { ⌜ Wide (now out) ⌝ }
-    ensures { λ r. ⌜ Answer (now (out .exit)) r (λ t. Erases edition1 (now (frame .entry)) (now (key .entry)) (now (frame .exit)) t) ⌝ }
+    ensures { λ r. ⌜ Answer (now (out .exit)) r (λ t. Erases (editionOf 1) (now (frame .entry)) (now (key .entry)) (now (frame .exit)) t) ⌝ }
 {
     number(
         out,
@@ -115,7 +115,7 @@ fn erase_line(frame: &mut [u8], key: &[u8], out: &mut [u8]) -> usize
 
 fn get_line(frame: &[u8], key: &[u8], out: &mut [u8]) -> usize
     requires { ⌜ Wide (now out) × (List·length (now frame) ≤ 16384) ⌝ }
-    ensures { λ r. ⌜ Answer (now (out .exit)) r (λ t. Gets edition1 (now (frame .entry)) (now (key .entry)) (now (frame .entry)) t) ⌝ }
+    ensures { λ r. ⌜ Answer (now (out .exit)) r (λ t. Gets (editionOf 1) (now (frame .entry)) (now (key .entry)) (now (frame .entry)) t) ⌝ }
 {
     let n = answers::look_up_number(look_up(frame, key, Header::FIRST_EDITION));
     if n != 0 {
@@ -148,7 +148,7 @@ fn counts(out: &mut [u8], slots: usize, bytes: usize, records: usize) -> usize
 
 fn pack_line(frame: &[u8], packed: &mut [u8], out: &mut [u8]) -> usize
     requires { ⌜ Wide (now out) × (List·length (now packed) ≡ List·length (now frame)) ⌝ }
-    ensures { λ r. ⌜ Answer (now (out .exit)) r (λ t. Packs edition1 (now (frame .entry)) (now (frame .entry)) t) ⌝ }
+    ensures { λ r. ⌜ Answer (now (out .exit)) r (λ t. Packs (editionOf 1) (now (frame .entry)) (now (frame .entry)) t) ⌝ }
 {
     let n = answers::pack_number(pack(frame, packed, Header::FIRST_EDITION));
     if n != 0 {
@@ -169,7 +169,7 @@ fn frame_line(
     out: &mut [u8],
 ) -> usize
     requires { ⌜ Wide (now out) × (List·length (now packed) ≡ List·length (now frame)) × (List·length (now frame) ≤ 16384) × Places (now line) command ⌝ }
-    ensures { λ r. ⌜ Answer (now (out .exit)) r (λ t. Does edition1 (now (frame .entry)) (meant (now (line .entry)) command) (now (frame .exit)) t) ⌝ }
+    ensures { λ r. ⌜ Answer (now (out .exit)) r (λ t. Does (editionOf 1) (now (frame .entry)) (meant (now (line .entry)) command) (now (frame .exit)) t) ⌝ }
 {
     match command {
         Command::Put(key, value) => put_line(frame, key.of(line), value.of(line), out),
@@ -182,7 +182,7 @@ fn frame_line(
 
 fn step(buffer: &mut [u8], long: usize, packed: &mut [u8], line: &[u8], out: &mut [u8]) -> Stepped
     requires { ⌜ Wide (now out) × (16384 ≤ List·length (now buffer)) × (16384 ≤ List·length (now packed)) × (long ≤ 16384) ⌝ }
-    ensures { λ r. ⌜ Answer (now (out .exit)) (r .written) (λ t. Steps edition1 (now (buffer .entry)) long (said (now (line .entry))) (now (buffer .exit)) (r .long) t) × (r .long ≤ 16384) ⌝ }
+    ensures { λ r. ⌜ Answer (now (out .exit)) (r .written) (λ t. Steps (editionOf 1) (now (buffer .entry)) long (said (now (line .entry))) (now (buffer .exit)) (r .long) t) × (r .long ≤ 16384) ⌝ }
 {
     let command = parse(line);
     if let Command::Format(length, capacity) = command {
@@ -208,7 +208,7 @@ pub fn reply(
     out: &mut [u8],
 ) -> Stepped
     requires { ⌜ Wide (now out) × (16384 ≤ List·length (now buffer)) × (16384 ≤ List·length (now packed)) × (1024 ≤ List·length (now held)) × (long ≤ 16384) ⌝ }
-    ensures { λ r. ⌜ Answer (now (out .exit)) (r .written) (λ t. ((line : List ℕ) → Held line (now (held .entry)) have → Replies edition1 (now (buffer .entry)) long line (now (buffer .exit)) (r .long) t)) × (r .long ≤ 16384) ⌝ }
+    ensures { λ r. ⌜ Answer (now (out .exit)) (r .written) (λ t. ((line : List ℕ) → Held line (now (held .entry)) have → Replies (editionOf 1) (now (buffer .entry)) long line (now (buffer .exit)) (r .long) t)) × (r .long ≤ 16384) ⌝ }
 {
     if have > MOST {
         return Stepped {

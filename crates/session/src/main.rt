@@ -12,7 +12,7 @@ use part::end;
 use part::greet;
 ghost use mathlib.Core.List.{List, []};
 ghost use Prim.Native.Nat.{ℕ, _≤_};
-ghost use Rattle.model.specs.Edition.{edition1};
+ghost use Rattle.model.specs.Edition.{editionOf};
 ghost use Rattle.lines.specs.Input.{Held};
 ghost use Rattle.session.specs.Part.{Lent, Part};
 
@@ -35,7 +35,7 @@ fn answer_piece(
     kept: Kept,
 ) -> Kept
     requires { ⌜ Lent (now buffer) (now packed) (now held) (now out) × (kept .long ≤ 16384) ⌝ }
-    ensures { λ r. ⌜ (r .long ≤ 16384) × ((begun : List ℕ) → Held begun (now (held .entry)) (kept .have) → (text : List ℕ) × Part edition1 (now (buffer .entry)) (kept .long) begun (now (piece .entry)) (now (buffer .exit)) (r .long) (now (held .exit)) (r .have) text) ⌝ }
+    ensures { λ r. ⌜ (r .long ≤ 16384) × ((begun : List ℕ) → Held begun (now (held .entry)) (kept .have) → (text : List ℕ) × Part (editionOf 1) (now (buffer .entry)) (kept .long) begun (now (piece .entry)) (now (buffer .exit)) (r .long) (now (held .exit)) (r .have) text) ⌝ }
 {
     let mut long = kept.long;
     let mut have = kept.have;
@@ -54,7 +54,7 @@ fn answer_piece(
 // A proved loop has to end, and nothing says that the input does. So the loop counts its turns down, from a number that no run uses up.
 fn answer_all(buffer: &mut [u8], packed: &mut [u8], held: &mut [u8], out: &mut [u8]) -> Kept
     requires { ⌜ Lent (now buffer) (now packed) (now held) (now out) ⌝ }
-    ensures { λ r. ⌜ ((input : List ℕ) × (text : List ℕ) × Part edition1 (now (buffer .entry)) 0 [] input (now (buffer .exit)) (r .long) (now (held .exit)) (r .have) text) ⌝ }
+    ensures { λ r. ⌜ ((input : List ℕ) × (text : List ℕ) × Part (editionOf 1) (now (buffer .entry)) 0 [] input (now (buffer .exit)) (r .long) (now (held .exit)) (r .have) text) ⌝ }
 {
     let mut kept = Kept { long: 0, have: 0 };
     let mut turns = u64::MAX;

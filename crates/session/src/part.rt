@@ -9,7 +9,7 @@ ghost use mathlib.Core.Path.{_≡_};
 ghost use mathlib.Core.List.{List};
 ghost use Prim.Native.Nat.{ℕ, _≤_};
 ghost use lib.ListN.{length};
-ghost use Rattle.model.specs.Edition.{edition1};
+ghost use Rattle.model.specs.Edition.{editionOf};
 ghost use Rattle.lines.specs.Input.{Held};
 ghost use Rattle.dialog.specs.Answer.{Wide, Answer};
 ghost use Rattle.session.specs.Session.{greeting, unended};
@@ -55,7 +55,7 @@ fn answer_line(
     have: usize,
 ) -> Answered
     requires { ⌜ Lent (now buffer) (now packed) (now held) (now out) × (from ≤ length (now piece)) × (long ≤ 16384) ⌝ }
-    ensures { λ r. ⌜ Answers edition1 (now (buffer .entry)) long (now (held .entry)) have (now (piece .entry)) from (now (buffer .exit)) (now (held .exit)) (now (out .exit)) r ⌝ }
+    ensures { λ r. ⌜ Answers (editionOf 1) (now (buffer .entry)) long (now (held .entry)) have (now (piece .entry)) from (now (buffer .exit)) (now (held .exit)) (now (out .exit)) r ⌝ }
 {
     let taken = take(held, have, piece, from);
     if taken.ended {
@@ -88,7 +88,7 @@ pub fn answer_lines(
     have: usize,
 ) -> Answered
     requires { ⌜ Lent (now buffer) (now packed) (now held) (now out) × (from ≤ length (now piece)) × (long ≤ 16384) ⌝ }
-    ensures { λ r. ⌜ Answers edition1 (now (buffer .entry)) long (now (held .entry)) have (now (piece .entry)) from (now (buffer .exit)) (now (held .exit)) (now (out .exit)) r ⌝ }
+    ensures { λ r. ⌜ Answers (editionOf 1) (now (buffer .entry)) long (now (held .entry)) have (now (piece .entry)) from (now (buffer .exit)) (now (held .exit)) (now (out .exit)) r ⌝ }
 {
     let mut long = long;
     let mut have = have;

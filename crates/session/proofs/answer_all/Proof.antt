@@ -5,7 +5,7 @@ use mathlib.Core.List.{List, []}
 use native.Mathlib.Omega.{arith}
 use lib.ListN.{length}
 use borrow.Author.Needs.{needs}
-use Rattle.model.specs.Edition.{edition1}
+use Rattle.model.specs.Edition.{editionOf}
 use Rattle.session.specs.Part.{Part}
 use Rattle.session.proofs.PartLaws.{fresh, begins, read-on}
 use Rattle.session.proofs.answer_all.Statement.{statement}
@@ -14,7 +14,7 @@ use Rattle.session.proofs.answer_all.Tie as tie
 abbrev Inv-loop : tie.InvT-loop
 Inv-loop buffer₀ packed₀ held₀ out₀ kept₀ turns₀ buffer packed held out kept turns =
     (length buffer ≡ length buffer₀) × (length packed ≡ length packed₀) × (length held ≡ length held₀) × (length out ≡ length out₀)
-    × (kept .long ≤ 16384) × ((input : List ℕ) × (text : List ℕ) × Part edition1 buffer₀ 0 [] input buffer (kept .long) held (kept .have) text)
+    × (kept .long ≤ 16384) × ((input : List ℕ) × (text : List ℕ) × Part (editionOf 1) buffer₀ 0 [] input buffer (kept .long) held (kept .have) text)
 
 abbrev μ-loop : tie.MeasureT-loop
 μ-loop buffer₀ packed₀ held₀ out₀ kept₀ turns₀ buffer packed held out kept turns = turns

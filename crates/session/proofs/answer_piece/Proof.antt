@@ -6,7 +6,7 @@ use native.Mathlib.Omega.{arith}
 use lib.ListN.{length, take}
 use lib.Seq.{take-all, length-take-le}
 use borrow.Author.Needs.{needs}
-use Rattle.model.specs.Edition.{edition1}
+use Rattle.model.specs.Edition.{editionOf}
 use Rattle.lines.specs.Input.{Held}
 use Rattle.session.specs.Part.{Part}
 use Rattle.session.proofs.PartLaws.{begins, further}
@@ -17,7 +17,7 @@ abbrev Inv-loop : tie.InvT-loop
 Inv-loop buffer₀ packed₀ held₀ out₀ piece long₀ have₀ from₀ buffer packed held out long have from =
     (length buffer ≡ length buffer₀) × (length packed ≡ length packed₀) × (length held ≡ length held₀) × (length out ≡ length out₀)
     × (from ≤ length piece) × (long ≤ 16384)
-    × ((begun : List ℕ) → Held begun held₀ have₀ → (text : List ℕ) × Part edition1 buffer₀ long₀ begun (take from piece) buffer long held have text)
+    × ((begun : List ℕ) → Held begun held₀ have₀ → (text : List ℕ) × Part (editionOf 1) buffer₀ long₀ begun (take from piece) buffer long held have text)
 
 abbrev μ-loop : tie.MeasureT-loop
 μ-loop buffer₀ packed₀ held₀ out₀ piece long₀ have₀ from₀ buffer packed held out long have from = length piece - from

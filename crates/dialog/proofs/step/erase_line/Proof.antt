@@ -1,5 +1,4 @@
 -- `step::erase_line` meets its contract: what `erase` promises, and its number. Assumes nothing.
-use Rattle.model.specs.Edition.{editionOf}
 use borrow.Author.Needs.{needs}
 use Rattle.dialog.proofs.step.erase_line.Statement.{statement}
 use Rattle.dialog.proofs.step.erase_line.Tie as tie
@@ -20,7 +19,6 @@ same-length-2 : tie.Need-same-length-2
 same-length-2 c = search needs
 
 returns : tie.Need-returns
-unfolding editionOf
 returns c =
     let a = c .before .before .number .ensures in
     let e = c .before .before .before .erase-number .ensures in

@@ -3,7 +3,6 @@ use mathlib.Core.List.{[]}
 use mathlib.Core.Path.{sym, refl, _∙_}
 use native.Mathlib.Omega.{arith}
 use lib.Seq.{length-take-le}
-use Rattle.model.specs.Edition.{editionOf}
 use borrow.Author.Needs.{needs}
 use Rattle.dialog.proofs.AnswerLaws.{above, formats, refuses}
 use Rattle.dialog.proofs.step.format_line.Statement.{statement}
@@ -40,7 +39,6 @@ same-length-3 : tie.Need-same-length-3
 same-length-3 c = search needs
 
 returns-2 : tie.Need-returns-2
-unfolding editionOf
 returns-2 c =
     let q = c .before .before .before .number2 .ensures in
     let f = c .before .before .before .before .before .before .before .before in
@@ -58,7 +56,6 @@ same-length-5 : tie.Need-same-length-5
 same-length-5 c = search needs
 
 returns-3 : tie.Need-returns-3
-unfolding editionOf
 returns-3 c =
     let q = c .before .before .before .number2 .ensures in
     let f = c .before .before .before .before .before .before .before .before in

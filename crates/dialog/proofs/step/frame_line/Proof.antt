@@ -1,7 +1,6 @@
 -- `step::frame_line` meets its contract: each arm by the call that it makes. Assumes nothing.
 use mathlib.Core.Path.{refl}
 use borrow.Author.Needs.{needs}
-use Rattle.model.specs.Edition.{edition1}
 use Rattle.dialog.proofs.StepLaws.{asks}
 use Rattle.dialog.proofs.step.frame_line.Statement.{statement}
 use Rattle.dialog.proofs.step.frame_line.Tie as tie
@@ -88,7 +87,7 @@ same-length-10 : tie.Need-same-length-10
 same-length-10 c = search needs
 
 returns-5 : tie.Need-returns-5
-returns-5 c = let q = c .before .before .question .ensures in let z = c .before .before .before .before .before .before .before .before .before .args in record { within = q .within; text = asks edition1 (z .line .now) (z .command) (c .before .before .before .before .match .keys5) (q .text, refl) }
+returns-5 c = let q = c .before .before .question .ensures in record { within = q .within; text = asks _ _ (c .before .before .before .before .before .before .before .before .before .args .command) (c .before .before .before .before .match .keys5) (q .text, refl) }
 
 pub frame-line-spec : {M : Type 1} → statement M
 frame-line-spec =

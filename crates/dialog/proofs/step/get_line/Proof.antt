@@ -1,7 +1,6 @@
 -- `step::get_line` meets its contract: the two look-up calls find the same. Assumes nothing.
 use mathlib.Core.Path.{sym, _∙_}
 use native.Mathlib.Omega.{arith}
-use Rattle.model.specs.Edition.{editionOf}
 use borrow.Author.Needs.{needs}
 use Rattle.lines.proofs.TextLaws.{followed}
 use Rattle.dialog.proofs.AnswerLaws.{whole, short, misses, finds}
@@ -21,7 +20,6 @@ same-length : tie.Need-same-length
 same-length c = search needs
 
 returns : tie.Need-returns
-unfolding editionOf
 returns c =
     let a = c .before .before .number .ensures in
     record { within = a .within; text = misses _ (c .before .before .before .before .before .before .look-up .ensures) _ (c .before .before .before .before .before .look-up-number .ensures) (c .before .before .before .before .if1 .taken) (a .text) }
@@ -48,7 +46,6 @@ same-length-2 : tie.Need-same-length-2
 same-length-2 c = search needs
 
 returns-2 : tie.Need-returns-2
-unfolding editionOf
 returns-2 c =
     let w : _ = whole (omega (arith, short (c .before .before .before .before .before .before .before .before .value .ensures .promise))) (followed (followed (c .before .before .before .before .before .before .before .before .before .before .before .before .append .ensures) (c .before .before .before .before .before .before .before .append2 .ensures)) (c .before .before .append3 .ensures)) in
     record { within = w .within; text = finds _ (c .before .before .before .before .before .before .before .before .before .before .before .before .before .before .before .before .before .look-up .ensures) (sym (c .before .before .before .before .before .before .before .before .before .before .before .before .before .before .before .before .look-up-number .ensures) ∙ c .before .before .before .before .before .before .before .before .before .before .before .before .before .before .before .if1 .left) (c .before .before .before .before .before .before .before .before .value .ensures .promise) (w .text) }

@@ -1,7 +1,6 @@
 -- `step::pack_line` meets its contract: a frame that is packed is good, so it has a header to read. Assumes nothing.
 use mathlib.Core.Path.{sym, _∙_}
 use native.Mathlib.Omega.{arith}
-use Rattle.model.specs.Edition.{editionOf}
 use borrow.Author.Needs.{needs}
 use Rattle.dialog.proofs.AnswerLaws.{tall, fails, packs}
 use Rattle.dialog.proofs.step.pack_line.Statement.{statement}
@@ -23,7 +22,6 @@ same-length-2 : tie.Need-same-length-2
 same-length-2 c = search needs
 
 returns : tie.Need-returns
-unfolding editionOf
 returns c =
     let a = c .before .before .number .ensures in
     let e = c .before .before .before .before .before .pack-number .ensures in
@@ -48,7 +46,6 @@ same-length-4 : tie.Need-same-length-4
 same-length-4 c = search needs
 
 returns-2 : tie.Need-returns-2
-unfolding editionOf
 returns-2 c =
     let a = c .before .before .counts .ensures in
     let e = c .before .before .before .before .before .before .before .before .before .before .before .pack-number .ensures in

@@ -4,7 +4,6 @@ use native.Mathlib.Omega.{arith}
 use lib.ListN.{length, take}
 use lib.Seq.{length-take-le}
 use borrow.Author.Needs.{needs}
-use Rattle.model.specs.Edition.{edition1}
 use Rattle.dialog.proofs.StepLaws.{goes, without, within, bounded}
 use Rattle.dialog.proofs.step.step.Statement.{statement}
 use Rattle.dialog.proofs.step.step.Tie as tie
@@ -40,11 +39,8 @@ returns-2 : tie.Need-returns-2
 returns-2 c =
     let q = c .before .before .question .ensures in
     let m = c .before .before .before .before .before in
-    let z = m .before .before .before .before .before .before .args in
-    let l = z .line .now in
-    let r = m .before .parse .result in
-    let d = without edition1 l (z .buffer .now) (z .long) r (c .before .before .before .before .if1 .taken) (q .text) in
-    (record { within = q .within; text = rw (m .before .parse .ensures .means) at (goes edition1 l r (m .match .keys2) d) }, omega arith)
+    let p = m .before .parse in
+    (record { within = q .within; text = rw (← p .ensures .means) (goes _ _ (p .result) (m .match .keys2) (without _ _ _ _ (p .result) (c .before .before .before .before .if1 .taken) (q .text))) }, omega arith)
 
 slice-relend-prefix-frame-line : tie.Need-slice-relend-prefix-frame-line
 slice-relend-prefix-frame-line c = search needs
@@ -76,13 +72,12 @@ same-length-6 c = search needs
 
 returns-3 : tie.Need-returns-3
 returns-3 c =
-    let q = c .before .before .before .before .before .before .frame-line .ensures in
+    let f = c .before .before .before .before .before .before .frame-line in
     let m = c .before .before .before .before .before .before .before .before .before .before .before in
+    let p = m .before .parse in
     let z = m .before .before .before .before .before .before .args in
-    let l = z .line .now in
-    let r = m .before .parse .result in
-    let d = within edition1 l (z .buffer .now) (c .before .before .before .before .before .before .frame-line .last .0) (z .long) r (omega arith) (c .before .before .before .before .before .buffer2 .given .0) (c .before .before .before .before .before .before .before .before .before .before .if1 .left) (q .text) in
-    (record { within = q .within; text = rw (m .before .parse .ensures .means) at (goes edition1 l r (m .match .keys2) d) }, omega arith)
+    let d = within _ _ (z .buffer .now) (f .last .0) (z .long) (p .result) (omega arith) (c .before .before .before .before .before .buffer2 .given .0) (c .before .before .before .before .before .before .before .before .before .before .if1 .left) (f .ensures .text) in
+    (record { within = f .ensures .within; text = rw (← p .ensures .means) (goes _ _ (p .result) (m .match .keys2) d) }, omega arith)
 
 pub step-spec : {M : Type 1} → statement M
 step-spec =

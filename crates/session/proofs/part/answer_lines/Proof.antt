@@ -5,7 +5,7 @@ use mathlib.Core.List.{List}
 use native.Mathlib.Omega.{arith}
 use lib.ListN.{length, take, drop}
 use borrow.Author.Needs.{needs}
-use Rattle.model.specs.Edition.{edition1}
+use Rattle.model.specs.Edition.{editionOf}
 use Rattle.lines.specs.Input.{Held}
 use Rattle.session.specs.Part.{Part}
 use Rattle.session.proofs.PartLaws.{moved, begins, on}
@@ -18,7 +18,7 @@ Inv-loop buffer₀ packed₀ held₀ out₀ piece from long have long₀ have₀
     × (from ≤ next) × (next ≤ length piece) × (long' ≤ 16384) × (next ≡ from → written ≡ 0)
     × ((written ≤ length out)
     × ((begun : List ℕ) → Held begun held₀ have
-    → Part edition1 buffer₀ long begun (take (next - from) (drop from piece)) buffer long' held have' (take written out)))
+    → Part (editionOf 1) buffer₀ long begun (take (next - from) (drop from piece)) buffer long' held have' (take written out)))
 
 abbrev μ-loop : tie.MeasureT-loop
 μ-loop buffer₀ packed₀ held₀ out₀ piece from long have long₀ have₀ next₀ written₀ buffer packed held out long' have' next written = length piece - next
