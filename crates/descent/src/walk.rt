@@ -6,6 +6,7 @@ use fields::header::Header;
 use inner::look;
 use layout::entry::Entry;
 use layout::kind::Kind;
+ghost use mathlib.Core.Path.{_≡_};
 ghost use mathlib.Core.List.{List};
 ghost use Prim.Native.Nat.{ℕ};
 ghost use Rattle.model.specs.Edition.{Edition, editionOf, Legal};
@@ -96,12 +97,12 @@ pub const SHORT_KEY: usize = 31;
 
 pub const SHORT_WORD: usize = 64;
 
-// The same by the walked string of any key, written out in a word of its own.
+// The same in edition 2 by the walked string of any key, written out in a word of its own.
 pub fn descend_long(f: &[u8], key: &[u8], edition: usize) -> Spot
-    requires { ⌜ Standing (editionOf edition) (now f) × Legal (editionOf edition) (now key) ⌝ }
+    requires { ⌜ Standing (editionOf edition) (now f) × Legal (editionOf edition) (now key) × (edition ≡ 2) ⌝ }
     ensures { λ r. ⌜ ((st : State) (W : Stands (editionOf edition) (now (f .entry)) st) → SpotAt (editionOf edition) (now (key .entry)) (W .root) r) ⌝ }
 {
     let mut word: [u8; keys::LONGEST_WORD] = [0; keys::LONGEST_WORD];
-    let n = keys::walk(key, &mut word, edition);
+    let n = keys::spell(key, &mut word);
     descend(f, key, &word[0..n], edition)
 }

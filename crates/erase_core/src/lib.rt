@@ -45,7 +45,7 @@ fn spot_of(f: &[u8], key: &[u8], edition: usize) -> Spot
     if edition == keys::SECOND {
         if key.len() <= walk::SHORT_KEY {
             let mut word: [u8; walk::SHORT_WORD] = [0; walk::SHORT_WORD];
-            let n = keys::walk(key, &mut word, edition);
+            let n = keys::spell(key, &mut word);
             return walk::descend(f, key, &word[0..n], edition);
         }
         return walk::descend_long(f, key, edition);

@@ -24,12 +24,6 @@ use Rattle.model.proofs.Edition1.{zero-free, free-zero, positive-at, at-positiv
 
 -- ---- the walked string
 
-pub walked-in : (k : List ℕ) (d : ℕ) → d < length k → getD k d 0 ≡ getD (ended k) d 0
-walked-in k d h = sym (walked-at k d)
-
-pub walked-out : (k : List ℕ) (d : ℕ) → length k ≤ d → 0 ≡ getD (ended k) d 0
-walked-out k d h = sym (walked-at k d ∙ List·getD-eq-default k 0 h)
-
 pub ended-length : (k : List ℕ) → length (ended k) ≡ length k + 1
 ended-length k = length-append k (0 ∷ [])
 
@@ -174,20 +168,3 @@ module _ (n : ℕ) where
 
   pub byte-other : (k : List ℕ) (d r : ℕ) → (n ≡ 2 → ⊥) → r ≡ getD k d 0 → r ≡ getD (editionOf n .walked k) d 0
   byte-other k d r e q = rw (of-other n e) (q ∙ sym (walked-at k d))
-
-  pub room-two : (k : List ℕ) (m : ℕ) → n ≡ 2 → length (editionOf n .walked k) ≤ m → length (escaped k) ≤ m
-  room-two k m e h = rw (of-two n e) at h
-
-  pub room-other : (k : List ℕ) (m : ℕ) → (n ≡ 2 → ⊥) → length (editionOf n .walked k) ≤ m → length k < m
-  room-other k m e h = let g = rw (of-other n e) at h in omega (arith, g, ended-length k)
-
-  pub spelt-two : (k g : List ℕ) (r : ℕ) → n ≡ 2 → Spelt (escaped k) g r → Spelt (editionOf n .walked k) g r
-  spelt-two k g r e S = rw (of-two n e) S
-
-  -- the key and then one byte 0
-  pub spelt-other : (k f g : List ℕ) → (n ≡ 2 → ⊥) → length k < length g → Pasted f g 0 (length k) k → Spelt (editionOf n .walked k) (set g (length k) 0) (length k + 1)
-  spelt-other k f g e h P =
-      rw (of-other n e) (record {
-        long = sym (ended-length k);
-        text = one-set g (length k) 0 h ∙ ap (λ x. x ++ 0 ∷ []) (pasted-key k f g (omega arith) P);
-      })

@@ -10,8 +10,8 @@ use lib.ListN.{length, take, drop, getD, length-append, length-take}
 use lib.Seq.{drop-at, drop-append-le}
 use borrow.Author.Tests.{eq-eqb, ne-eqb}
 use Rattle.model.specs.Strings.{shared}
-use Rattle.model.specs.Edition.{Edition, Legal, Lawful, editionOf}
-use Rattle.model.proofs.Edition2.{of-other}
+use Rattle.model.specs.Edition.{Edition, Legal, Lawful, editionOf, escaped}
+use Rattle.model.proofs.Edition2.{lawfulOf, of-two, of-other}
 use Rattle.model.proofs.WellLaws.{Inside, inside-left, not-inside}
 use Rattle.keys.specs.Word.{Spelt, Spells}
 use Rattle.keys.proofs.KeyLaws.{drop-past}
@@ -19,10 +19,10 @@ use Rattle.keys.proofs.KeyLaws.{drop-past}
 -- ---- words that are read
 
 -- the part from 0 to n of the slice that it is written to
-pub spells-walked : (E : Edition) (k g : List ℕ) (n : ℕ) → Spelt (E .walked k) g n → Spells E k (take (n - 0) g)
-spells-walked E k g n S =
-    let e : n - 0 ≡ n = omega arith in
-    rw e (record { rest = []; whole = sym (append-nil (take n g) ∙ S .text); last = inl refl })
+pub spells-walked : (n : ℕ) (k g : List ℕ) (m : ℕ) → n ≡ 2 → Spelt (escaped k) g m → Spells (editionOf n) k (take (m - 0) g)
+spells-walked n k g m e S =
+    let z : m - 0 ≡ m = omega arith in
+    rw z (record { rest = []; whole = rw (of-two n e) (sym (append-nil (take m g) ∙ S .text)); last = inl refl })
 
 pub spelt-within : {w g : List ℕ} {n : ℕ} → Spelt w g n → n ≤ length g
 spelt-within {w} {g} {n} S = omega (arith, S .long, ap length (S .text), length-take n g)
@@ -33,6 +33,9 @@ spells-key n k e = record { rest = 0 ∷ []; whole = rw (of-other n e) refl; las
 
 pub word-fits : {E : Edition} → Lawful E → (k : List ℕ) → Legal E k → length (E .walked k) ≤ 512
 word-fits L k l = omega (arith, L .short k l, L .fields .words)
+
+pub escaped-fits : (n : ℕ) (k : List ℕ) → n ≡ 2 → Legal (editionOf n) k → length (escaped k) ≤ 512
+escaped-fits n k e l = let h = word-fits (lawfulOf n) k l in rw (of-two n e) at h
 
 -- ---- a byte
 

@@ -103,8 +103,9 @@ fn escape(key: &[u8], word: &mut [u8]) -> usize
     n + 2
 }
 
-// The walked string of edition 2: a key without a byte 0 is copied, and any other escaped byte by byte.
-fn spell(key: &[u8], word: &mut [u8]) -> usize
+// Writes the walked string that a key has in edition 2 to the start of `word`; gives its length. A key without a byte 0 is copied, and any other
+// escaped byte by byte.
+pub fn spell(key: &[u8], word: &mut [u8]) -> usize
     requires { ⌜ (length (escaped (now key)) ≤ length (now word)) × (length (now word) < 65536) ⌝ }
     ensures { λ r. ⌜ Spelt (escaped (now (key .entry))) (now (word .exit)) r ⌝ }
 {
@@ -116,20 +117,6 @@ fn spell(key: &[u8], word: &mut [u8]) -> usize
     word[n] = 0;
     word[n + 1] = 0;
     n + END
-}
-
-// Writes the walked string of a key to the start of `word`; gives its length.
-pub fn walk(key: &[u8], word: &mut [u8], edition: usize) -> usize
-    requires { ⌜ (length (editionOf edition .walked (now key)) ≤ length (now word)) × (length (now word) < 65536) ⌝ }
-    ensures { λ r. ⌜ Spelt (editionOf edition .walked (now (key .entry))) (now (word .exit)) r ⌝ }
-{
-    if edition == SECOND {
-        return spell(key, word);
-    }
-    let n = key.len();
-    fill::paste(word, 0, key);
-    word[n] = 0;
-    n + 1
 }
 
 // The byte of a walked string at a depth, 0 past its end.

@@ -7,9 +7,8 @@ use lib.ListN.{length, take, length-append, length-take}
 use lib.Seq.{take-take, take-at, take-all}
 use borrow.Author.Tests.{eq-eqb, ne-eqb}
 use Rattle.model.specs.Edition.{editionOf, escaped}
-use Rattle.model.proofs.Edition2.{escaped-length, of-two, of-other}
+use Rattle.model.proofs.Edition2.{of-two, of-other}
 use Rattle.keys.specs.Word.{Spelt}
-use Rattle.keys.proofs.EscapeLaws.{long-two}
 use Rattle.listing.specs.Listing.{prefixLimit}
 use Rattle.listing.specs.Bound.{escapes, boundOf}
 use Rattle.listing.proofs.BoundLaws.{guidesOf}
@@ -30,23 +29,15 @@ spelt-part {w} {g} {n} x y m S e q =
     sym (take-take m n g (omega (arith, S .long, ap length e, length-append x y))) ∙ ap (take m) (S .text ∙ e) ∙ take-at x y m (sym q)
 
 module _ (g : List ℕ) where
-  pub walked-fits : length g ≤ 255 → length (editionOf 2 .walked g) ≤ 512
-  unfolding editionOf
-  walked-fits h = omega (arith, escaped-length g)
-
-  pub walked-two : 2 ≤ length (editionOf 2 .walked g)
-  unfolding editionOf
-  walked-two = long-two g
-
   -- past the key that is the text, and from the text on or past all that begin with it
-  pub bound-past : {w : List ℕ} {n : ℕ} (t : ℕ) → t ≡ 1 → Spelt (editionOf 2 .walked g) w n → take (n - 1) w ≡ boundOf (editionOf 2) g t
+  pub bound-past : {w : List ℕ} {n : ℕ} (t : ℕ) → t ≡ 1 → Spelt (escaped g) w n → take (n - 1) w ≡ boundOf (editionOf 2) g t
   unfolding editionOf
   bound-past {w} {n} t e S =
       rw (eq-eqb t 1 e)
       (spelt-part (escapes g ++ 0 ∷ []) (0 ∷ []) (n - 1) S (escaped-ends g ∙ sym (append-assoc (escapes g) (0 ∷ []) (0 ∷ [])))
       (omega (arith, S .long, ap length (escaped-ends g), length-append (escapes g) (0 ∷ 0 ∷ []), length-append (escapes g) (0 ∷ []))))
 
-  pub bound-text : {w : List ℕ} {n : ℕ} (t : ℕ) → (t ≡ 1 → ⊥) → Spelt (editionOf 2 .walked g) w n → take (n - 2) w ≡ boundOf (editionOf 2) g t
+  pub bound-text : {w : List ℕ} {n : ℕ} (t : ℕ) → (t ≡ 1 → ⊥) → Spelt (escaped g) w n → take (n - 2) w ≡ boundOf (editionOf 2) g t
   unfolding editionOf
   bound-text {w} {n} t e S =
       rw (ne-eqb t 1 e, append-nil (escapes g))
@@ -88,10 +79,10 @@ module _ (n : ℕ) where
       let b : boundOf (editionOf n) g t ≡ chosenOf (editionOf n) g (take m w) = rw e (sym q) ∙ sym (choose-two e g (take m w)) in
       record { inside = h; guides = rw b at (guidesOf n g t) }
 
-  pub spelt-past : (g : List ℕ) (t : ℕ) {w : List ℕ} {m : ℕ} → n ≡ 2 → t ≡ 1 → Spelt (editionOf 2 .walked g) w m → SpeltBound (editionOf n) g t w (m - 1)
+  pub spelt-past : (g : List ℕ) (t : ℕ) {w : List ℕ} {m : ℕ} → n ≡ 2 → t ≡ 1 → Spelt (escaped g) w m → SpeltBound (editionOf n) g t w (m - 1)
   spelt-past g t {w} {m} e q S = spelt-two g t w (m - 1) e (let h = spelt-fits S in omega arith) (bound-past g t q S)
 
-  pub spelt-text : (g : List ℕ) (t : ℕ) {w : List ℕ} {m : ℕ} → n ≡ 2 → (t ≡ 1 → ⊥) → Spelt (editionOf 2 .walked g) w m → SpeltBound (editionOf n) g t w (m - 2)
+  pub spelt-text : (g : List ℕ) (t : ℕ) {w : List ℕ} {m : ℕ} → n ≡ 2 → (t ≡ 1 → ⊥) → Spelt (escaped g) w m → SpeltBound (editionOf n) g t w (m - 2)
   spelt-text g t {w} {m} e q S = spelt-two g t w (m - 2) e (let h = spelt-fits S in omega arith) (bound-text g t q S)
 
   -- a text of no byte

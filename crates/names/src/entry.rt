@@ -127,7 +127,7 @@ fn spelt(text: &[u8], tail: usize, word: &mut [u8], edition: usize) -> usize
             return 0;
         }
     }
-    let n = keys::walk(text, word, keys::SECOND);
+    let n = keys::spell(text, word);
     if tail == PAST_KEY {
         return n - 1;
     }

@@ -107,7 +107,7 @@ pub fn put_new(f: &mut [u8], key: &[u8], value: &[u8], stamp: usize, edition: us
 {
     if edition == keys::SECOND {
         let mut word: [u8; keys::LONGEST_WORD] = [0; keys::LONGEST_WORD];
-        let n = keys::walk(key, &mut word, edition);
+        let n = keys::spell(key, &mut word);
         return new_by(f, key, &word[0..n], value, stamp, edition);
     }
     new_by(f, key, key, value, stamp, edition)
@@ -143,7 +143,7 @@ pub fn replace(f: &mut [u8], key: &[u8], value: &[u8], stamp: usize, edition: us
 {
     if edition == keys::SECOND {
         let mut word: [u8; keys::LONGEST_WORD] = [0; keys::LONGEST_WORD];
-        let n = keys::walk(key, &mut word, edition);
+        let n = keys::spell(key, &mut word);
         return replace_by(f, key, &word[0..n], value, stamp, edition);
     }
     replace_by(f, key, key, value, stamp, edition)
@@ -185,7 +185,7 @@ pub fn put_or_replace(
 {
     if edition == keys::SECOND {
         let mut word: [u8; keys::LONGEST_WORD] = [0; keys::LONGEST_WORD];
-        let n = keys::walk(key, &mut word, edition);
+        let n = keys::spell(key, &mut word);
         return either_by(f, key, &word[0..n], value, stamp, edition);
     }
     either_by(f, key, key, value, stamp, edition)

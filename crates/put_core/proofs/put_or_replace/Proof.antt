@@ -1,16 +1,15 @@
 -- `put_or_replace`: edition 2 reads the walked string, written out; edition 1 the key itself. Assumes nothing.
 use native.Mathlib.Omega.{arith}
-use Rattle.model.proofs.Edition2.{lawfulOf}
-use Rattle.keys.proofs.WordLaws.{word-fits, spells-walked, spelt-within, spells-key}
+use Rattle.keys.proofs.WordLaws.{escaped-fits, spells-walked, spelt-within, spells-key}
 use borrow.Author.Needs.{needs}
 use Rattle.put_core.proofs.put_or_replace.Statement.{statement}
 use Rattle.put_core.proofs.put_or_replace.Tie as tie
 
-slice-aggregate-walk : tie.Need-slice-aggregate-walk
-slice-aggregate-walk c = search needs
+slice-aggregate-spell : tie.Need-slice-aggregate-spell
+slice-aggregate-spell c = search needs
 
-walk-requires : tie.Need-walk-requires
-walk-requires c κs = (word-fits (lawfulOf _) _ (c .before .before .before .before .before .pre .legal), omega arith)
+spell-requires : tie.Need-spell-requires
+spell-requires c κs = (escaped-fits _ _ (c .before .if1 .taken) (c .before .before .before .before .before .pre .legal), omega arith)
 
 sub-either-by : tie.Need-sub-either-by
 sub-either-by c = search needs
@@ -19,12 +18,12 @@ part-either-by-start : tie.Need-part-either-by-start
 part-either-by-start c = search needs
 
 part-either-by-end : tie.Need-part-either-by-end
-part-either-by-end c = spelt-within (c .before .before .before .walk .ensures)
+part-either-by-end c = spelt-within (c .before .before .before .spell .ensures)
 
 either-by-requires : tie.Need-either-by-requires
 either-by-requires c κs =
-    let walk = c .before .before .before .before in
-    (walk .before .before .before .before .before .before .pre, spells-walked _ _ _ _ (walk .walk .ensures))
+    let spelt = c .before .before .before .before in
+    (spelt .before .before .before .before .before .before .pre, spells-walked _ _ _ _ (spelt .before .before .if1 .taken) (spelt .spell .ensures))
 
 same-length : tie.Need-same-length
 same-length c = search needs
@@ -45,8 +44,8 @@ pub put-or-replace-spec : {M : Type 1} → statement M
 put-or-replace-spec =
     tie.close
     (tie.spec
-    slice-aggregate-walk
-    walk-requires
+    slice-aggregate-spell
+    spell-requires
     sub-either-by
     part-either-by-start
     part-either-by-end

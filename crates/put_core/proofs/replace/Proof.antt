@@ -1,16 +1,15 @@
 -- `replace`: edition 2 reads the walked string, written out; edition 1 the key itself. Assumes nothing.
 use native.Mathlib.Omega.{arith}
-use Rattle.model.proofs.Edition2.{lawfulOf}
-use Rattle.keys.proofs.WordLaws.{word-fits, spells-walked, spelt-within, spells-key}
+use Rattle.keys.proofs.WordLaws.{escaped-fits, spells-walked, spelt-within, spells-key}
 use borrow.Author.Needs.{needs}
 use Rattle.put_core.proofs.replace.Statement.{statement}
 use Rattle.put_core.proofs.replace.Tie as tie
 
-slice-aggregate-walk : tie.Need-slice-aggregate-walk
-slice-aggregate-walk c = search needs
+slice-aggregate-spell : tie.Need-slice-aggregate-spell
+slice-aggregate-spell c = search needs
 
-walk-requires : tie.Need-walk-requires
-walk-requires c κs = (word-fits (lawfulOf _) _ (c .before .before .before .before .before .pre .legal), omega arith)
+spell-requires : tie.Need-spell-requires
+spell-requires c κs = (escaped-fits _ _ (c .before .if1 .taken) (c .before .before .before .before .before .pre .legal), omega arith)
 
 sub-replace-by : tie.Need-sub-replace-by
 sub-replace-by c = search needs
@@ -19,12 +18,12 @@ part-replace-by-start : tie.Need-part-replace-by-start
 part-replace-by-start c = search needs
 
 part-replace-by-end : tie.Need-part-replace-by-end
-part-replace-by-end c = spelt-within (c .before .before .before .walk .ensures)
+part-replace-by-end c = spelt-within (c .before .before .before .spell .ensures)
 
 replace-by-requires : tie.Need-replace-by-requires
 replace-by-requires c κs =
-    let walk = c .before .before .before .before in
-    (walk .before .before .before .before .before .before .pre, spells-walked _ _ _ _ (walk .walk .ensures))
+    let spelt = c .before .before .before .before in
+    (spelt .before .before .before .before .before .before .pre, spells-walked _ _ _ _ (spelt .before .before .if1 .taken) (spelt .spell .ensures))
 
 same-length : tie.Need-same-length
 same-length c = search needs
@@ -45,8 +44,8 @@ pub replace-spec : {M : Type 1} → statement M
 replace-spec =
     tie.close
     (tie.spec
-    slice-aggregate-walk
-    walk-requires
+    slice-aggregate-spell
+    spell-requires
     sub-replace-by
     part-replace-by-start
     part-replace-by-end
