@@ -8,7 +8,7 @@ use layout::kind::Kind;
 use moves::fill;
 use room::heap;
 ghost use mathlib.Core.Path.{_≡_};
-ghost use Prim.Native.Nat.{_+_, _-_, _≤_, _<_};
+ghost use Prim.Native.Nat.{_+_, _-_, _%_, _≤_, _<_};
 ghost use lib.ListN.{length};
 ghost use Rattle.layout.specs.Entry.{highOf};
 ghost use Rattle.model.specs.Tree.{chain};
@@ -17,12 +17,23 @@ ghost use Rattle.chain.specs.Row.{Writes, RowWritten, Takes, RowTaken, F
 // The most Prefixes of a shared beginning: no walked string has more than 512 bytes.
 pub const MOST: usize = 5;
 
+// Divided in 32 bits: a machine of 32 bits has no division of 64, and the archive asks for no function that makes one up.
+const FULL: u32 = Prefix::MOST as u32;
+
 // How many Prefixes n bytes come to.
 pub fn bodies_of(n: usize) -> usize
     requires { ⌜ n < 65536 ⌝ }
     ensures { λ r. ⌜ r ≡ chain n ⌝ }
 {
-    (n + (Prefix::MOST - 1)) / Prefix::MOST
+    ((n + (Prefix::MOST - 1)) as u32 / FULL) as usize
+}
+
+// How many of n bytes stand in a Prefix that is not full.
+pub fn left_of(n: usize) -> usize
+    requires { ⌜ n < 65536 ⌝ }
+    ensures { λ r. ⌜ r ≡ n % 112 ⌝ }
+{
+    (n as u32 % FULL) as usize
 }
 
 // The bodies of a row become the chain of these bytes above a child: its first slot. The last piece is written first, so that each names the next.

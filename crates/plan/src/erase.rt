@@ -2,7 +2,6 @@
 use crate::run;
 use descent::spot::Spot;
 use erase_join::join;
-use fields::body::Prefix;
 use inner::look;
 use layout::entry::Entry;
 use layout::kind;
@@ -29,7 +28,7 @@ fn joining(f: &[u8], key: &[u8], spot: Spot) -> Needs
         return none;
     }
     // the last Prefix of the run has room
-    if run::long(f, other.slot) % Prefix::MOST != 0 {
+    if chain::left_of(run::long(f, other.slot)) != 0 {
         return none;
     }
     none.with(Kind::PREFIX)

@@ -21,13 +21,13 @@ add-result : tie.Need-add-result
 add-result c =
     let child = c .before in
     let own = child .before .before in
-    omega (arith, begun-fits (own .before .before .pre) (own .length .ensures .0) (child .child .ensures .0) (c .long .ensures))
+    omega (arith, begun-fits (own .before .before .pre) (own .length .ensures .0) (child .child .ensures .0) (c .long .ensures .0))
 
 returns-2 : tie.Need-returns-2
 returns-2 c =
     let child = c .before in
     let own = child .before .before in
-    begun-full (own .length .ensures .0) (child .child .ensures .0) (c .long .ensures)
+    begun-full (own .length .ensures .0) (child .child .ensures .0) (c .long .ensures .0)
 
 pub beginning-spec : {M : Type 1} → statement M
 beginning-spec =

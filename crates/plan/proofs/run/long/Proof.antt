@@ -21,7 +21,7 @@ read-requires c κs = run-slot (c .loop .inv .1) (c .before .before .pre)
 returns : tie.Need-returns Inv-loop μ-loop
 returns c =
     let read = c .before .before in
-    run-end (read .before .loop .inv .1) (λ q. omega (arith, read .read .ensures .0))
+    (run-end (read .before .loop .inv .1) (λ q. omega (arith, read .read .ensures .0)), read .before .loop .inv .0)
 
 length-requires : tie.Need-length-requires Inv-loop μ-loop
 length-requires c κs =
