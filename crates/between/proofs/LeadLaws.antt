@@ -205,11 +205,6 @@ hangs-free [] a a' n h = tt
 hangs-free (under s o p ∷ xs) a a' n h = absurd n
 hangs-free (among s o kind ls b j rs ∷ xs) a a' n h = (tt, hangs-above (among s o kind ls b j rs) xs a a' (h .1))
 
--- below a Prefix
-pub hangs-under : (s o : ℕ) (p : List ℕ) (xs : List Step) (kind : ℕ) (ks : Kids) → HangsIn (under s o p ∷ xs) (Art.node kind ks) → HangsIn xs (Art.prefix p (Art.node kind ks))
-unfolding HangsIn artStep
-hangs-under s o p xs kind ks h = h .1
-
 -- ---- through all
 
 pub path-length : (x : Step) (xs : List Step) → length (pathOf (x ∷ xs)) ≡ length (pathOf xs) + length (stepPath x)

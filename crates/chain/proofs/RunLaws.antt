@@ -1,9 +1,9 @@
 -- The run of Prefixes on top of a tree that stands: what it is, and that its last body alone may be short. Assumes nothing.
 use Prim.Native.Nat.{ℕ, suc, _+_, _-_, _<_, _≤_}
 use mathlib.Core.Path.{_≡_, refl, sym, ap, _∙_}
-use mathlib.Core.List.{List, [], _∷_, _++_, append-nil}
+use mathlib.Core.List.{List, [], _∷_, _++_}
 use native.Mathlib.Omega.{arith}
-use lib.ListN.{length, getD, length-append}
+use lib.ListN.{length, length-append}
 use Rattle.layout.specs.Kind.{Prefix}
 use Rattle.layout.specs.Entry.{placeOf}
 use Rattle.model.specs.Edition.{Edition}
@@ -11,7 +11,6 @@ use Rattle.model.specs.Tree.{chain, asPrefix}
 use Rattle.model.specs.Item.{Item, body, sum, Same}
 use Rattle.model.specs.Frame.{Lay, IsNode, Below, atop, art, items, Tree, View, Heap}
 use Rattle.model.specs.Frame.Lay.{leaf, prefix, node}
-use Rattle.model.proofs.StringLaws.{clash}
 use Rattle.model.proofs.ItemLaws.{sum-cons}
 use Rattle.model.proofs.ChainLaws.{as-some, atop-as}
 use Rattle.model.proofs.OneBody.{node-inner}
@@ -68,20 +67,6 @@ run-sum w (node s o kind ks) = omega (arith, sum-none w)
 pub row-app : (w : Item → ℕ) (xs ys : List (ℕ × ℕ)) → sum w (rowItems (xs ++ ys) []) ≡ sum w (rowItems xs []) + sum w (rowItems ys [])
 row-app w [] ys = omega (arith, sum-none w)
 row-app w (x ∷ xs) ys = omega (arith, row-app w xs ys, sum-cons w (body (x .0) Prefix (x .1)) (rowItems (xs ++ ys) []), sum-cons w (body (x .0) Prefix (x .1)) (rowItems xs []))
-
--- a run of one body
-one-body : (n o s o' : ℕ) (p : List ℕ) (t : Lay) → _≡_ {A = List (ℕ × ℕ)} ((s, o') ∷ []) ((n, o) ∷ []) → prefix s o' p t ≡ prefix n o (p ++ []) t
-one-body n o s o' p t b =
-    let es : s ≡ n = ap (λ (l : List (ℕ × ℕ)). getD l 0 (0, 0) .0) b in
-    let eo : o' ≡ o = ap (λ (l : List (ℕ × ℕ)). getD l 0 (0, 0) .1) b in
-    ap (λ x. prefix s o' x t) (sym (append-nil p)) ∙ ap (λ x. prefix x o' (p ++ []) t) es ∙ ap (λ x. prefix n x (p ++ []) t) eo
-
-pub run-one : (n o : ℕ) (t : Lay) → _≡_ {A = List (ℕ × ℕ)} (bodiesOf t) ((n, o) ∷ []) → t ≡ prefix n o (bytesOf t) (tipOf t)
-run-one n o (leaf s o' e k v) b = clash (cc)
-run-one n o (node s o' kind ks) b = clash (cc)
-run-one n o (prefix s o' p (prefix s' o'' p' t)) b = absurd (omega (arith, ap length b))
-run-one n o (prefix s o' p (leaf s' o'' e k v)) b = one-body n o s o' p (leaf s' o'' e k v) b
-run-one n o (prefix s o' p (node s' o'' kind ks)) b = one-body n o s o' p (node s' o'' kind ks) b
 
 pub run-not-leaf : (t : Lay) → 1 ≤ length (bytesOf t) → NotLeaf t
 run-not-leaf (leaf s o e k v) l = absurd (omega arith)

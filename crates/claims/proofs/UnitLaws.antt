@@ -106,14 +106,6 @@ fits-seen {m} {d} {b} {is} S E W =
     }
 
 -- and the other way, for an item that has a size
-fits-rest : {d b : ℕ} (i : Item) (is : List Item) → Fits d b (i ∷ is) → Fits d b is
-fits-rest i is F =
-    record {
-      apart = λ a. omega (arith, F .apart a, sum-cons (cover a) i is);
-      low = λ a h. omega (arith, F .low a h, sum-cons (cover a) i is);
-      high = λ a h. omega (arith, F .high a h, sum-cons (cover a) i is);
-    }
-
 pub fits-item : {d b : ℕ} (i : Item) (is : List Item) → Fits d b (i ∷ is) → 1 ≤ bulk i → Within d b i
 fits-item {d} {b} i is F n =
     let covered : (a : ℕ) → place i ≤ a → a < place i + bulk i → 1 ≤ sum (cover a) (i ∷ is) =
@@ -128,7 +120,3 @@ fits-item {d} {b} i is F n =
         | no p ↦ omega arith
       ];
     }
-
-pub fits-within : {d b : ℕ} (is : List Item) → Fits d b is → Each (λ i. 1 ≤ bulk i) is → Each (Within d b) is
-fits-within [] F P = tt
-fits-within (i ∷ is) F P = (fits-item i is F (P .0), fits-within is (fits-rest i is F) (P .1))

@@ -11,7 +11,7 @@ use Rattle.layout.specs.Entry.{highOf, placeOf}
 use Rattle.model.specs.Edition.{Edition, Value}
 use Rattle.model.specs.State.{State}
 use Rattle.model.specs.Item.{Item, body, onSlot, cover, sum}
-use Rattle.model.specs.Frame.{Lay, LayKids, Root, tree, rootItems, slotOf, IsNode, items, itemsAll, freed, Entry, NodeOf, LeafOf, Tree, Stands}
+use Rattle.model.specs.Frame.{Lay, LayKids, Root, tree, rootItems, slotOf, items, itemsAll, freed, Entry, NodeOf, LeafOf, Tree, Stands}
 use Rattle.model.specs.Frame.Lay.{leaf, prefix, node}
 use Rattle.model.specs.Frame.LayKids.{nil, kid}
 use Rattle.model.proofs.ItemLaws.{in-yes, sum-app}
@@ -56,13 +56,6 @@ unfolding Tree
 inner-lay E f path s (leaf s' o e k v) T q low = absurd (omega (arith, entry-at f s' s Leaf (highOf f s) o (placeOf f s) q refl refl (T .0) .0))
 inner-lay E f path s (prefix s' o b l) T q low = absurd (omega (arith, entry-at f s' s Prefix (highOf f s) o (placeOf f s) q refl refl (T .0) .0))
 inner-lay E f path s (node s' o kind ks) T q low = let w = entry-at f s' s kind (highOf f s) o (placeOf f s) q refl refl (T .0) in let y = w .0 in let z = w .1 in record { kids = ks; is = cc }
-
--- what is neither a Leaf nor a Prefix is an inner node
-pub is-node : (E : Edition) (f path : List ℕ) (s : ℕ) (l : Lay) → Tree E f path l → slotOf l ≡ s → (highOf f s ≡ Leaf → ⊥) → (highOf f s ≡ Prefix → ⊥) → IsNode l
-unfolding Tree
-is-node E f path s (leaf s' o e k v) T q x y = absurd (x (rw q at (T .0 .kindIs)))
-is-node E f path s (prefix s' o p l) T q x y = absurd (y (rw q at (T .0 .kindIs)))
-is-node E f path s (node s' o kind ks) T q x y = tt
 
 -- every slot's entry lies in the frame
 pub slot-in : (f : List ℕ) (s : ℕ) (l : Lay) → Inside f l → slotOf l ≡ s → SlotIn f s

@@ -6,7 +6,7 @@ use native.Mathlib.Omega.{arith}
 use lib.ListN.{length}
 use Rattle.layout.specs.Number.{le, put}
 use Rattle.layout.specs.Place.{entryAt}
-use Rattle.layout.specs.Entry.{entryOf, entryPlace, entryHigh, placeOf, highOf}
+use Rattle.layout.specs.Entry.{entryOf, entryPlace, entryHigh}
 use Rattle.layout.proofs.NumberLaws.{le-put}
 
 -- ---- packed, then taken apart
@@ -36,9 +36,3 @@ place-lt e = omega arith
 module _ (f : List ℕ) (s high place : ℕ) (inside : entryAt s + 4 ≤ length f) (h : high < 32768) (p : place < 1048576) where
   pub entry-own : le 4 (put 4 f (entryAt s) (entryOf high place)) (entryAt s) ≡ entryOf high place
   entry-own = le-put 4 f (entryAt s) (entryOf high place) inside (entry-lt high place h p)
-
-  pub high-own : highOf (put 4 f (entryAt s) (entryOf high place)) s ≡ high
-  high-own = rw entry-own (high-of-entry high place p)
-
-  pub place-own : place % 8 ≡ 0 → placeOf (put 4 f (entryAt s) (entryOf high place)) s ≡ place
-  place-own e = rw entry-own (place-of-entry high place p e)

@@ -7,7 +7,7 @@ use mathlib.Core.Logic.{⊎-elim, _⊎_, inl, inr}
 use mathlib.Core.Bool.{Bool, true, false}
 use native.Mathlib.Omega.{arith}
 use native.Mathlib.Nat.{pow-suc, eq-or-lt-of-le}
-use borrow.Author.Tests.{leb-true, le-leb, ltb-true, ltb-false}
+use borrow.Author.Tests.{leb-true, ltb-true, ltb-false}
 use lib.Dec.{leb, ltb}
 use lib.ListN.{length, set, length-set}
 use lib.Seq.{getD-set-same, getD-set-other}
@@ -157,13 +157,3 @@ over w f o v k n s t =
     let x : n ≤ k = leb-true n k s in
     let y : o + w ≤ n = leb-true (o + w) n t in
     getD-put-off w f o v k (inr (omega arith))
-
--- two uses: fields written and fields not written, read after three writes
-example-header : (f : List ℕ) (a b c : ℕ) → 64 ≤ length f → b < 65536 → c < 4294967296
-    → (let g : List ℕ = put 4 (put 2 (put 4 f 4 a) 8 b) 12 c in (le 2 g 8 ≡ b) × (le 4 g 12 ≡ c) × (le 2 g 16 ≡ le 2 f 16))
-example-header f a b c h x y =
-    let s = le-leb 64 (length f) h in
-    (simp (le-laws, own64, s), simp (le-laws, own64, s), simp le-laws)
-
-example-body : (f : List ℕ) (o a b c : ℕ) → le 4 (put 4 (put 2 (put 4 f (o + 4) a) (o + 8) b) (o + 12) c) (o + 0) ≡ le 4 f (o + 0)
-example-body f o a b c = simp le-laws

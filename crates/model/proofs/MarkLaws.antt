@@ -19,7 +19,7 @@ use Rattle.model.specs.Frame.LayKids.{nil, kid}
 use Rattle.model.specs.Mark.{Mark, mark, marks, marksAll, rootMarks, is, common, like, count, In}
 use Rattle.model.specs.Touch.{among, stay}
 use Rattle.model.proofs.StringLaws.{clash, bool-cases, eqb-cases, same-true, same-refl}
-use Rattle.model.proofs.WayLaws.{shared-self, shared-after, shared-turn, shared-least}
+use Rattle.model.proofs.WayLaws.{shared-after, shared-turn, shared-least}
 
 -- every body of ms but those of some slots is known by the same in ms'
 pub record Stay (goes : List ℕ) (ms ms' : List Mark) : Type 0 where
@@ -175,12 +175,9 @@ common-way w s k i j i' j' h h' a b c d = of-common (mark s k (take i w) (take j
     reach : (n : ℕ) → n ≤ j → n ≤ j' → n ≤ shared (take j w) (take j' w)
     reach n p q = shared-least n (take j w) (take j' w) (omega (arith, length-take-le j w h)) (omega (arith, length-take-le j' w h')) (take-take n j w p ∙ sym (take-take n j' w q))
 
--- a Prefix with other bytes keeps its first one, or its last
+-- a Prefix with other bytes keeps its first one
 pub is-from : (m : Mark) (s k : ℕ) (a p q : List ℕ) → 1 ≤ shared p q → is m (mark s k a (a ++ p)) ≤ like m (mark s k a (a ++ q))
 is-from m s k a p q h = is-common m s k a (a ++ p) a (a ++ q) (of-common (mark s k a (a ++ p)) (mark s k a (a ++ q)) (record { left = omega (arith, shared-after a p q); right = omega (arith, shared-after a p q) }))
-
-pub is-to : (m : Mark) (s k : ℕ) (a b c : List ℕ) → length a < length b → length c < length b → is m (mark s k a b) ≤ like m (mark s k c b)
-is-to m s k a b c h g = is-common m s k a b c b (of-common (mark s k a b) (mark s k c b) (record { left = omega (arith, shared-self b); right = omega (arith, shared-self b) }))
 
 -- a body that goes is none of those that stay
 pub is-gone : (m : Mark) (goes : List ℕ) (s k : ℕ) (a b : List ℕ) → among (m .slot) goes ≡ false → among s goes ≡ true → is m (mark s k a b) ≡ 0

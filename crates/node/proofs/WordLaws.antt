@@ -34,9 +34,6 @@ mark-top y s t es et =
     ap (λ (n : ℕ). bitXor (bitAnd (bitOr n y) 128) 128) (carry y)
     ∙ ap (λ (n : ℕ). bitXor n 128) (high-bit (bitOr (y % 128 + 127) y) ∙ ap (λ (n : ℕ). n % 2 * 128) (or-shr (y % 128 + 127) y 7 ∙ ap (λ (n : ℕ). bitOr n (y / 128)) es ∙ ap (λ (n : ℕ). bitOr s n) et))
 
-mark-none : mark 0 ≡ 128
-mark-none = refl
-
 mark-some : (y : ℕ) → 0 < y → y < 256 → mark y ≡ 0
 mark-some y p w = elim (decLt y 128) [
   | yes h ↦ mark-top y 1 0 (omega arith) (omega arith)

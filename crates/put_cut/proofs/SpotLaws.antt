@@ -44,7 +44,7 @@ use Rattle.put_split.proofs.ForkLaws.{forkKids, fork-sum}
 use Rattle.put_split.proofs.PartedLaws.{byte-here}
 use Rattle.put_cut.specs.Cut.{AtPart}
 use Rattle.put_cut.proofs.RunLists.{run-below}
-use Rattle.put_cut.proofs.ModelLaws.{madeOf, put-parts, shares-is, length-is}
+use Rattle.put_cut.proofs.ModelLaws.{madeOf, put-parts, shares-is}
 
 -- ---- what a take asks and leaves
 
@@ -147,9 +147,6 @@ module _ {E : Edition} {f k word : List ℕ} {v : Value} {p : Spot} (A : AtPart 
 
   pub shares : p .shared ≡ length (cut .w)
   shares = A .part .shares ∙ ap (λ d. shared text (drop d (E .walked k))) (A .put .way .deep) ∙ shares-is E k (pathOf xs) spelt cut
-
-  pub tail-is : p .shared + 1 + length (cut .t) ≡ length text
-  tail-is = omega (arith, shares, length-is E k (pathOf xs) spelt cut)
 
   -- what put makes of it
   pub old-put : putTree E (art old) (length (pathOf xs)) k v ≡ madeOf k v (cut .b) (cut .c) (art (tipOf below)) (cut .w) left

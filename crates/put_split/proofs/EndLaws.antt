@@ -46,19 +46,6 @@ tally-two a b j = go (eqb a j) (eqb b j)
     go false true = refl
     go false false = refl
 
-pub tally-three : (a b c j : ℕ) → tally (a ∷ b ∷ c ∷ []) j ≡ tally (c ∷ a ∷ b ∷ []) j
-tally-three a b c j = go (eqb a j) (eqb b j) (eqb c j)
-  where
-    go : (x y z : Bool) → pick x (suc (pick y (suc (pick z 1 0)) (pick z 1 0))) (pick y (suc (pick z 1 0)) (pick z 1 0)) ≡ pick z (suc (pick x (suc (pick y 1 0)) (pick y 1 0))) (pick x (suc (pick y 1 0)) (pick y 1 0))
-    go true true true = refl
-    go true true false = refl
-    go true false true = refl
-    go true false false = refl
-    go false true true = refl
-    go false true false = refl
-    go false false true = refl
-    go false false false = refl
-
 -- ---- a slot that was taken
 
 pub took-slot : {f g : List ℕ} {h : View} {k s : ℕ} → Took f g h k s → Kind k → (1 ≤ s) × (s < 65536)

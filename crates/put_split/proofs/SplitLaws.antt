@@ -8,7 +8,7 @@ use native.Mathlib.Omega.{arith}
 use lib.ListN.{length, drop}
 use lib.Seq.{drop-append-seam}
 use Rattle.layout.specs.Number.{Bytes}
-use Rattle.layout.specs.Kind.{Leaf, Prefix, Node4}
+use Rattle.layout.specs.Kind.{Leaf, Node4}
 use Rattle.model.specs.Edition.{Edition, Value}
 use Rattle.model.specs.Tree.{Art, extentOf, Change, asPrefix, fork, newKey, chain, prefixes, putTree}
 use Rattle.model.specs.State.{State, tally}
@@ -40,40 +40,27 @@ use Rattle.leaf_new.proofs.OpenLaws.{leaf-opened}
 use Rattle.leaf_new.proofs.DoneLaws.{Edited}
 use Rattle.chain.specs.Row.{rowItems, Named, Ready, Raised, Grown, Grows}
 use Rattle.chain.proofs.RowLaws.{raised-work, raised-sum, raised-marks, raised-since, row-leafy, row-bodies, leafy-not}
-use Rattle.chain.proofs.TakeLaws.{prefix-kind, row-behind, work-behind, room-past, taken-app, tally-app, kinds-row}
+use Rattle.chain.proofs.TakeLaws.{row-behind, work-behind, room-past, taken-app, tally-app, kinds-row}
 use Rattle.put_split.specs.Parts.{Forked}
 use Rattle.put_split.specs.Split.{Beside}
 use Rattle.put_split.proofs.PartedLaws.{byte-here, begins-here, begins-there, put-leaf, touch-leaf}
 use Rattle.put_split.proofs.ForkLaws.{work-under, forkKids, fork-marks, fork-sum, fork-art, fork-look, fork-work, fork-since}
-use Rattle.put_split.proofs.EndLaws.{node4-kind, leaf-kind, tally-two, tally-three, took-slot, end-work, end-since, end-booked, holders-in, holders-some}
+use Rattle.put_split.proofs.EndLaws.{node4-kind, leaf-kind, tally-two, took-slot, end-work, end-since, end-booked, holders-in, holders-some}
 
 -- the kinds of what is taken, in the order of the takes
 pub two-kinds : Kinds (Node4 ∷ Leaf ∷ [])
 two-kinds = Kinds.cons node4-kind (Kinds.cons leaf-kind Kinds.nil)
-
-pub three-kinds : Kinds (Node4 ∷ Prefix ∷ Leaf ∷ [])
-three-kinds = Kinds.cons node4-kind (Kinds.cons prefix-kind (Kinds.cons leaf-kind Kinds.nil))
 
 module _ (h : View) (k : List ℕ) (v : Value) (e8 : length (h .lists) ≡ 8) where
   row-two : Booked h (taken (taken h Node4) Leaf) (Node4 ∷ Leaf ∷ []) [] 0 0 (h .nums .R)
   unfolding takenAll
   row-two = booked-row h (Node4 ∷ Leaf ∷ []) two-kinds e8
 
-  row-three : Booked h (taken (taken (taken h Node4) Prefix) Leaf) (Node4 ∷ Prefix ∷ Leaf ∷ []) [] 0 0 (h .nums .R)
-  unfolding takenAll
-  row-three = booked-row h (Node4 ∷ Prefix ∷ Leaf ∷ []) three-kinds e8
-
   pub booked-two : Booked h (leafView (taken h Node4) k v) (Leaf ∷ Node4 ∷ []) [] (extentOf k v) 0 (h .nums .R)
   booked-two = booked-extend (booked-as row-two (Leaf ∷ Node4 ∷ []) [] (λ j. tally-two Node4 Leaf j) (λ j. refl)) (extentOf k v) (extentOf k v) (omega arith)
 
-  pub booked-three : Booked h (leafView (taken (taken h Node4) Prefix) k v) (Leaf ∷ Node4 ∷ Prefix ∷ []) [] (extentOf k v) 0 (h .nums .R)
-  booked-three = booked-extend (booked-as row-three (Leaf ∷ Node4 ∷ Prefix ∷ []) [] (λ j. tally-three Node4 Prefix Leaf j) (λ j. refl)) (extentOf k v) (extentOf k v) (omega arith)
-
   pub from-two : h .nums .B ≤ taken (taken h Node4) Leaf .nums .B
   from-two = omega (arith, row-two .B)
-
-  pub from-three : h .nums .B ≤ taken (taken (taken h Node4) Prefix) Leaf .nums .B
-  from-three = omega (arith, row-three .B)
 
 -- the order of the takes: a Node4, a row of n Prefixes, a Leaf
 abbrev pub splitKinds : ℕ → List ℕ

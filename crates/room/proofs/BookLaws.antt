@@ -297,12 +297,3 @@ book n n' ls ls' r r' c e8 eF eN eB eU eX H =
     make : {f f' s s' b b' u u' x x' : ℕ} {fr fr' : List ℕ} → f ≡ f' → s ≡ s' → b ≡ b' → u ≡ u' → x ≡ x' → fr ≡ fr'
         → _≡_ {A = State} (record { F = f; N = s; B = b; U = u; R = n' .R; X = x; free = fr; tree = rootArt r' }) (record { F = f'; N = s'; B = b'; U = u'; R = n' .R; X = x'; free = fr'; tree = rootArt r' })
     make p1 p2 p3 p4 p5 p6 = rw (p1, p2, p3, p4, p5, p6) refl
-
--- the same for an edit: from h, whose root is r, a row of takes leads to h1, and from there to h' lists only change by frees
-pub booked : {A : Type 0} (n : Numbers) (ls : List (List (ℕ × ℕ))) (r r' : Root) (c : Change A) (h1 h' : View) → Row (viewOf n ls r) h1 (c .takes) → Gave h1 h' (c .frees)
-    → h' .nums .F ≡ h1 .nums .F → h' .nums .N ≡ h1 .nums .N → h' .nums .B ≡ h1 .nums .B + c .extent → h' .nums .U ≡ h1 .nums .U → h' .nums .X ≡ h1 .nums .X + c .dead
-    → stateOf (h' .nums) (h' .lists) r' ≡ after (stateOf n ls r) c (h' .nums .R) (rootArt r')
-booked n ls r r' c h1 h' W G eF eN eB eU eX =
-    let H = W .held in
-    book n (h' .nums) ls (h' .lists) r r' c (G .eight) (eF ∙ H .F) (eN ∙ H .N) (omega (arith, W .B)) (eU ∙ W .U) (omega (arith, H .X))
-    (λ j l. have-lists h' (viewOf (h' .nums) (h' .lists) r') refl j ∙ G .free j ∙ ap (λ x. x + tally (c .frees) j) (W .free j))

@@ -13,7 +13,7 @@ use Rattle.model.specs.Frame.Lay.{leaf, prefix, node}
 use Rattle.model.specs.Frame.LayKids.{nil, kid}
 use Rattle.model.proofs.StringLaws.{eqb-cases, ltb-cases}
 use Rattle.node.specs.Kids.{nextKid, orZero}
-use Rattle.listing.specs.Seek.{Leafy, leaves, leavesAll, firstOf, kidsFrom, leavesAt, AllL, From, Under, Kept}
+use Rattle.listing.specs.Seek.{leaves, leavesAll, firstOf, kidsFrom, leavesAt, AllL, From, Under, Kept}
 use Rattle.listing.proofs.SeekLaws.{all-append, all-map}
 use Rattle.inside.specs.Inside.{Inside, InsideAll}
 use Rattle.inside.proofs.InsideLaws.{slot-in}
@@ -49,12 +49,6 @@ trees-kept E f path lo nil A T = tt
 trees-kept E f path lo (kid b j l ks) A T = (A .0, tree-under E f (path ++ b ∷ []) l (T .0), trees-kept E f path (suc b) ks (A .3) (T .1))
 
 -- ---- a node's children: the first from a byte on, and the one of a byte
-
-pub record KidAt (E : Edition) (f path : List ℕ) (c d : ℕ) (xs : List Leafy) : Type 0 where
-  pub byte : ℕ
-  pub sub : Sub E f c (d + 1)
-  pub pathIs : sub .path ≡ path ++ byte ∷ []
-  pub leavesAre : xs ≡ leaves (sub .lay)
 
 module _ (E : Edition) (L : Lawful E) (f path : List ℕ) (d : ℕ) (B : Bytes f) (D : length path ≡ d) (deep : d < E .longest) where
   abbrev sub-of : (b : ℕ) (l : Lay) → Tree E f (path ++ b ∷ []) l → Inside f l → Sub E f (slotOf l) (d + 1)
