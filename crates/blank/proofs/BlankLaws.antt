@@ -4,7 +4,7 @@ use mathlib.Core.Path.{_≡_, ap, sym, _∙_}
 use mathlib.Core.List.{List, []}
 use native.Mathlib.Omega.{arith}
 use native.Mathlib.Decide.{decLt}
-use lib.ListN.{length, getD, List·getD-eq-default}
+use lib.ListN.{length, List·getD-eq-default}
 use Rattle.layout.specs.Number.{byteAt, le, put, Bytes}
 use Rattle.layout.specs.Place.{entryAt, dataStart}
 use Rattle.layout.specs.Kind.{EmptyRoot}

@@ -11,7 +11,7 @@ use Rattle.layout.specs.Kind.{bodySize}
 use Rattle.layout.specs.Entry.{placeOf}
 use Rattle.layout.proofs.KindLaws.{size-least}
 use Rattle.layout.proofs.EntryLaws.{place-eighth}
-use Rattle.model.specs.Item.{Item, body, extent, onSlot, cover, bulk, sum, Same}
+use Rattle.model.specs.Item.{Item, body, onSlot, cover, bulk, sum, Same}
 use Rattle.model.proofs.ItemLaws.{in-yes, sum-app, sum-cons}
 use Rattle.claims.specs.Units.{place, Each}
 use Rattle.claims.proofs.UnitLaws.{body-eighth}

@@ -1,5 +1,5 @@
 -- Packing by the rule from before, held to the demands: the image is that of the records, and these are as legal by the one rule as by the other. Assumes nothing.
-use Prim.Native.Nat.{ℕ, suc, _+_}
+use Prim.Native.Nat.{ℕ, suc}
 use native.Mathlib.Omega.{arith}
 use mathlib.Core.Path.{_≡_, refl, sym, _∙_}
 use mathlib.Core.List.{List, [], _∷_, _++_}

@@ -16,7 +16,7 @@ use Rattle.pieces.proofs.DecideLaws.{handed}
 use Rattle.pieces.proofs.RangeLaws.{range-join}
 use Rattle.pieces.proofs.ZeroLaws.{blank-le, le-blank}
 use Rattle.fields.specs.Body.{putLeafBody}
-use Rattle.layout.proofs.NumberLaws.{lt-or-le, Off, getD-put-off, zero-le-bytes, le-laws, own-at}
+use Rattle.layout.proofs.NumberLaws.{Off, getD-put-off, le-laws, own-at}
 
 -- a field of a body of 16 bytes at a, itself and seen from outside
 own16 : (w : ℕ) (f : List ℕ) (a o v : ℕ) → leb (a + 16) (length f) ≡ true → leb (o + w) 16 ≡ true → v < 256 ^ w → le w (put w f (a + o) v) (a + o) ≡ v

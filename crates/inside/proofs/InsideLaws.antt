@@ -1,17 +1,16 @@
 -- Which case the tree at a slot is, by the slot's entry; and the tree of a good frame lies in it. Assumes nothing.
 use Prim.Native.Nat.{ℕ, _+_, _-_, _*_, _<_, _≤_}
 use mathlib.Core.Path.{_≡_, refl, sym, ap, _∙_}
-use mathlib.Core.List.{List, [], _++_}
+use mathlib.Core.List.{List, _++_}
 use native.Mathlib.Omega.{arith}
 use native.Mathlib.Decide.{decLe}
 use lib.ListN.{length}
-use Rattle.layout.specs.Place.{entryAt}
 use Rattle.layout.specs.Kind.{Leaf, Prefix, bodySize}
 use Rattle.layout.specs.Entry.{highOf, placeOf}
 use Rattle.model.specs.Edition.{Edition, Value}
 use Rattle.model.specs.State.{State}
 use Rattle.model.specs.Item.{Item, body, onSlot, cover, sum}
-use Rattle.model.specs.Frame.{Lay, LayKids, Root, tree, rootItems, slotOf, items, itemsAll, freed, Entry, NodeOf, LeafOf, Tree, Stands}
+use Rattle.model.specs.Frame.{Lay, LayKids, Root, tree, rootItems, slotOf, items, itemsAll, freed, Entry, Tree, Stands}
 use Rattle.model.specs.Frame.Lay.{leaf, prefix, node}
 use Rattle.model.specs.Frame.LayKids.{nil, kid}
 use Rattle.model.proofs.ItemLaws.{in-yes, sum-app}

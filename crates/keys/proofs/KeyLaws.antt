@@ -6,7 +6,7 @@ use mathlib.Core.List.{List, [], _∷_, _++_}
 use mathlib.Core.Bool.{Bool, true, false, not}
 use native.Mathlib.Omega.{arith}
 use native.Mathlib.Numerals.{add-one}
-use lib.ListN.{length, take, drop, getD, set, length-append, length-take, length-drop, List·getD-eq-default}
+use lib.ListN.{length, take, drop, getD, set, length-append, length-take, length-drop}
 use lib.Seq.{drop-cons, ext-getD, getD-take, getD-drop}
 use borrow.Author.Tests.{eq-eqb, ne-eqb, lt-ltb, le-ltb}
 use Rattle.pieces.specs.Decides.{Decides}
@@ -17,7 +17,7 @@ use Rattle.model.specs.Edition.{editionOf, escaped}
 use Rattle.model.specs.Body.{Text}
 use Rattle.moves.specs.Pasted.{Pasted}
 use Rattle.keys.specs.Word.{Spelt, ended}
-use Rattle.keys.proofs.EscapeLaws.{one-set, two-both, escaped-plain}
+use Rattle.keys.proofs.EscapeLaws.{two-both, escaped-plain}
 use Rattle.model.proofs.StringLaws.{eqb-cases}
 use Rattle.model.proofs.Edition2.{of-two, of-other, key-sized}
 use Rattle.model.proofs.Edition1.{zero-free, free-zero, positive-at, at-positive, walked-at}

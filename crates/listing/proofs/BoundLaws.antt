@@ -1,7 +1,7 @@
 -- An entry sorts after the start key exactly if its key is at or above the start key's bound; every key that begins with the prefix is at or above the
 -- prefix, and behind one at or above it that does not, none begins with it. What the walked strings of keys tell of a bound in each edition. Assumes
 -- nothing.
-use Prim.Native.Nat.{ℕ, zero, suc, _+_, _<_}
+use Prim.Native.Nat.{ℕ, zero, suc, _<_}
 use native.Mathlib.Omega.{arith}
 use mathlib.Core.Path.{_≡_, refl, ap, sym, _∙_}
 use mathlib.Core.List.{List, [], _∷_, _++_}

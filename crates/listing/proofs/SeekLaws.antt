@@ -1,5 +1,5 @@
 -- One law for each way that a seek goes: past a Prefix, into or beside the child of the bound's byte, to the bound's end. Assumes nothing.
-use Prim.Native.Nat.{ℕ, suc, _+_, _<_, _≤_}
+use Prim.Native.Nat.{ℕ, suc, _<_, _≤_}
 use native.Mathlib.Omega.{arith}
 use mathlib.Core.Path.{_≡_, refl, sym, _∙_}
 use mathlib.Core.List.{List, [], _∷_, _++_}
@@ -11,7 +11,6 @@ use borrow.Author.Tests.{lt-ltb, le-ltb, le-leb, ne-eqb}
 use Rattle.model.specs.Strings.{pick}
 use Rattle.model.specs.Edition.{Edition}
 use Rattle.model.specs.Frame.{Lay, LayKids}
-use Rattle.model.specs.Frame.Lay.{node}
 use Rattle.model.specs.Frame.LayKids.{nil, kid}
 use Rattle.model.proofs.StringLaws.{bool-cases, eqb-cases, ltb-cases, leb-cases}
 use Rattle.listing.specs.Seek.{Leafy, leaves, leavesAll, weigh, reach, firstFrom, firstOf, orElse, kidsFrom, leavesAt, AllL, From, Guides, Under, Kept}

@@ -1,6 +1,6 @@
 -- Where a body stands in a tree that stands: a Prefix has bytes, and no other Prefix starts before its end; what is no Prefix has one path. So no
 -- two bodies have a byte in common. Assumes nothing.
-use Prim.Native.Nat.{ℕ, _+_, _<_, _≤_}
+use Prim.Native.Nat.{ℕ, _<_, _≤_}
 use mathlib.Core.Path.{_≡_, refl, sym, ap, _∙_}
 use mathlib.Core.List.{List, [], _∷_, _++_}
 use mathlib.Core.Bool.{Bool, true, false}

@@ -1,6 +1,6 @@
 -- Two trees that stand and are one without slots and places have their bodies at the same places: the bodies of a chain too, for each Prefix is
 -- full but the last. Assumes nothing.
-use Prim.Native.Nat.{ℕ, _+_, _≤_}
+use Prim.Native.Nat.{ℕ, _≤_}
 use mathlib.Core.Path.{_≡_, sym, ap, _∙_}
 use mathlib.Core.List.{List, [], _∷_, _++_}
 use native.Mathlib.Omega.{arith}

@@ -1,7 +1,7 @@
 -- Edition 2 and chains, computed: numbers derived by hand from document 02's words. F 4,096, N 16, D 128. Assumes nothing.
-use Prim.Native.Nat.{ℕ, _+_}
+use Prim.Native.Nat.{ℕ}
 use mathlib.Core.Path.{_≡_, refl}
-use mathlib.Core.List.{List, [], _∷_, _++_}
+use mathlib.Core.List.{[], _∷_, _++_}
 use lib.ListN.{length, replicate}
 use Rattle.layout.specs.Kind.{Leaf, Prefix, Node4}
 use Rattle.model.specs.Edition.{edition1, edition2, escaped, unstamped}

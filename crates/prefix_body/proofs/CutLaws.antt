@@ -1,6 +1,6 @@
 -- A Prefix cut in two: without its first byte; its last bytes in another body; its first bytes alone. Assumes nothing.
 use Prim.Native.Nat.{ℕ, _+_, _-_, _<_, _≤_}
-use mathlib.Core.Path.{_≡_, refl, sym, ap, _∙_}
+use mathlib.Core.Path.{_≡_, sym, ap, _∙_}
 use mathlib.Core.List.{List}
 use mathlib.Core.Logic.{⊎-elim, inl, inr}
 use native.Mathlib.Omega.{arith}
@@ -13,7 +13,6 @@ use Rattle.layout.proofs.NumberLaws.{le-put}
 use Rattle.model.specs.Body.{PrefixAt}
 use Rattle.model.proofs.UniqueLaws.{prefix-unique}
 use Rattle.moves.specs.Moved.{Only, Moved, Cleared, Closed}
-use Rattle.moves.specs.Pasted.{Pasted}
 use Rattle.moves.proofs.MoveLaws.{only-put, only-then, keeps-outside}
 use Rattle.room.proofs.HeapLaws.{le-below, le-above}
 use Rattle.between.proofs.BodyLaws.{prefix-keeps}

@@ -1,6 +1,6 @@
 -- `tail` zeroes the body, then writes child, length and the bytes of the other one. Assumes nothing.
 use Prim.Native.Nat.{_-_}
-use mathlib.Core.Path.{refl, ap}
+use mathlib.Core.Path.{ap}
 use Rattle.prefix_body.proofs.CutLaws.{tail-moved}
 use borrow.Author.Needs.{needs}
 use Rattle.prefix_body.proofs.tail.Statement.{statement}

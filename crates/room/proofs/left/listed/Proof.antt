@@ -1,6 +1,5 @@
 -- Nothing is asked for; or going along the list, for every heap that the frame has. Assumes nothing.
-use Prim.Native.Nat.{ℕ, _+_, _-_, _<_, _≤_}
-use mathlib.Core.Path.{_≡_}
+use Prim.Native.Nat.{_-_, _≤_}
 use native.Mathlib.Omega.{arith}
 use Rattle.model.specs.Frame.{View, Heap}
 use Rattle.room.proofs.LeftLaws.{Along, along-start, along-end, along-most, along-next, along-in, heap-fits}
