@@ -1148,6 +1148,17 @@ fn chains(shop: &mut Workshop) {
         let top = write_chain(&mut s.bytes, &bodies, &key[1..1 + 2 * LONGEST_PREFIX], first);
         s.set(field, top);
     });
+    for (what, bytes) in [("half a byte 0", &[0][..]), ("a byte 0", &[0, ESCAPE])] {
+        shop.full(rule, &format!("a Prefix of {what} over a Leaf"), |s| {
+            let field = s.field_to(b"apple");
+            let leaf = s.get(field);
+            let fields = store::leaf_fields(&s.bytes, leaf);
+            store::retire(&mut s.bytes, &fields);
+            let new = store::new_extent(&mut s.bytes, b"a\0", Value::plain(b""));
+            store::write_leaf(&mut s.bytes, leaf, &new);
+            s.insert_prefix(field, bytes);
+        });
+    }
     shop.full(Aim::Alone(Rule::PrefixLength), "a chain that ends in a Prefix of no byte", |s| {
         let Chain { slots, .. } = store::chain(&s.bytes, s.chain_top());
         let last = slots[slots.len() - 1];
