@@ -4,7 +4,7 @@
 //! Trusted here: the C declarations of the exported calls. The bindings link
 //! the archive that has them.
 
-use crate::plain;
+use crate::plain::{self, Edition, One, Two};
 use frame_store as _;
 
 /// A public call.
@@ -76,23 +76,35 @@ pub const NOTHING_FOUND: Found = [0; 4];
 /// Makes the call and gives its number.
 pub type Function = fn(&mut Lent) -> u32;
 
-pub fn plain(call: Call) -> Function {
+/// The calls of both stores in one edition.
+pub struct Stores {
+    pub plain: fn(Call) -> Function,
+    pub proved: fn(Call) -> Function,
+}
+
+pub const STORES_1: Stores = Stores { plain: plain::<One>, proved };
+pub const STORES_2: Stores = Stores { plain: plain::<Two>, proved: proved2 };
+
+/// What is passed with a record: another stamp than the frames have. Edition 1 has none.
+const STAMP: u64 = u64::MAX;
+
+pub fn plain<E: Edition>(call: Call) -> Function {
     match call {
-        Call::Format => |lent| plain::format(lent.frame, lent.frame.len(), lent.n),
-        Call::Check => |lent| plain::check(lent.frame),
+        Call::Format => |lent| plain::format::<E>(lent.frame, lent.frame.len(), lent.n),
+        Call::Check => |lent| plain::check::<E>(lent.frame),
         Call::LookUp => |lent| {
-            let (number, [place, length, slots]) = plain::look_up(lent.frame, lent.key);
-            lent.found = [place, length, slots, 0];
+            let (number, found) = plain::look_up::<E>(lent.frame, lent.key);
+            lent.found = found;
             number
         },
-        Call::Put => |lent| plain::put(lent.frame, lent.key, lent.value),
-        Call::Replace => |lent| plain::replace(lent.frame, lent.key, lent.value),
-        Call::Erase => |lent| plain::erase(lent.frame, lent.key),
-        Call::Pack => |lent| plain::pack(lent.frame, lent.out),
+        Call::Put => |lent| plain::put::<E>(lent.frame, lent.key, lent.value, STAMP),
+        Call::Replace => |lent| plain::replace::<E>(lent.frame, lent.key, lent.value, STAMP),
+        Call::Erase => |lent| plain::erase::<E>(lent.frame, lent.key),
+        Call::Pack => |lent| plain::pack::<E>(lent.frame, lent.out),
         Call::List => |lent| {
             let start = (!lent.key.is_empty()).then_some(lent.key);
             let asked = plain::Asked { prefix: b"", start, delimiter: None };
-            let (number, [count, more]) = plain::list(lent.frame, &asked, page(lent.out));
+            let (number, [count, more]) = plain::list::<E>(lent.frame, &asked, page(lent.out));
             lent.found = [count, more, 0, 0];
             number
         },
@@ -199,9 +211,6 @@ calls_of_edition! {
     proved2: frame2_format, frame2_check, frame2_look_up, frame2_put, frame2_replace, frame2_erase,
     frame2_pack, frame2_list; exported::FOUND_NUMBERS_2, STAMP
 }
-
-/// What edition 2 is passed with a record: another stamp than the frames have.
-const STAMP: u64 = u64::MAX;
 
 /// A batch by the proved store; gives its number and the place of the change
 /// that was refused.

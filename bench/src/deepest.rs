@@ -6,10 +6,9 @@
 //! way of bytes 0 is the longest: other keys leave it where a byte 0 begins, and end
 //! where one could go on.
 
-use crate::calls::{proved2, Call, Lent, NOTHING_FOUND};
-use crate::plain;
 use crate::plain::layout::number::DONE;
-use crate::plain::layout::{LONGEST_FRAME, LONGEST_KEY, MOST_SLOTS};
+use crate::plain::layout::{LONGEST_FRAME, MOST_SLOTS};
+use crate::plain::{self, Edition, One, Two};
 
 pub struct DeepTree {
     pub name: &'static str,
@@ -19,6 +18,8 @@ pub struct DeepTree {
     /// A key that leaves the way at its last node.
     pub absent: Vec<u8>,
 }
+
+const LONGEST_KEY: usize = One::LONGEST_KEY;
 
 /// The byte that leads further down.
 const DOWN: u8 = b'z';
@@ -49,14 +50,12 @@ pub fn deep_trees() -> Vec<DeepTree> {
 }
 
 fn deep_tree(shape: &Shape) -> DeepTree {
-    let mut frame = vec![0; LONGEST_FRAME];
-    let number = plain::format(&mut frame, LONGEST_FRAME, MOST_SLOTS);
-    assert_eq!(number, DONE, "the longest frame takes the most slots");
+    let mut frame = formatted::<One>();
     let present = vec![DOWN; LONGEST_KEY];
-    put(&mut frame, &present);
+    put::<One>(&mut frame, &present);
     for depth in (shape.distance - 1..LONGEST_KEY).step_by(shape.distance) {
         let children = if depth < shape.wide_bytes { shape.children } else { 2 };
-        (1..children).for_each(|byte| put(&mut frame, &leaving(depth, byte)));
+        (1..children).for_each(|byte| put::<One>(&mut frame, &leaving(depth, byte)));
     }
     let absent = leaving(LONGEST_KEY - 1, shape.children);
     DeepTree { name: shape.name, frame, present, absent }
@@ -69,33 +68,26 @@ fn leaving(depth: usize, byte: u8) -> Vec<u8> {
     key
 }
 
-fn put(frame: &mut [u8], key: &[u8]) {
-    assert_eq!(plain::put(frame, key, b""), DONE, "there is room for a deep tree");
+fn formatted<E: Edition>() -> Vec<u8> {
+    let mut frame = vec![0; LONGEST_FRAME];
+    let number = plain::format::<E>(&mut frame, LONGEST_FRAME, MOST_SLOTS);
+    assert_eq!(number, DONE, "the longest frame takes the most slots");
+    frame
 }
 
-/// The bytes of the longest key of edition 2.
-const LONGEST_KEY_2: usize = 255;
+fn put<E: Edition>(frame: &mut [u8], key: &[u8]) {
+    assert_eq!(plain::put::<E>(frame, key, b"", 0), DONE, "there is room for a deep tree");
+}
 
 /// The deepest tree of edition 2, in a frame of the longest length: a slot for each of
 /// 510 walked bytes of the longest key of bytes 0, and its Leaf.
 pub fn deepest_of_edition_2() -> DeepTree {
-    let mut frame = vec![0; LONGEST_FRAME];
-    let mut call = |call, key: &[u8]| {
-        let mut lent = Lent {
-            frame: &mut frame,
-            out: &mut [],
-            key,
-            value: b"",
-            n: MOST_SLOTS,
-            found: NOTHING_FOUND,
-        };
-        assert_eq!(proved2(call)(&mut lent), DONE, "there is room for a deep tree");
-    };
-    call(Call::Format, b"");
-    for length in 1..=LONGEST_KEY_2 {
-        call(Call::Put, &vec![0; length]);
-        call(Call::Put, &[&vec![0; length - 1][..], &[1]].concat());
+    let zeros = [0; Two::LONGEST_KEY];
+    let mut frame = formatted::<Two>();
+    for length in 1..=zeros.len() {
+        put::<Two>(&mut frame, &zeros[..length]);
+        put::<Two>(&mut frame, &[&zeros[..length - 1], &[1]].concat());
     }
-    let absent = [&vec![0; LONGEST_KEY_2 - 1][..], &[2]].concat();
-    DeepTree { name: "edition 2, Node4", frame, present: vec![0; LONGEST_KEY_2], absent }
+    let absent = [&zeros[1..], &[2]].concat();
+    DeepTree { name: "edition 2, Node4", frame, present: zeros.to_vec(), absent }
 }

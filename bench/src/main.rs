@@ -1,20 +1,20 @@
 //! The proved store beside the plain one: times, or with `stack` the stack.
 
-use store_bench::calls::{plain, proved, proved2, Call, Function, Lent, NOTHING_FOUND};
+use store_bench::calls::{Call, Function, Lent, Stores, NOTHING_FOUND, STORES_1, STORES_2};
 use store_bench::deepest::{deep_trees, deepest_of_edition_2, DeepTree};
 use store_bench::measure::{
     edition_times, measure, page_times, page_to_check, page_to_page, visit_times, visit_to_check,
 };
-use store_bench::plain::layout::number::{DONE, REPLACED};
 use store_bench::plain::layout::MOST_SLOTS;
+use store_bench::plain::{Edition, One};
 use store_bench::stack::bytes_used;
 use store_bench::workload::{page_starts, visit, wide, workload, Fill, Workload, FRAMES, WIDTHS};
 
 fn main() {
     let arguments: Vec<String> = std::env::args().skip(1).collect();
     match arguments.iter().map(String::as_str).collect::<Vec<_>>()[..] {
-        [] => times(),
-        ["wide"] => wide_times(),
+        [] => times::<One>(&STORES_1),
+        ["wide"] => wide_times::<One>(&STORES_1),
         ["editions"] => editions(),
         ["pages"] => pages(),
         ["visit"] => visits(),
@@ -26,19 +26,19 @@ fn main() {
     }
 }
 
-fn times() {
+fn times<E: Edition>(stores: &Stores) {
     times_head("fill");
     for (f, n) in FRAMES {
         for fill in Fill::ALL {
-            times_of(&workload(f, n, fill), fill.name());
+            times_of(stores, &workload::<E>(f, n, fill), fill.name());
         }
     }
 }
 
-fn wide_times() {
+fn wide_times<E: Edition>(stores: &Stores) {
     times_head("width");
     for width in WIDTHS {
-        times_of(&wide(width), &width.to_string());
+        times_of(stores, &wide::<E>(width), &width.to_string());
     }
 }
 
@@ -49,10 +49,10 @@ fn times_head(what: &str) {
     );
 }
 
-fn times_of(workload: &Workload, what: &str) {
+fn times_of(stores: &Stores, workload: &Workload, what: &str) {
     let slots = workload.slots();
     for task in &workload.tasks {
-        let measured = measure(workload, task);
+        let measured = measure(stores, workload, task);
         println!(
             "{:<22} {:>7} {:<7} {:>6} {:>10.0} {:>10.0} {:>6.2} {:>10.1} {:>11.1}",
             task.name,
@@ -76,11 +76,11 @@ fn editions() {
     );
     for (f, n) in FRAMES {
         for fill in Fill::ALL {
-            editions_of(&workload(f, n, fill), fill.name());
+            editions_of(&workload::<One>(f, n, fill), fill.name());
         }
     }
     for width in WIDTHS {
-        editions_of(&wide(width), &format!("wide {width}"));
+        editions_of(&wide::<One>(width), &format!("wide {width}"));
     }
 }
 
@@ -133,21 +133,17 @@ fn visits() {
 
 fn stacks() {
     println!("{:<16} {:<8} {:>12} {:>12}", "way through", "call", "bytes plain", "bytes proved");
-    for tree in deep_trees() {
-        for call in Call::ALL {
-            let (number, plain_bytes) = stack_of(&tree, call, plain(call));
-            let (proved_number, proved_bytes) = stack_of(&tree, call, proved(call));
-            assert_eq!(proved_number, number, "{} answers differ", call.name());
-            let call = call.name();
-            println!("{:<16} {call:<8} {plain_bytes:>12} {proved_bytes:>12}", tree.name);
-        }
-    }
-    // The plain store has no edition 2.
-    let tree = deepest_of_edition_2();
+    deep_trees().iter().for_each(|tree| stacks_of(&STORES_1, tree));
+    stacks_of(&STORES_2, &deepest_of_edition_2());
+}
+
+fn stacks_of(stores: &Stores, tree: &DeepTree) {
     for call in Call::ALL {
-        let (number, bytes) = stack_of(&tree, call, proved2(call));
-        assert_eq!(number, if call == Call::Replace { REPLACED } else { DONE }, "{}", call.name());
-        println!("{:<16} {:<8} {:>12} {bytes:>12}", tree.name, call.name(), "");
+        let (number, plain_bytes) = stack_of(tree, call, (stores.plain)(call));
+        let (proved_number, proved_bytes) = stack_of(tree, call, (stores.proved)(call));
+        assert_eq!(proved_number, number, "{} answers differ", call.name());
+        let call = call.name();
+        println!("{:<16} {call:<8} {plain_bytes:>12} {proved_bytes:>12}", tree.name);
     }
 }
 

@@ -5,11 +5,12 @@
 //! disturbances. Frames are restored before a sample, outside its time.
 
 use crate::calls::{
-    plain, proved, proved2, proved_batch, Call, Found, Function, Lent, NOTHING_FOUND, PAGE_BYTES,
+    plain, proved, proved2, proved_batch, Call, Found, Function, Lent, Stores, NOTHING_FOUND,
+    PAGE_BYTES,
 };
 use crate::plain::layout::number::DONE;
 use crate::plain::layout::{get16, NAME_LENGTH_BYTES};
-use crate::plain::{list, Asked};
+use crate::plain::{list, Asked, One};
 use crate::workload::{batch, Record, Task, Workload, PAGE_NAMES};
 use std::hint::black_box;
 use std::time::{Duration, Instant};
@@ -30,8 +31,8 @@ const LARGEST_BATCH: u32 = 1_000;
 /// Restored copies of the frame for one batch together have about this size.
 const COPIES_BYTES: usize = 16_384;
 
-pub fn measure(workload: &Workload, task: &Task) -> Measured {
-    let (plain, proved) = (plain(task.call), proved(task.call));
+pub fn measure(stores: &Stores, workload: &Workload, task: &Task) -> Measured {
+    let (plain, proved) = ((stores.plain)(task.call), (stores.proved)(task.call));
     let mut sampler = Sampler::new(workload, task, plain);
     let (mut plain_times, mut proved_times, mut ratios) = (Vec::new(), Vec::new(), Vec::new());
     for round in 0..UNCOUNTED_ROUNDS + ROUNDS {
@@ -102,7 +103,8 @@ pub fn alternate(mut first: impl FnMut() -> f64, mut second: impl FnMut() -> f64
 pub fn page_times(frame: &[u8], start: &[u8]) -> (u64, [f64; 3]) {
     let room = page_room(frame, start);
     let (mut one, mut other) = (Paged::new(frame, start, room), Paged::new(frame, start, room));
-    let times = alternate(|| one.sample(plain(Call::List)), || other.sample(proved(Call::List)));
+    let times =
+        alternate(|| one.sample(plain::<One>(Call::List)), || other.sample(proved(Call::List)));
     assert_eq!(one.found, other.found, "both stores list the same");
     (one.found[0], times)
 }
@@ -125,7 +127,7 @@ pub fn page_to_page(frame: &[u8], first: &[u8], second: &[u8]) -> [f64; 3] {
 fn page_room(frame: &[u8], start: &[u8]) -> usize {
     let mut buffer = [0; PAGE_BYTES];
     let asked = Asked { prefix: b"", start: (!start.is_empty()).then_some(start), delimiter: None };
-    let (_, [count, _]) = list(frame, &asked, &mut buffer);
+    let (_, [count, _]) = list::<One>(frame, &asked, &mut buffer);
     assert!(count as usize >= PAGE_NAMES, "there are as many names");
     (0..PAGE_NAMES).fold(0, |at, _| at + NAME_LENGTH_BYTES + get16(&buffer, at))
 }

@@ -1,12 +1,13 @@
 //! The frames that are measured, and the calls that are made on them.
 //!
 //! Records look like the settings of small devices: line profiles, subscriber
-//! settings and pieces of firmware. Everything follows from fixed seeds.
+//! settings and pieces of firmware. In edition 2 they are the same, each with a stamp.
+//! Everything follows from fixed seeds.
 
 use crate::calls::{self, Call, Lent, NOTHING_FOUND};
-use crate::plain;
 use crate::plain::layout::number::{ABSENT, DONE, NO_ROOM, REPLACED};
 use crate::plain::layout::{get32, set32, AT_EDITION, AT_U, LONGEST_FRAME, MOST_SLOTS};
+use crate::plain::{self, Edition, One, Two};
 use crate::random::Random;
 use frame_store::Batch;
 
@@ -69,20 +70,26 @@ impl Workload {
         get32(&self.frame, AT_U)
     }
 
-    /// The same frame in edition 2, without the calls: what is good in edition 1 is so
-    /// in edition 2, but for the number.
+    /// The same frame in edition 2, all stamps 0, without the calls: what is good in
+    /// edition 1 is so in edition 2, but for the number.
     pub fn in_edition_2(&self) -> Workload {
         let mut frame = self.frame.clone();
-        set32(&mut frame, AT_EDITION, SECOND_EDITION);
+        set32(&mut frame, AT_EDITION, Two::NUMBER);
         Workload { frame, n: self.n, tasks: Vec::new() }
     }
 }
 
-const SECOND_EDITION: usize = 2;
 const SEED: u64 = 1;
 /// Different inputs of one task; they are used in turn.
 const MOST_INPUTS: usize = 64;
 const LONGEST_NEW_VALUE: usize = 48;
+/// The stamp of the first record; each has a second of its own.
+const FIRST_STAMP: u64 = 1_700_000_000;
+
+/// The stamp of the record whose turn it is.
+fn stamp(turn: usize) -> u64 {
+    FIRST_STAMP + turn as u64
+}
 
 /// Children of every node of a wide tree: each number makes nodes of another
 /// kind.
@@ -93,15 +100,15 @@ pub const ABSENT_OF_WIDE: usize = 2;
 
 /// A tree of two levels with so many children at each node: two bytes, spread
 /// over all that a key can hold, and the same text behind them.
-pub fn wide(children: usize) -> Workload {
+pub fn wide<E: Edition>(children: usize) -> Workload {
     let (f, n) = (LONGEST_FRAME, MOST_SLOTS);
     let mut random = Random::new(SEED);
     let mut records = records_of_tree(2, children, &mut random);
     random.shuffle(&mut records);
     let absent = records.split_off(records.len() - ABSENT_OF_WIDE);
-    let mut frame = formatted(f, n);
-    assert_eq!(puts_until_no_room(&mut frame, &records), None, "the longest frame has room");
-    let tasks = tasks(&frame, n, &records, &absent);
+    let mut frame = formatted::<E>(f, n);
+    assert_eq!(puts_until_no_room::<E>(&mut frame, &records), None, "the longest frame has room");
+    let tasks = tasks::<E>(&frame, n, &records, &absent);
     Workload { frame, n, tasks }
 }
 
@@ -126,14 +133,14 @@ pub const SOUGHT: [usize; 3] = [16, 12, 8];
 /// keys.
 pub fn sought(children: usize) -> (Vec<u8>, Vec<Record>) {
     let records = records_of_tree(3, children, &mut Random::new(SEED));
-    let mut frame = formatted(LONGEST_FRAME, MOST_SLOTS);
-    assert_eq!(puts_until_no_room(&mut frame, &records), None, "the longest frame has room");
+    let mut frame = formatted::<One>(LONGEST_FRAME, MOST_SLOTS);
+    assert_eq!(puts_until_no_room::<One>(&mut frame, &records), None, "the longest frame has room");
     (frame, records)
 }
 
 /// A full frame of the longest length and its keys, which are text.
 pub fn sought_text() -> (Vec<u8>, Vec<Record>) {
-    let (records, _, frame) = filled(LONGEST_FRAME, MOST_SLOTS, Fill::Full);
+    let (records, _, frame) = filled::<One>(LONGEST_FRAME, MOST_SLOTS, Fill::Full);
     (frame, records)
 }
 
@@ -157,7 +164,7 @@ pub const VISIT: usize = 200;
 /// replacements by a value of the same length, an erase and a put of a new key,
 /// over and over. None of them is refused.
 pub fn visit() -> (Vec<u8>, Vec<(Call, Record)>) {
-    let (present, absent, frame) = filled(LONGEST_FRAME, MOST_SLOTS, Fill::Full);
+    let (present, absent, frame) = filled::<One>(LONGEST_FRAME, MOST_SLOTS, Fill::Full);
     let mut after = frame.clone();
     let mut changes = Vec::new();
     let (mut present, mut absent) = (present.into_iter(), absent.into_iter());
@@ -169,9 +176,9 @@ pub fn visit() -> (Vec<u8>, Vec<(Call, Record)>) {
         let record = Record { key, value };
         let mut trial = after.clone();
         let given = match call {
-            Call::Put => plain::put(&mut trial, &record.key, &record.value),
-            Call::Replace => plain::replace(&mut trial, &record.key, &record.value),
-            _ => plain::erase(&mut trial, &record.key),
+            Call::Put => plain::put::<One>(&mut trial, &record.key, &record.value, 0),
+            Call::Replace => plain::replace::<One>(&mut trial, &record.key, &record.value, 0),
+            _ => plain::erase::<One>(&mut trial, &record.key),
         };
         if given != NO_ROOM {
             after = trial;
@@ -196,38 +203,39 @@ pub fn batch(changes: &[(Call, Record)]) -> Vec<u8> {
     batch.bytes().to_vec()
 }
 
-pub fn workload(f: usize, n: usize, fill: Fill) -> Workload {
-    let (records, absent, frame) = filled(f, n, fill);
-    let tasks = tasks(&frame, n, &records, &absent);
+pub fn workload<E: Edition>(f: usize, n: usize, fill: Fill) -> Workload {
+    let (records, absent, frame) = filled::<E>(f, n, fill);
+    let tasks = tasks::<E>(&frame, n, &records, &absent);
     Workload { frame, n, tasks }
 }
 
 /// Records that are in the frame, some that are not, and the frame.
-fn filled(f: usize, n: usize, fill: Fill) -> (Vec<Record>, Vec<Record>, Vec<u8>) {
+fn filled<E: Edition>(f: usize, n: usize, fill: Fill) -> (Vec<Record>, Vec<Record>, Vec<u8>) {
     let mut random = Random::new(SEED);
     let mut records = all_records(&mut random);
-    let most = puts_until_no_room(&mut formatted(f, n), &records);
+    let most = puts_until_no_room::<E>(&mut formatted::<E>(f, n), &records);
     let most = most.expect("there are more records than any frame holds");
     let absent = records.split_off(fill.records(most));
-    let mut frame = formatted(f, n);
-    let refused = puts_until_no_room(&mut frame, &records);
+    let mut frame = formatted::<E>(f, n);
+    let refused = puts_until_no_room::<E>(&mut frame, &records);
     assert_eq!(refused, None, "fewer records than a full frame's have room");
     match fill {
         Fill::Sparse | Fill::Full => (records, absent, frame),
-        Fill::Churned => (churned(&mut frame, records), absent, frame),
+        Fill::Churned => (churned::<E>(&mut frame, records), absent, frame),
     }
 }
 
 /// Erases a third of the records, and gives about a quarter of the others another
 /// length; gives those that are there then.
-fn churned(frame: &mut [u8], records: Vec<Record>) -> Vec<Record> {
+fn churned<E: Edition>(frame: &mut [u8], records: Vec<Record>) -> Vec<Record> {
     let mut left = Vec::new();
     for (turn, mut record) in records.into_iter().enumerate() {
-        if turn % 3 == 0 && plain::erase(frame, &record.key) == DONE {
+        if turn % 3 == 0 && plain::erase::<E>(frame, &record.key) == DONE {
             continue;
         }
         let other = other_length(&record.value);
-        if turn % 4 == 1 && plain::replace(frame, &record.key, &other) == REPLACED {
+        let replace = |frame| plain::replace::<E>(frame, &record.key, &other, stamp(turn));
+        if turn % 4 == 1 && replace(frame) == REPLACED {
             record.value = other;
         }
         left.push(record);
@@ -239,15 +247,19 @@ fn other_length(value: &[u8]) -> Vec<u8> {
     vec![b'+'; value.len() % 16 + 1]
 }
 
-fn formatted(f: usize, n: usize) -> Vec<u8> {
+fn formatted<E: Edition>(f: usize, n: usize) -> Vec<u8> {
     let mut frame = vec![0; f];
-    assert_eq!(plain::format(&mut frame, f, n), DONE, "F {f} and N {n} are within the limits");
+    let number = plain::format::<E>(&mut frame, f, n);
+    assert_eq!(number, DONE, "F {f} and N {n} are within the limits");
     frame
 }
 
 /// Puts one record after the other; gives how many were put before a 6.
-fn puts_until_no_room(frame: &mut [u8], records: &[Record]) -> Option<usize> {
-    records.iter().position(|it| plain::put(frame, &it.key, &it.value) == NO_ROOM)
+fn puts_until_no_room<E: Edition>(frame: &mut [u8], records: &[Record]) -> Option<usize> {
+    let refused = |(turn, Record { key, value }): (usize, &Record)| {
+        plain::put::<E>(frame, key, value, stamp(turn)) == NO_ROOM
+    };
+    records.iter().enumerate().map(refused).position(|refused| refused)
 }
 
 /// More records than the largest frame holds, with distinct keys, shuffled.
@@ -271,7 +283,7 @@ fn all_records(random: &mut Random) -> Vec<Record> {
     records
 }
 
-fn tasks(frame: &[u8], n: usize, present: &[Record], absent: &[Record]) -> Vec<Task> {
+fn tasks<E: Edition>(frame: &[u8], n: usize, present: &[Record], absent: &[Record]) -> Vec<Task> {
     let keys = |from: &[Record]| -> Vec<Record> {
         from.iter().map(|it| Record { key: it.key.clone(), value: Vec::new() }).collect()
     };
@@ -296,7 +308,7 @@ fn tasks(frame: &[u8], n: usize, present: &[Record], absent: &[Record]) -> Vec<T
     tasks
         .into_iter()
         .map(|(name, call, number, mut inputs)| {
-            keep_giving(frame, n, call, number, &mut inputs);
+            keep_giving::<E>(frame, n, call, number, &mut inputs);
             assert!(!inputs.is_empty(), "no input of {name} gives {number}");
             Task { name, call, number, inputs }
         })
@@ -304,7 +316,13 @@ fn tasks(frame: &[u8], n: usize, present: &[Record], absent: &[Record]) -> Vec<T
 }
 
 /// Keeps inputs that give this number on a copy of the frame, and not too many.
-fn keep_giving(frame: &[u8], n: usize, call: Call, number: u32, inputs: &mut Vec<Record>) {
+fn keep_giving<E: Edition>(
+    frame: &[u8],
+    n: usize,
+    call: Call,
+    number: u32,
+    inputs: &mut Vec<Record>,
+) {
     let (mut copy, mut out) = (frame.to_vec(), vec![0; frame.len()]);
     let mut kept = 0;
     inputs.retain(|input| {
@@ -312,7 +330,7 @@ fn keep_giving(frame: &[u8], n: usize, call: Call, number: u32, inputs: &mut Vec
             return false;
         }
         copy.copy_from_slice(frame);
-        let given = calls::plain(call)(&mut Lent {
+        let given = calls::plain::<E>(call)(&mut Lent {
             frame: &mut copy,
             out: &mut out,
             key: &input.key,

@@ -4,6 +4,8 @@
 //! before it writes anything. What a call frees is wiped, and goes on its list
 //! last.
 
+use super::chain::{self, prefixes};
+use super::edition::{text, Edition, TextRoom};
 use super::layout::number::*;
 use super::layout::*;
 use super::walk::*;
@@ -12,20 +14,43 @@ use super::{format, refusal};
 /// No child list that is carried over to another kind is longer.
 const MOST_CARRIED: usize = MOST_CHILDREN[NODE48];
 
-pub fn put(frame: &mut [u8], key: &[u8], value: &[u8]) -> u32 {
-    match refusal_with_value(frame, key, value) {
+/// A record to be written.
+pub struct Record<'a> {
+    key: &'a [u8],
+    /// The key's.
+    pub text: &'a [u8],
+    value: &'a [u8],
+    stamp: u64,
+}
+
+impl Record<'_> {
+    #[inline(always)]
+    pub fn extent_bytes(&self) -> usize {
+        extent_bytes(self.key.len(), self.value.len())
+    }
+}
+
+/// The stamp is passed in edition 2, and not looked at in edition 1.
+pub fn put<E: Edition>(frame: &mut [u8], key: &[u8], value: &[u8], stamp: u64) -> u32 {
+    match refusal_with_value::<E>(frame, key, value) {
         DONE => {}
         refused => return refused,
     }
-    let end = walk(frame, key).end;
+    let mut room = TextRoom::None;
+    let text = text::<E>(key, &mut room);
+    let end = walk::<E>(frame, text).end;
     if present(frame, &end, key).is_some() {
         return PRESENT;
     }
+    let record = Record { key, text, value, stamp };
     let added = match end.kind {
-        EMPTY_ROOT => replace_empty_root(frame, &end, key, value),
-        LEAF => split_leaf(frame, &end, key, value),
-        PREFIX => cut_prefix(frame, &end, key, value),
-        _ => add_to_inner(frame, &end, key, value),
+        EMPTY_ROOT => replace_empty_root::<E>(frame, &end, &record),
+        LEAF => split_leaf::<E>(frame, &end, &record),
+        PREFIX if E::CHAINS && chain::goes_on(frame, end.body) => {
+            chain::cut::<E>(frame, &end, &record)
+        }
+        PREFIX => cut_prefix::<E>(frame, &end, &record),
+        _ => add_to_inner::<E>(frame, &end, &record),
     };
     match added {
         None => NO_ROOM,
@@ -36,41 +61,45 @@ pub fn put(frame: &mut [u8], key: &[u8], value: &[u8]) -> u32 {
     }
 }
 
-pub fn replace(frame: &mut [u8], key: &[u8], value: &[u8]) -> u32 {
-    match refusal_with_value(frame, key, value) {
+pub fn replace<E: Edition>(frame: &mut [u8], key: &[u8], value: &[u8], stamp: u64) -> u32 {
+    match refusal_with_value::<E>(frame, key, value) {
         DONE => {}
         refused => return refused,
     }
-    let end = walk(frame, key).end;
+    let mut room = TextRoom::None;
+    let text = text::<E>(key, &mut room);
+    let end = walk::<E>(frame, text).end;
     match present(frame, &end, key) {
         None => ABSENT,
-        Some(leaf) => replace_value(frame, &end, &leaf, key, value),
+        Some(leaf) => replace_value::<E>(frame, &end, &leaf, &Record { key, text, value, stamp }),
     }
 }
 
 /// Refusals 1 to 5, in their order.
-fn refusal_with_value(frame: &[u8], key: &[u8], value: &[u8]) -> u32 {
-    match refusal(frame, key) {
+fn refusal_with_value<E: Edition>(frame: &[u8], key: &[u8], value: &[u8]) -> u32 {
+    match refusal::<E>(frame, key) {
         DONE if value.len() > LONGEST_VALUE => VALUE_LENGTH,
         told => told,
     }
 }
 
-pub fn erase(frame: &mut [u8], key: &[u8]) -> u32 {
-    match refusal(frame, key) {
+pub fn erase<E: Edition>(frame: &mut [u8], key: &[u8]) -> u32 {
+    match refusal::<E>(frame, key) {
         DONE => {}
         refused => return refused,
     }
-    let way = walk(frame, key);
+    let mut room = TextRoom::None;
+    let text = text::<E>(key, &mut room);
+    let way = walk::<E>(frame, text);
     let Some(leaf) = present(frame, &way.end, key) else {
         return ABSENT;
     };
     let records = get32(frame, AT_R);
     if records == 1 {
         let (f, n) = (get32(frame, AT_F), get32(frame, AT_N));
-        return format(frame, f, n);
+        return format::<E>(frame, f, n);
     }
-    if take_out(frame, &way, walked_byte(key, way.parent.depth)).is_none() {
+    if take_out::<E>(frame, &way, text).is_none() {
         return NO_ROOM;
     }
     retire(frame, &leaf);
@@ -81,72 +110,69 @@ pub fn erase(frame: &mut [u8], key: &[u8]) -> u32 {
 
 // Replacement, and the cases of put.
 
-fn replace_value(frame: &mut [u8], end: &Step, leaf: &LeafFields, key: &[u8], value: &[u8]) -> u32 {
+fn replace_value<E: Edition>(
+    frame: &mut [u8],
+    end: &Step,
+    leaf: &LeafFields,
+    record: &Record,
+) -> u32 {
+    let value = record.value;
     if leaf.value_length == value.len() {
         let place = leaf.extent + leaf.key_length;
         frame[place..place + value.len()].copy_from_slice(value);
+        write_stamp::<E>(frame, end.body, record.stamp);
         return REPLACED;
     }
-    if room(frame, &[], extent_bytes(key.len(), value.len())).is_none() {
+    if room(frame, &[], 0, record.extent_bytes()).is_none() {
         return NO_ROOM;
     }
-    write_leaf(frame, end.body, key, value);
+    write_leaf::<E>(frame, end.body, record);
     retire(frame, leaf);
     REPLACED
 }
 
-fn replace_empty_root(frame: &mut [u8], end: &Step, key: &[u8], value: &[u8]) -> Option<()> {
-    room(frame, &[LEAF], extent_bytes(key.len(), value.len()))?;
-    let leaf = add_leaf(frame, key, value);
+fn replace_empty_root<E: Edition>(frame: &mut [u8], end: &Step, record: &Record) -> Option<()> {
+    room(frame, &[LEAF], 0, record.extent_bytes())?;
+    let leaf = add_leaf::<E>(frame, record);
     set_link(frame, end.link, leaf);
     release(frame, end.slot, EMPTY_ROOT);
     Some(())
 }
 
-/// A Leaf with another key: a Node4, and a Prefix if they share bytes.
-fn split_leaf(frame: &mut [u8], end: &Step, key: &[u8], value: &[u8]) -> Option<()> {
-    let there = leaf_fields(frame, end.body);
-    let there = leaf_key(frame, &there);
-    let shared = shared_bytes(&there[end.depth..], &key[end.depth..]);
-    let parting = end.depth + shared;
-    let (old_byte, new_byte) = (walked_byte(there, parting), walked_byte(key, parting));
-    let extent = extent_bytes(key.len(), value.len());
-    if shared == 0 {
-        room(frame, &[LEAF, NODE4], extent)?;
-    } else {
-        room(frame, &[LEAF, NODE4, PREFIX], extent)?;
-    }
-    let leaf = add_leaf(frame, key, value);
-    let node = add_pair(frame, (old_byte, end.slot), (new_byte, leaf));
-    let top = if shared == 0 {
-        node
-    } else {
+/// A Leaf with another key: a Node4, and as many Prefixes as the bytes that they share
+/// take.
+fn split_leaf<E: Edition>(frame: &mut [u8], end: &Step, record: &Record) -> Option<()> {
+    let (there, mut there_room) = (leaf_fields(frame, end.body), TextRoom::None);
+    let there = text::<E>(leaf_key(frame, &there), &mut there_room);
+    let parting = end.depth + shared_bytes::<E>(there, record.text, end.depth);
+    let (old_byte, new_byte) = (walked_byte(there, parting), walked_byte(record.text, parting));
+    room(frame, &[LEAF, NODE4], prefixes(parting - end.depth), record.extent_bytes())?;
+    let leaf = add_leaf::<E>(frame, record);
+    let mut top = add_pair(frame, (old_byte, end.slot), (new_byte, leaf));
+    let mut to = parting;
+    while to > end.depth {
+        let from = to - 1 - (to - 1 - end.depth) % LONGEST_PREFIX;
         let (prefix, body) = take(frame, PREFIX);
-        write_prefix(frame, body, &[&key[end.depth..parting]], node);
-        prefix
-    };
+        write_prefix(frame, body, &walked_part(record.text, from, to), top);
+        (top, to) = (prefix, from);
+    }
     set_link(frame, end.link, top);
     Some(())
 }
 
 /// A Prefix that does not match: a Node4 between the part before and the part
 /// after. If both have bytes, the part before keeps the old body.
-fn cut_prefix(frame: &mut [u8], end: &Step, key: &[u8], value: &[u8]) -> Option<()> {
+fn cut_prefix<E: Edition>(frame: &mut [u8], end: &Step, record: &Record) -> Option<()> {
     let mut copy = [0; LONGEST_PREFIX];
     let length = prefix_bytes(frame, end.body).len();
     copy[..length].copy_from_slice(prefix_bytes(frame, end.body));
     let bytes = &copy[..length];
     let below = get32(frame, end.body + PREFIX_CHILD);
-    let shared = shared_bytes(bytes, &key[end.depth..]);
+    let shared = matched_bytes::<E>(bytes, record.text, end.depth);
     let (before, after) = (&bytes[..shared], &bytes[shared + 1..]);
     let both = !before.is_empty() && !after.is_empty();
-    let extent = extent_bytes(key.len(), value.len());
-    if both {
-        room(frame, &[LEAF, NODE4, PREFIX], extent)?;
-    } else {
-        room(frame, &[LEAF, NODE4], extent)?;
-    }
-    let leaf = add_leaf(frame, key, value);
+    room(frame, &[LEAF, NODE4], usize::from(both), record.extent_bytes())?;
+    let leaf = add_leaf::<E>(frame, record);
     let lower = if after.is_empty() {
         below
     } else {
@@ -154,7 +180,7 @@ fn cut_prefix(frame: &mut [u8], end: &Step, key: &[u8], value: &[u8]) -> Option<
         write_prefix(frame, body, &[after], below);
         lower
     };
-    let new_byte = walked_byte(key, end.depth + shared);
+    let new_byte = walked_byte(record.text, end.depth + shared);
     let node = add_pair(frame, (bytes[shared], lower), (new_byte, leaf));
     if before.is_empty() {
         set_link(frame, end.link, node);
@@ -168,18 +194,18 @@ fn cut_prefix(frame: &mut [u8], end: &Step, key: &[u8], value: &[u8]) -> Option<
 }
 
 /// An inner node without the byte: it takes the Leaf, or grows if it is full.
-fn add_to_inner(frame: &mut [u8], end: &Step, key: &[u8], value: &[u8]) -> Option<()> {
-    let byte = walked_byte(key, end.depth);
-    let extent = extent_bytes(key.len(), value.len());
+fn add_to_inner<E: Edition>(frame: &mut [u8], end: &Step, record: &Record) -> Option<()> {
+    let byte = walked_byte(record.text, end.depth);
+    let extent = record.extent_bytes();
     if get16(frame, end.body + INNER_COUNT) < MOST_CHILDREN[end.kind] {
-        room(frame, &[LEAF], extent)?;
-        let leaf = add_leaf(frame, key, value);
+        room(frame, &[LEAF], 0, extent)?;
+        let leaf = add_leaf::<E>(frame, record);
         add_child(frame, end.kind, end.body, byte, leaf);
         return Some(());
     }
     let larger = end.kind + 1;
-    room(frame, &[LEAF, larger], extent)?;
-    let leaf = add_leaf(frame, key, value);
+    room(frame, &[LEAF, larger], 0, extent)?;
+    let leaf = add_leaf::<E>(frame, record);
     let body = change_kind(frame, end, larger);
     add_child(frame, larger, body, byte, leaf);
     Some(())
@@ -188,15 +214,16 @@ fn add_to_inner(frame: &mut [u8], end: &Step, key: &[u8], value: &[u8]) -> Optio
 // The cases of erase.
 
 /// Takes the Leaf out of its inner node; None if there is no room to.
-fn take_out(frame: &mut [u8], way: &Way, byte: u8) -> Option<()> {
+fn take_out<E: Edition>(frame: &mut [u8], way: &Way, text: &[u8]) -> Option<()> {
     let node = &way.parent;
+    let byte = walked_byte(text, node.depth);
     let left = get16(frame, node.body + INNER_COUNT) - 1;
     if node.kind == NODE4 && left == 1 {
-        return collapse(frame, way, byte);
+        return collapse::<E>(frame, way, text, byte);
     }
     if left < FEWEST_CHILDREN[node.kind] {
         let smaller = node.kind - 1;
-        room(frame, &[smaller], 0)?;
+        room(frame, &[smaller], 0, 0)?;
         remove_child(frame, node, way.end.link, byte);
         change_kind(frame, node, smaller);
     } else {
@@ -207,16 +234,22 @@ fn take_out(frame: &mut [u8], way: &Way, byte: u8) -> Option<()> {
 
 /// A Node4 with one child left is freed, and the byte that leads to that child
 /// goes into a Prefix unless the child is a Leaf.
-fn collapse(frame: &mut [u8], way: &Way, erased: u8) -> Option<()> {
+fn collapse<E: Edition>(frame: &mut [u8], way: &Way, text: &[u8], erased: u8) -> Option<()> {
     let node = &way.parent;
     let (byte, child) = children(frame, NODE4, node.body).find(|(byte, _)| *byte != erased)?;
     let (child_body, child_kind) = get_entry(frame, child);
     let upper = (way.above.kind == PREFIX).then_some(&way.above);
     match (child_kind, upper) {
         (LEAF, None) => set_link(frame, node.link, child),
+        (LEAF, Some(upper)) if E::CHAINS && upper.depth >= LONGEST_PREFIX => {
+            chain::drop_for::<E>(frame, text, upper, child);
+        }
         (LEAF, Some(upper)) => {
             set_link(frame, upper.link, child);
             release(frame, upper.slot, PREFIX);
+        }
+        _ if E::CHAINS && chain::joined(frame, upper, child) > LONGEST_PREFIX => {
+            chain::join(frame, node, upper, (byte, child))?;
         }
         (PREFIX, None) => {
             join_prefix(frame, child_body, &[], byte, child_body);
@@ -231,7 +264,7 @@ fn collapse(frame: &mut [u8], way: &Way, erased: u8) -> Option<()> {
             release(frame, child, PREFIX);
         }
         (_, None) => {
-            room(frame, &[PREFIX], 0)?;
+            room(frame, &[], 1, 0)?;
             let (prefix, body) = take(frame, PREFIX);
             write_prefix(frame, body, &[&[byte]], child);
             set_link(frame, node.link, prefix);
@@ -258,14 +291,24 @@ fn join_prefix(frame: &mut [u8], body: usize, start: &[u8], byte: u8, lower: usi
 
 // Room, slots and lists.
 
-/// None if the bodies and the extent do not fit; bodies come from their lists
-/// first.
-fn room(frame: &[u8], bodies: &[usize], extent: usize) -> Option<()> {
+/// None if the bodies, one of each of these kinds and so many Prefixes, and the extent
+/// do not fit; bodies come from their lists first.
+#[inline(always)]
+pub fn room(frame: &[u8], bodies: &[usize], prefixes: usize, extent: usize) -> Option<()> {
     let (mut slots, mut bytes) = (0, extent);
     for kind in bodies {
         if get16(frame, list_head_at(*kind)) == 0 {
             slots += 1;
             bytes += BODY_BYTES[*kind];
+        }
+    }
+    let mut listed = get16(frame, list_head_at(PREFIX));
+    for _ in 0..prefixes {
+        if listed == 0 {
+            slots += 1;
+            bytes += PREFIX_BYTES;
+        } else {
+            (_, listed) = get_entry(frame, listed);
         }
     }
     let slots_left = get32(frame, AT_N) - get32(frame, AT_U);
@@ -275,7 +318,7 @@ fn room(frame: &[u8], bodies: &[usize], extent: usize) -> Option<()> {
 
 /// A slot and its body from the kind's list, or fresh. The body's bytes are
 /// left for the writer.
-fn take(frame: &mut [u8], kind: usize) -> (usize, usize) {
+pub fn take(frame: &mut [u8], kind: usize) -> (usize, usize) {
     let head = get16(frame, list_head_at(kind));
     if head != 0 {
         let (body, next) = get_entry(frame, head);
@@ -291,7 +334,7 @@ fn take(frame: &mut [u8], kind: usize) -> (usize, usize) {
     (slot, body)
 }
 
-fn release(frame: &mut [u8], slot: usize, kind: usize) {
+pub fn release(frame: &mut [u8], slot: usize, kind: usize) {
     let head = get16(frame, list_head_at(kind));
     let (body, _) = get_entry(frame, slot);
     frame[body..body + BODY_BYTES[kind]].fill(0);
@@ -306,7 +349,7 @@ fn retire(frame: &mut [u8], leaf: &LeafFields) {
     add32(frame, AT_X, size);
 }
 
-fn set_link(frame: &mut [u8], link: usize, slot: usize) {
+pub fn set_link(frame: &mut [u8], link: usize, slot: usize) {
     match link {
         AT_ROOT => set16(frame, link, slot),
         _ => set32(frame, link, slot),
@@ -320,15 +363,16 @@ fn add32(frame: &mut [u8], at: usize, more: usize) {
 // Writers of bodies and extents.
 
 /// A Leaf with its extent; gives its slot.
-fn add_leaf(frame: &mut [u8], key: &[u8], value: &[u8]) -> usize {
+pub fn add_leaf<E: Edition>(frame: &mut [u8], record: &Record) -> usize {
     let (slot, body) = take(frame, LEAF);
     frame[body..body + LEAF_BYTES].fill(0);
-    write_leaf(frame, body, key, value);
+    write_leaf::<E>(frame, body, record);
     slot
 }
 
 /// A new extent at B, and a Leaf's fields that name it.
-fn write_leaf(frame: &mut [u8], body: usize, key: &[u8], value: &[u8]) {
+fn write_leaf<E: Edition>(frame: &mut [u8], body: usize, record: &Record) {
+    let Record { key, value, stamp, .. } = *record;
     let extent = get32(frame, AT_B);
     let end = extent + extent_bytes(key.len(), value.len());
     let value_at = extent + key.len();
@@ -339,9 +383,16 @@ fn write_leaf(frame: &mut [u8], body: usize, key: &[u8], value: &[u8]) {
     set32(frame, body + LEAF_EXTENT, extent);
     set16(frame, body + LEAF_KEY_LENGTH, key.len());
     set16(frame, body + LEAF_VALUE_LENGTH, value.len());
+    write_stamp::<E>(frame, body, stamp);
 }
 
-fn write_prefix(frame: &mut [u8], body: usize, parts: &[&[u8]], child: usize) {
+fn write_stamp<E: Edition>(frame: &mut [u8], body: usize, stamp: u64) {
+    if E::STAMPS {
+        set64(frame, body + LEAF_STAMP, stamp);
+    }
+}
+
+pub fn write_prefix(frame: &mut [u8], body: usize, parts: &[&[u8]], child: usize) {
     frame[body..body + PREFIX_BYTES].fill(0);
     let start = body + PREFIX_START;
     let mut end = start;
@@ -354,7 +405,7 @@ fn write_prefix(frame: &mut [u8], body: usize, parts: &[&[u8]], child: usize) {
 }
 
 /// A new Node4 with two children; gives its slot.
-fn add_pair(frame: &mut [u8], one: (u8, usize), other: (u8, usize)) -> usize {
+pub fn add_pair(frame: &mut [u8], one: (u8, usize), other: (u8, usize)) -> usize {
     let (slot, body) = take(frame, NODE4);
     write_inner(frame, NODE4, body, &if one < other { [one, other] } else { [other, one] });
     slot
@@ -451,6 +502,24 @@ fn remove_child(frame: &mut [u8], node: &Step, field: usize, byte: u8) {
     }
 }
 
-fn shared_bytes(one: &[u8], other: &[u8]) -> usize {
-    one.iter().zip(other).take_while(|(one, other)| one == other).count()
+// Walked bytes, by texts.
+
+/// How many bytes two walked strings share from a depth on.
+fn shared_bytes<E: Edition>(one: &[u8], other: &[u8], depth: usize) -> usize {
+    let (shorter, longer) = if one.len() < other.len() { (one, other) } else { (other, one) };
+    matched_bytes::<E>(rest(longer, depth), shorter, depth)
+}
+
+/// How many of these bytes a walked string goes on with at a depth; not all of them.
+pub fn matched_bytes<E: Edition>(bytes: &[u8], text: &[u8], depth: usize) -> usize {
+    let rest = rest(text, depth);
+    let equal = bytes.iter().zip(rest).take_while(|(one, other)| one == other).count();
+    let ends = E::ZEROS && equal == rest.len() && bytes.get(equal) == Some(&END_BYTE);
+    equal + usize::from(ends)
+}
+
+/// A part of a walked string, which ends with the text or one byte behind it.
+fn walked_part(text: &[u8], from: usize, to: usize) -> [&[u8]; 2] {
+    let in_text = to.min(text.len());
+    [&text[from..in_text], &[END_BYTE][..to - in_text]]
 }

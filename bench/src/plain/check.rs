@@ -6,42 +6,45 @@
 //! met twice would take its body twice, so as many bodies as U are all of them.
 //! After the tree and before the lists the map has what is live: all else from
 //! D on is zero.
+//!
+//! The walk keeps the bytes of a key that lead to where it is: in edition 2 a byte 0
+//! for its two walked ones. Where only the first of them is behind it, the walk goes
+//! on by itself (`behind_zero`).
 
+use super::edition::{Edition, One};
 use super::layout::number::{DONE, LENGTHS, NOT_GOOD};
 use super::layout::*;
+use super::walk::child_at;
 
 /// Frames up to these lengths get a bit map of their own size class.
 const SMALL_FRAME: usize = 4_096;
 const MIDDLE_FRAME: usize = 32_768;
 
-/// A path that leads to a Leaf, and room for one Prefix copied as a whole.
-const PATH_ROOM: usize = (LONGEST_WALKED + LONGEST_PREFIX).next_multiple_of(UNIT);
-
 const LOW_BITS: u64 = u64::from_ne_bytes([0x01; 8]);
 const HIGH_BITS: u64 = u64::from_ne_bytes([0x80; 8]);
 
 #[inline(never)]
-pub fn check(frame: &[u8]) -> u32 {
-    check_by(frame, true)
+pub fn check<E: Edition>(frame: &[u8]) -> u32 {
+    check_by::<E>(frame, true)
 }
 
-/// The check of a frame from before what is freed was wiped.
+/// The check of a frame from before what is freed was wiped, so of edition 1.
 #[inline(never)]
 pub fn check_before(frame: &[u8]) -> u32 {
-    check_by(frame, false)
+    check_by::<One>(frame, false)
 }
 
 #[inline(always)]
-fn check_by(frame: &[u8], wiped: bool) -> u32 {
+fn check_by<E: Edition>(frame: &[u8], wiped: bool) -> u32 {
     if !frame_length_allowed(frame.len()) || get32(frame, AT_F) != frame.len() {
         return LENGTHS;
     }
     let good = if frame.len() <= SMALL_FRAME {
-        good_frame::<{ map_words(SMALL_FRAME) }>(frame, wiped)
+        good_frame::<E, { map_words(SMALL_FRAME) }>(frame, wiped)
     } else if frame.len() <= MIDDLE_FRAME {
-        good_frame::<{ map_words(MIDDLE_FRAME) }>(frame, wiped)
+        good_frame::<E, { map_words(MIDDLE_FRAME) }>(frame, wiped)
     } else {
-        good_frame::<{ map_words(LONGEST_FRAME) }>(frame, wiped)
+        good_frame::<E, { map_words(LONGEST_FRAME) }>(frame, wiped)
     };
     if good {
         DONE
@@ -56,16 +59,17 @@ const fn map_words(bytes: usize) -> usize {
 }
 
 #[inline(never)]
-fn good_frame<const MAP_WORDS: usize>(frame: &[u8], wiped: bool) -> bool {
-    let Some(header) = Header::read(frame) else {
+fn good_frame<E: Edition, const MAP_WORDS: usize>(frame: &[u8], wiped: bool) -> bool {
+    let Some(header) = Header::read::<E>(frame) else {
         return false;
     };
     let mut map = [0; MAP_WORDS];
     let taken = &mut map[..map_words(header.b)];
     mark_outside(taken, header.d / UNIT, header.b / UNIT);
     let (entries, _) = frame[HEADER_BYTES..entry_at(header.u + 1)].as_chunks();
-    let path = [0; PATH_ROOM];
-    let mut checker = Checker { frame, entries, taken, path, leaves: 0, other_bodies: 0 };
+    let path = E::NO_PATH;
+    let mut checker: Checker<E> =
+        Checker { frame, entries, taken, path, leaves: 0, other_bodies: 0 };
     checker.root()
         && (!wiped || checker.all_else_zero(header.b))
         && checker.lists()
@@ -82,10 +86,10 @@ struct Header {
 }
 
 impl Header {
-    fn read(frame: &[u8]) -> Option<Header> {
+    fn read<E: Edition>(frame: &[u8]) -> Option<Header> {
         let n = get32(frame, AT_N);
         let (d, b, u) = (get32(frame, AT_D), get32(frame, AT_B), get32(frame, AT_U));
-        let good = get32(frame, AT_EDITION) == EDITION
+        let good = get32(frame, AT_EDITION) == E::NUMBER
             && slot_capacity_allowed(n)
             && d == data_start(n)
             && (d + EMPTY_ROOT_BYTES..=frame.len()).contains(&b)
@@ -138,21 +142,29 @@ fn zero_bytes(word: u64) -> u64 {
     word.wrapping_sub(LOW_BITS) & !word & HIGH_BITS
 }
 
-struct Checker<'a> {
+/// What is read of a Prefix.
+struct PrefixRead<'a> {
+    body: &'a [u8; PREFIX_BYTES],
+    length: usize,
+    /// Whether there is a byte 0 among those in use; told in edition 2.
+    zeros: bool,
+}
+
+struct Checker<'a, E: Edition> {
     frame: &'a [u8],
     /// The entries of slots 1 to U.
     entries: &'a [[u8; ENTRY_BYTES]],
     /// A bit for each unit up to B.
     taken: &'a mut [u64],
     /// The bytes that lead to where the walk is.
-    path: [u8; PATH_ROOM],
+    path: E::Path,
     /// Live Leaves met.
     leaves: usize,
     /// All other bodies met, freed Leaves among them.
     other_bodies: usize,
 }
 
-impl<'a> Checker<'a> {
+impl<'a, E: Edition> Checker<'a, E> {
     /// The unit where the body starts, and the kind or the next slot.
     #[inline(always)]
     fn entry(&self, slot: usize) -> Option<(usize, usize)> {
@@ -272,10 +284,12 @@ impl<'a> Checker<'a> {
         }
     }
 
+    /// Of the keys that part at a node one at least goes on, so that none stands where
+    /// the longest key ends.
     #[inline(always)]
     fn inner(&mut self, first: usize, kind: usize, depth: usize) -> bool {
         self.other_bodies += 1;
-        if depth >= LONGEST_WALKED {
+        if depth >= E::LONGEST_KEY {
             return false;
         }
         let good = match kind {
@@ -291,8 +305,11 @@ impl<'a> Checker<'a> {
     /// Walks the child that this byte leads to.
     #[inline(always)]
     fn child(&mut self, byte: u8, slot: usize, depth: usize) -> Option<()> {
-        self.path[depth] = byte;
         let (first, kind) = self.entry(slot)?;
+        if E::ZEROS && byte == 0 {
+            return self.behind_zero(first, kind, depth);
+        }
+        self.path.as_mut()[depth] = byte;
         let good = match kind {
             LEAF => self.leaf(first, depth + 1),
             _ => self.node(first, kind, depth + 1),
@@ -300,34 +317,43 @@ impl<'a> Checker<'a> {
         good.then_some(())
     }
 
+    /// In edition 1 the path can have the end, as a byte 0 behind the key.
     #[inline(always)]
     fn leaf(&mut self, first: usize, depth: usize) -> bool {
-        self.leaves += 1;
-        let Some(body) = self.body::<LEAF_BYTES>(first) else {
+        let Some((key, length)) = self.leaf_key(first) else {
             return false;
         };
+        if E::ZEROS {
+            return depth <= length && self.begins_with_path(key, depth);
+        }
+        let ends = depth <= length || depth == length + 1 && self.path.as_ref()[length] == END_BYTE;
+        ends && self.key_on_path(key, length, depth.min(length))
+    }
+
+    /// Takes the units of a Leaf and of its extent, and gives the key's units and its
+    /// length.
+    #[inline(always)]
+    fn leaf_key(&mut self, first: usize) -> Option<(&'a [[u8; UNIT]], usize)> {
+        self.leaves += 1;
+        let body = self.body::<LEAF_BYTES>(first)?;
         let extent = get32(body, LEAF_EXTENT);
         let key_length = get16(body, LEAF_KEY_LENGTH);
         let value_length = get16(body, LEAF_VALUE_LENGTH);
-        if get64(body, LEAF_ZERO) != 0
-            || !(1..=LONGEST_KEY).contains(&key_length)
-            || depth > key_length + 1
+        if !E::STAMPS && get64(body, LEAF_STAMP) != 0
+            || !(1..=E::LONGEST_KEY).contains(&key_length)
             || !extent.is_multiple_of(UNIT)
             || !self.claim(extent / UNIT, extent_bytes(key_length, value_length) / UNIT)
         {
-            return false;
+            return None;
         }
-        let Some(key) = self.frame.get(extent..extent + extent_bytes(key_length, 0)) else {
-            return false;
-        };
-        let ends = depth <= key_length || self.path[key_length] == END_BYTE;
-        ends && self.key_on_path(key, key_length, depth.min(key_length))
+        let key = self.frame.get(extent..extent + extent_bytes(key_length, 0))?;
+        Some((key.as_chunks().0, key_length))
     }
 
     /// Whether the key holds no byte 0 and begins with so many bytes of the path.
     #[inline(always)]
-    fn key_on_path(&self, key: &[u8], key_length: usize, depth: usize) -> bool {
-        let (key, path) = (key.as_chunks().0, self.path.as_chunks().0);
+    fn key_on_path(&self, key: &[[u8; UNIT]], key_length: usize, depth: usize) -> bool {
+        let path = self.path.as_ref().as_chunks().0;
         let (on_path, last) = (depth / UNIT, key.len() - 1);
         let mut wrong = 0;
         for (index, word) in key.iter().enumerate() {
@@ -344,35 +370,140 @@ impl<'a> Checker<'a> {
         wrong == 0
     }
 
+    /// Whether the key, which is long enough, begins with so many bytes of the path.
+    #[inline(always)]
+    fn begins_with_path(&self, key: &[[u8; UNIT]], depth: usize) -> bool {
+        let path = self.path.as_ref().as_chunks().0;
+        let mut wrong = 0;
+        for (index, (word, on_path)) in key.iter().zip(path).enumerate() {
+            if index * UNIT >= depth {
+                break;
+            }
+            let differs = u64::from_le_bytes(*word) ^ u64::from_le_bytes(*on_path);
+            wrong |= differs & low_bytes(depth - index * UNIT);
+        }
+        wrong == 0
+    }
+
     #[inline(always)]
     fn prefix(&mut self, first: usize, depth: usize) -> bool {
-        self.other_bodies += 1;
-        let Some(body) = self.body::<PREFIX_BYTES>(first) else {
+        let Some(PrefixRead { body, length, zeros }) = self.prefix_body(first) else {
             return false;
         };
-        let length = get16(body, PREFIX_LENGTH);
+        if E::ZEROS && zeros {
+            return self.prefix_with_zeros(body, length, depth, false).is_some();
+        }
         let deeper = depth + length;
-        if !(1..=LONGEST_PREFIX).contains(&length)
-            || deeper >= LONGEST_WALKED
-            || get16(body, PREFIX_ZERO) != 0
-            || get64(body, PREFIX_ZERO + 2) != 0
-        {
+        if deeper >= E::LONGEST_KEY {
             return false;
         }
-        let (bytes, _) = body[PREFIX_START..].as_chunks();
-        let mut unused = 0;
-        for (index, word) in bytes.iter().enumerate() {
-            let used = low_bytes(length.saturating_sub(index * UNIT));
-            unused |= u64::from_le_bytes(*word) & !used;
-        }
-        if unused != 0 {
-            return false;
-        }
-        self.path[depth..depth + LONGEST_PREFIX].copy_from_slice(&body[PREFIX_START..]);
+        self.path.as_mut()[depth..depth + LONGEST_PREFIX].copy_from_slice(&body[PREFIX_START..]);
         match self.entry(get32(body, PREFIX_CHILD)) {
+            Some((first, PREFIX)) if E::CHAINS && length == LONGEST_PREFIX => {
+                self.node(first, PREFIX, deeper)
+            }
             Some((first, kind)) => self.inner(first, kind, deeper),
             None => false,
         }
+    }
+
+    /// Takes the units of a Prefix, and reads all of it but the child.
+    #[inline(always)]
+    fn prefix_body(&mut self, first: usize) -> Option<PrefixRead<'a>> {
+        self.other_bodies += 1;
+        let body = self.body::<PREFIX_BYTES>(first)?;
+        let length = get16(body, PREFIX_LENGTH);
+        if !(1..=LONGEST_PREFIX).contains(&length)
+            || get16(body, PREFIX_ZERO) != 0
+            || get64(body, PREFIX_ZERO + 2) != 0
+        {
+            return None;
+        }
+        let (mut unused, mut zeros) = (0, 0);
+        for (index, word) in body[PREFIX_START..].as_chunks().0.iter().enumerate() {
+            let used = low_bytes(length.saturating_sub(index * UNIT));
+            let word = u64::from_le_bytes(*word);
+            unused |= word & !used;
+            if E::ZEROS {
+                zeros |= zero_bytes(word | !used);
+            }
+        }
+        (unused == 0).then_some(PrefixRead { body, length, zeros: zeros != 0 })
+    }
+
+    /// A Prefix that has walked bytes 0, or stands behind one.
+    #[inline(never)]
+    fn prefix_with_zeros(
+        &mut self,
+        body: &'a [u8; PREFIX_BYTES],
+        length: usize,
+        depth: usize,
+        behind_zero: bool,
+    ) -> Option<()> {
+        let (mut deeper, mut behind_zero) = (depth, behind_zero);
+        for byte in &body[PREFIX_START..PREFIX_START + length] {
+            let key_byte = match (behind_zero, *byte) {
+                (false, 0) => {
+                    behind_zero = true;
+                    continue;
+                }
+                (false, byte) => byte,
+                (true, ESCAPE) => 0,
+                (true, _) => return None,
+            };
+            behind_zero = false;
+            self.path.as_mut()[deeper] = key_byte;
+            deeper += 1;
+        }
+        let (first, kind) = self.entry(get32(body, PREFIX_CHILD))?;
+        if deeper >= E::LONGEST_KEY || kind == LEAF || kind == PREFIX && length < LONGEST_PREFIX {
+            return None;
+        }
+        if behind_zero {
+            return self.behind_zero(first, kind, deeper);
+        }
+        self.node(first, kind, deeper).then_some(())
+    }
+
+    /// Walks a slot that so many bytes of a key lead to, and then a walked byte 0: the
+    /// first one of the key's end, or of a byte 0.
+    #[inline(never)]
+    fn behind_zero(&mut self, first: usize, kind: usize, depth: usize) -> Option<()> {
+        self.path.as_mut()[depth] = 0;
+        match kind {
+            LEAF => {
+                let (key, length) = self.leaf_key(first)?;
+                let good = depth <= length && self.begins_with_path(key, length.min(depth + 1));
+                good.then_some(())
+            }
+            PREFIX => {
+                let PrefixRead { body, length, .. } = self.prefix_body(first)?;
+                self.prefix_with_zeros(body, length, depth, true)
+            }
+            NODE4 => self.end_or_zero(first, depth),
+            _ => None,
+        }
+    }
+
+    /// Where a key's end parts from a byte 0: only these two can follow a walked byte 0.
+    fn end_or_zero(&mut self, first: usize, depth: usize) -> Option<()> {
+        const PARTING: [u8; MOST_CHILDREN[NODE4]] = [END_BYTE, ESCAPE, 0, 0];
+        self.other_bodies += 1;
+        let body = self.body::<NODE4_BYTES>(first)?;
+        let bytes = &body[BRANCHES_START[NODE4]..CHILDREN_START[NODE4]];
+        let [end, zero, third, fourth] = [0, 1, 2, 3].map(|at| get32(body, child_at(NODE4, 0, at)));
+        if get32(body, INNER_COUNT) != 2 || bytes != PARTING || third != 0 || fourth != 0 {
+            return None;
+        }
+        let (first, LEAF) = self.entry(end)? else {
+            return None;
+        };
+        let (key, length) = self.leaf_key(first)?;
+        if length != depth || !self.begins_with_path(key, depth) {
+            return None;
+        }
+        let (first, kind) = self.entry(zero)?;
+        self.node(first, kind, depth + 1).then_some(())
     }
 
     #[inline(always)]

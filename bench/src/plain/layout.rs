@@ -1,6 +1,5 @@
-//! The numbers and field places of document 01 that the plain store uses.
-
-pub const EDITION: usize = 1;
+//! The numbers and field places of documents 01 and 02 that the plain store uses,
+//! as far as both editions have them (`edition` has the others).
 
 pub const SHORTEST_FRAME: usize = 1_024;
 pub const LONGEST_FRAME: usize = 524_288;
@@ -9,12 +8,13 @@ pub const MOST_SLOTS: usize = 10_240;
 /// Frame lengths, offsets, bodies and extents are multiples of this.
 pub const UNIT: usize = 8;
 
-pub const LONGEST_KEY: usize = 112;
 pub const LONGEST_VALUE: usize = 65_535;
+/// Of one body; in edition 2 a longer shared beginning is a chain of them.
 pub const LONGEST_PREFIX: usize = 112;
-/// A walked string is a key and this byte.
+/// A walked string ends with it: once in edition 1, twice in edition 2.
 pub const END_BYTE: u8 = 0;
-pub const LONGEST_WALKED: usize = LONGEST_KEY + 1;
+/// In edition 2 it follows each byte 0 of a key.
+pub const ESCAPE: u8 = 255;
 
 pub const AT_EDITION: usize = 0;
 pub const AT_F: usize = 4;
@@ -78,7 +78,8 @@ pub const CHILD_BYTES: usize = 4;
 pub const LEAF_EXTENT: usize = 0;
 pub const LEAF_KEY_LENGTH: usize = 4;
 pub const LEAF_VALUE_LENGTH: usize = 6;
-pub const LEAF_ZERO: usize = 8;
+/// Zero in edition 1.
+pub const LEAF_STAMP: usize = 8;
 pub const PREFIX_CHILD: usize = 0;
 pub const PREFIX_LENGTH: usize = 4;
 pub const PREFIX_ZERO: usize = 6;
@@ -164,6 +165,11 @@ pub fn set16(bytes: &mut [u8], at: usize, value: usize) {
 #[inline(always)]
 pub fn set32(bytes: &mut [u8], at: usize, value: usize) {
     bytes[at..at + 4].copy_from_slice(&(value as u32).to_le_bytes());
+}
+
+#[inline(always)]
+pub fn set64(bytes: &mut [u8], at: usize, value: u64) {
+    bytes[at..at + 8].copy_from_slice(&value.to_le_bytes());
 }
 
 /// An entry taken apart: the body's place, and the kind or the next slot.

@@ -1,6 +1,7 @@
 //! Names in order: one walk over the part of the tree that the prefix leads to,
 //! from the start key on.
 
+use super::edition::{text, Edition, TextRoom};
 use super::layout::number::*;
 use super::layout::*;
 use super::walk::*;
@@ -16,12 +17,15 @@ pub struct Asked<'a> {
 }
 
 /// The number; how many entries were written, and 1 if more remain.
-pub fn list(frame: &[u8], asked: &Asked, buffer: &mut [u8]) -> (u32, [u64; 2]) {
-    match refusal(frame, asked) {
+pub fn list<E: Edition>(frame: &[u8], asked: &Asked, buffer: &mut [u8]) -> (u32, [u64; 2]) {
+    match refusal::<E>(frame, asked) {
         DONE => {}
         refused => return (refused, [0; 2]),
     }
-    let mut page = Page { frame, asked, buffer, at: 0, last: 0..0, count: 0 };
+    let (mut prefix_room, mut start_room) = (TextRoom::None, TextRoom::None);
+    let prefix = text::<E>(asked.prefix, &mut prefix_room);
+    let start = text::<E>(asked.start.unwrap_or_default(), &mut start_room);
+    let mut page = Page { frame, asked, prefix, start, buffer, at: 0, last: 0..0, count: 0 };
     match page.below(get16(frame, AT_ROOT), 0, asked.start.is_some()) {
         Walk::Full if page.count == 0 => (BUFFER, [0; 2]),
         Walk::Full => (DONE, [page.count, 1]),
@@ -30,10 +34,10 @@ pub fn list(frame: &[u8], asked: &Asked, buffer: &mut [u8]) -> (u32, [u64; 2]) {
 }
 
 /// Refusals 1 to 4, in their order.
-fn refusal(frame: &[u8], asked: &Asked) -> u32 {
-    match check(frame) {
-        DONE if asked.prefix.len() > LONGEST_KEY => KEY_LENGTH,
-        DONE => asked.start.map_or(DONE, key_refusal),
+fn refusal<E: Edition>(frame: &[u8], asked: &Asked) -> u32 {
+    match check::<E>(frame) {
+        DONE if asked.prefix.len() > E::LONGEST_KEY => KEY_LENGTH,
+        DONE => asked.start.map_or(DONE, key_refusal::<E>),
         refused => refused,
     }
 }
@@ -48,6 +52,9 @@ enum Walk {
 struct Page<'a> {
     frame: &'a [u8],
     asked: &'a Asked<'a>,
+    /// The texts of the prefix and of the start key.
+    prefix: &'a [u8],
+    start: &'a [u8],
     buffer: &'a mut [u8],
     /// Where the next entry goes.
     at: usize,
@@ -61,22 +68,21 @@ impl Page<'_> {
     /// they are the first bytes of the start key, so that some of it may lie
     /// before it.
     fn below(&mut self, slot: usize, depth: usize, tight: bool) -> Walk {
-        let (frame, prefix) = (self.frame, self.asked.prefix);
+        let Page { frame, prefix, start, .. } = *self;
         let (body, kind) = get_entry(frame, slot);
         match kind {
             EMPTY_ROOT => Walk::On,
             LEAF => self.leaf(body),
             PREFIX => {
                 let bytes = prefix_bytes(frame, body);
-                let asked = &prefix[depth.min(prefix.len())..];
+                let asked = rest(prefix, depth);
                 let shared = asked.len().min(bytes.len());
                 if asked[..shared] != bytes[..shared] {
                     return Walk::On;
                 }
                 let mut tight = tight;
                 if tight {
-                    let start = self.asked.start.unwrap_or_default();
-                    let rest = &start[depth.min(start.len())..];
+                    let rest = rest(start, depth);
                     let compared = rest.len().min(bytes.len());
                     if bytes[..compared] < rest[..compared] {
                         return Walk::On;
@@ -108,7 +114,7 @@ impl Page<'_> {
         if !tight {
             return self.below(child, depth + 1, false);
         }
-        let start = walked_byte(self.asked.start.unwrap_or_default(), depth);
+        let start = walked_byte(self.start, depth);
         if byte < start {
             return Walk::On;
         }

@@ -2,33 +2,34 @@
 
 use super::change::write_child;
 use super::check::{check, check_before};
+use super::edition::{Edition, One};
 use super::format;
 use super::layout::number::*;
 use super::layout::*;
 use super::walk::{children, leaf_fields};
 
-pub fn pack(frame: &[u8], out: &mut [u8]) -> u32 {
-    match check(frame) {
-        DONE => pack_good(frame, out),
+pub fn pack<E: Edition>(frame: &[u8], out: &mut [u8]) -> u32 {
+    match check::<E>(frame) {
+        DONE => pack_good::<E>(frame, out),
         refused => refused,
     }
 }
 
-/// The packing of a frame from before what is freed was wiped.
+/// The packing of a frame from before what is freed was wiped, so of edition 1.
 pub fn pack_before(frame: &[u8], out: &mut [u8]) -> u32 {
     match check_before(frame) {
-        DONE => pack_good(frame, out),
+        DONE => pack_good::<One>(frame, out),
         refused => refused,
     }
 }
 
-fn pack_good(frame: &[u8], out: &mut [u8]) -> u32 {
+fn pack_good<E: Edition>(frame: &[u8], out: &mut [u8]) -> u32 {
     if out.len() != frame.len() {
         return OUTPUT_LENGTH;
     }
     let (n, records) = (get32(frame, AT_N), get32(frame, AT_R));
     if records == 0 {
-        return format(out, frame.len(), n);
+        return format::<E>(out, frame.len(), n);
     }
     let d = data_start(n);
     let mut packer = Packer { frame, out, slots: 0, end: d };
@@ -36,7 +37,7 @@ fn pack_good(frame: &[u8], out: &mut [u8]) -> u32 {
     let Packer { out, slots, end, .. } = packer;
     out[..HEADER_BYTES].fill(0);
     for (at, field) in [
-        (AT_EDITION, EDITION),
+        (AT_EDITION, E::NUMBER),
         (AT_F, frame.len()),
         (AT_N, n),
         (AT_D, d),

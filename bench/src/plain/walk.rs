@@ -1,5 +1,9 @@
 //! The way a key leads through the tree of a good frame.
+//!
+//! A key is walked by its text, its walked string before the end. Behind it stand
+//! bytes 0 only.
 
+use super::edition::Edition;
 use super::layout::*;
 
 /// A slot on the way.
@@ -33,35 +37,56 @@ pub struct LeafFields {
 
 /// The byte of the walked string at this depth.
 #[inline(always)]
-pub fn walked_byte(key: &[u8], depth: usize) -> u8 {
-    key.get(depth).copied().unwrap_or(END_BYTE)
+pub fn walked_byte(text: &[u8], depth: usize) -> u8 {
+    text.get(depth).copied().unwrap_or(END_BYTE)
+}
+
+/// What is left of a text at this depth; none where the end has begun.
+#[inline(always)]
+pub fn rest(text: &[u8], depth: usize) -> &[u8] {
+    &text[depth.min(text.len())..]
 }
 
 /// As far as the walked string leads: to a Leaf, an EmptyRoot, a Prefix that
 /// does not match or an inner node without the byte.
 #[inline(always)]
-pub fn walk(frame: &[u8], key: &[u8]) -> Way {
-    let root = step(frame, AT_ROOT, get16(frame, AT_ROOT), 0);
+pub fn walk<E: Edition>(frame: &[u8], text: &[u8]) -> Way {
+    let root = root(frame);
     let mut way = Way { end: root, parent: root, above: root, slots: 1 };
-    loop {
-        let Step { kind, body, depth, .. } = way.end;
-        let (field, deeper) = match kind {
-            LEAF | EMPTY_ROOT => return way,
-            PREFIX => {
-                let bytes = prefix_bytes(frame, body);
-                if !key[depth..].starts_with(bytes) {
-                    return way;
-                }
-                (body + PREFIX_CHILD, depth + bytes.len())
-            }
-            _ => match child_field(frame, kind, body, walked_byte(key, depth)) {
-                None => return way,
-                Some(field) => (field, depth + 1),
-            },
-        };
-        let next = step(frame, field, get32(frame, field), deeper);
+    while let Some(next) = next::<E>(frame, text, &way.end) {
         way = Way { end: next, parent: way.end, above: way.parent, slots: way.slots + 1 };
     }
+    way
+}
+
+#[inline(always)]
+pub fn root(frame: &[u8]) -> Step {
+    step(frame, AT_ROOT, get16(frame, AT_ROOT), 0)
+}
+
+/// Where the walked string leads from a slot.
+#[inline(always)]
+pub fn next<E: Edition>(frame: &[u8], text: &[u8], from: &Step) -> Option<Step> {
+    let Step { kind, body, depth, .. } = *from;
+    let (field, deeper) = match kind {
+        LEAF | EMPTY_ROOT => return None,
+        PREFIX => {
+            let bytes = prefix_bytes(frame, body);
+            if !goes_on_with::<E>(rest(text, depth), bytes) {
+                return None;
+            }
+            (body + PREFIX_CHILD, depth + bytes.len())
+        }
+        _ => (child_field(frame, kind, body, walked_byte(text, depth))?, depth + 1),
+    };
+    Some(step(frame, field, get32(frame, field), deeper))
+}
+
+/// Whether a walked string goes on with the bytes of a Prefix. In edition 2 they can
+/// have the first byte of its end, which an escaped byte 0 begins with as well.
+#[inline(always)]
+fn goes_on_with<E: Edition>(rest: &[u8], bytes: &[u8]) -> bool {
+    rest.starts_with(bytes) || E::ZEROS && bytes.split_last() == Some((&END_BYTE, rest))
 }
 
 #[inline(always)]
