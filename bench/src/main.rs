@@ -6,7 +6,7 @@ use store_bench::measure::{
     edition_times, measure, page_times, page_to_check, page_to_page, visit_times, visit_to_check,
 };
 use store_bench::plain::layout::MOST_SLOTS;
-use store_bench::plain::{Edition, One};
+use store_bench::plain::{Edition, One, Two};
 use store_bench::stack::bytes_used;
 use store_bench::workload::{page_starts, visit, wide, workload, Fill, Workload, FRAMES, WIDTHS};
 
@@ -15,12 +15,14 @@ fn main() {
     match arguments.iter().map(String::as_str).collect::<Vec<_>>()[..] {
         [] => times::<One>(&STORES_1),
         ["wide"] => wide_times::<One>(&STORES_1),
+        ["edition2"] => times::<Two>(&STORES_2),
+        ["edition2", "wide"] => wide_times::<Two>(&STORES_2),
         ["editions"] => editions(),
         ["pages"] => pages(),
         ["visit"] => visits(),
         ["stack"] => stacks(),
         _ => {
-            eprintln!("no argument: times; `wide`: those of trees of wide nodes; `editions`: those of edition 2 beside edition 1; `pages`: those of a listing; `visit`: those of many changes; `stack`: the stack that each call uses");
+            eprintln!("no argument: times; `wide`: those of trees of wide nodes; `edition2`, `edition2 wide`: the same in edition 2; `editions`: those of edition 2 beside edition 1; `pages`: those of a listing; `visit`: those of many changes; `stack`: the stack that each call uses");
             std::process::exit(2);
         }
     }
