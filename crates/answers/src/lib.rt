@@ -3,7 +3,7 @@ ghost use Rattle.std.specs.Prelude.{◌≡◌};
 ghost use Rattle.answers.specs.Number.{refusal_number, format_number, check_number, look_up_number, put_number, replace_number, put_or_replace_number, erase_number, pack_number, info_number, list_number};
 
 // "1 to 7 are refusals"
-#[derive(Drop)]
+#[derive(Clone, Copy)]
 pub enum Refusal {
     // 1: F or N against the limits, or the slice length
     Length,
@@ -23,19 +23,19 @@ pub enum Refusal {
     Buffer,
 }
 
-#[derive(Drop)]
+#[derive(Clone, Copy)]
 pub enum Format {
     Done,
     Refused(Refusal),
 }
 
-#[derive(Drop)]
+#[derive(Clone, Copy)]
 pub enum Check {
     Good,
     Refused(Refusal),
 }
 
-#[derive(Drop)]
+#[derive(Clone, Copy)]
 pub enum LookUp {
     // place, counted from the frame's start, and length of the value; the slots visited; the stamp
     Found(usize, usize, usize, usize),
@@ -44,7 +44,7 @@ pub enum LookUp {
     Refused(Refusal),
 }
 
-#[derive(Drop)]
+#[derive(Clone, Copy)]
 pub enum Put {
     New,
     // the key is there, and nothing was changed
@@ -52,7 +52,7 @@ pub enum Put {
     Refused(Refusal),
 }
 
-#[derive(Drop)]
+#[derive(Clone, Copy)]
 pub enum Replace {
     Done,
     Absent,
@@ -60,28 +60,28 @@ pub enum Replace {
 }
 
 // Of those who ask for a new record as well as for replacement.
-#[derive(Drop)]
+#[derive(Clone, Copy)]
 pub enum PutOrReplace {
     New,
     Replaced,
     Refused(Refusal),
 }
 
-#[derive(Drop)]
+#[derive(Clone, Copy)]
 pub enum Erase {
     Done,
     Absent,
     Refused(Refusal),
 }
 
-#[derive(Drop)]
+#[derive(Clone, Copy)]
 pub enum Pack {
     Done,
     Refused(Refusal),
 }
 
 // How full a frame is: the numbers of its header, and how many freed bodies of each kind its lists hold.
-#[derive(Drop)]
+#[derive(Clone, Copy)]
 pub struct Counts {
     // F
     pub frame_length: usize,
@@ -106,13 +106,13 @@ pub struct Counts {
     pub empty_root: usize,
 }
 
-#[derive(Drop)]
+#[derive(Clone, Copy)]
 pub enum Info {
     Told(Counts),
     Refused(Refusal),
 }
 
-#[derive(Drop)]
+#[derive(Clone, Copy)]
 pub enum List {
     // how many entries, and whether more remain
     Done(usize, bool),

@@ -19,7 +19,7 @@ use shape::prefix::prefix_good;
 use shape_inner::inner_good;
 
 // The slot below a Prefix that is counted, and how many bytes lead to it. Not good: a refusal.
-#[derive(Drop)]
+#[derive(Clone, Copy)]
 pub struct Inner {
     pub sums: Sums,
     pub slot: usize,
@@ -44,7 +44,7 @@ impl Inner {
 }
 
 // A node that waits: its slot, the bytes that lead to it, and the child that the walk is below. It is kept as one number.
-#[derive(Drop)]
+#[derive(Clone, Copy)]
 struct Wait {
     slot: usize,
     depth: usize,

@@ -6,7 +6,7 @@ ghost use Rattle.batch.specs.Run.{Ready, Tried, ToldAt, CarriedOut};
 
 use crate::{change, laid};
 
-#[derive(Drop)]
+#[derive(Clone, Copy)]
 pub struct Ended {
     // document 01's and 02's number
     pub number: usize,

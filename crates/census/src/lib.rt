@@ -6,7 +6,7 @@ pub mod take;
 ghost use Rattle.std.specs.Prelude.{◌≡◌, true, false};
 
 // What has been counted so far; not good: a refusal, and the counts say nothing.
-#[derive(Drop)]
+#[derive(Clone, Copy)]
 pub struct Sums {
     pub good: bool,
     // bodies, live and freed
@@ -18,7 +18,7 @@ pub struct Sums {
 }
 
 // What the header says of the frame that is counted.
-#[derive(Drop)]
+#[derive(Clone, Copy)]
 pub struct Bounds {
     // D, where data starts
     pub start: usize,

@@ -81,7 +81,7 @@ pub fn free_row(f: &mut [u8], row: &[usize], keep: usize, have: usize)
 }
 
 // A row that was read: its bodies, its bytes, and the slot below the last.
-#[derive(Drop)]
+#[derive(Clone, Copy)]
 pub struct Run {
     pub count: usize,
     pub long: usize,

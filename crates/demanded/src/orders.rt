@@ -10,14 +10,14 @@ use store::erase::erase;
 use store::put::{put, replace};
 
 // The numbers that two calls gave, one after the other, and packing after them.
-#[derive(Drop)]
+#[derive(Clone, Copy)]
 pub struct Given {
     pub first: u32,
     pub second: u32,
     pub packed: u32,
 }
 
-#[derive(Drop)]
+#[derive(Clone, Copy)]
 pub enum Orders {
     // on the frame the first call came first, on its copy the second
     Made(Given, Given),
@@ -26,7 +26,7 @@ pub enum Orders {
 }
 
 // What is done at a key. An erase has no use for the value and the stamp.
-#[derive(Drop)]
+#[derive(Clone, Copy)]
 pub enum Kind {
     Put,
     Replace,
@@ -143,7 +143,7 @@ pub fn both_orders(
 }
 
 // The numbers that packing gave for each of two frames.
-#[derive(Drop)]
+#[derive(Clone, Copy)]
 pub struct Packs {
     pub first: u32,
     pub second: u32,

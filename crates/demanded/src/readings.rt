@@ -10,14 +10,14 @@ use store::format::format;
 use store::look::look_up;
 use store::put::{put, put_or_replace};
 
-#[derive(Drop)]
+#[derive(Clone, Copy)]
 pub struct InNew {
     pub formatted: u32,
     pub put: u32,
     pub found: LookUp,
 }
 
-#[derive(Drop)]
+#[derive(Clone, Copy)]
 pub struct InImage {
     pub put: u32,
     pub packed: u32,

@@ -10,7 +10,7 @@ use answers;
 use pack::pack;
 
 // The numbers that three changes gave, one after another, and packing after them.
-#[derive(Drop)]
+#[derive(Clone, Copy)]
 pub struct Three {
     pub first: u32,
     pub second: u32,
@@ -18,7 +18,7 @@ pub struct Three {
     pub packed: u32,
 }
 
-#[derive(Drop)]
+#[derive(Clone, Copy)]
 pub enum Rows {
     // on the frame the third change came last, on its copy first
     Made(Three, Three),

@@ -12,7 +12,7 @@ use crate::spot::Spot;
 use crate::walk;
 use fields::body::Leaf;
 
-#[derive(Drop)]
+#[derive(Clone, Copy)]
 pub struct Held {
     pub found: bool,
     // counted from the frame's start

@@ -27,7 +27,7 @@ const NO_STAMP: usize = 0;
 pub const ANSWER: usize = 16640;
 
 // The frame in use is the first `long` bytes of the buffer; 0 before the first `f` that is not refused.
-#[derive(Drop)]
+#[derive(Clone, Copy)]
 pub struct Stepped {
     pub long: usize,
     // the bytes of the answer

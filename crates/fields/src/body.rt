@@ -10,7 +10,7 @@ ghost use Rattle.fields.specs.Body.{put_leaf_body};
 use layout::kind::Kind;
 use layout::{kind, number};
 
-#[derive(Drop)]
+#[derive(Clone, Copy)]
 pub struct Leaf;
 
 impl Leaf {
@@ -95,7 +95,7 @@ impl Leaf {
     }
 }
 
-#[derive(Drop)]
+#[derive(Clone, Copy)]
 pub struct Prefix;
 
 impl Prefix {
@@ -185,7 +185,7 @@ impl Prefix {
 }
 
 // What the four inner kinds share: the count, zeros behind it, and children of four bytes each.
-#[derive(Drop)]
+#[derive(Clone, Copy)]
 pub struct Node;
 
 impl Node {
@@ -245,7 +245,7 @@ impl Node {
     }
 }
 
-#[derive(Drop)]
+#[derive(Clone, Copy)]
 pub struct Node4;
 
 impl Node4 {
@@ -256,7 +256,7 @@ impl Node4 {
     pub const PLACES: usize = kind::MOST_CHILDREN[Kind::NODE4];
 }
 
-#[derive(Drop)]
+#[derive(Clone, Copy)]
 pub struct Node16;
 
 impl Node16 {
@@ -269,7 +269,7 @@ impl Node16 {
 
 // What Node4 and Node16 share: a row of bytes and a row of children. The type of the kind says where in the body each of them starts (BYTES,
 // CHILDREN); in what follows `at` is that place in the frame, and i counts from 0.
-#[derive(Drop)]
+#[derive(Clone, Copy)]
 pub struct Rows;
 
 impl Rows {
@@ -304,7 +304,7 @@ impl Rows {
     }
 }
 
-#[derive(Drop)]
+#[derive(Clone, Copy)]
 pub struct Node48;
 
 impl Node48 {
@@ -345,7 +345,7 @@ impl Node48 {
     }
 }
 
-#[derive(Drop)]
+#[derive(Clone, Copy)]
 pub struct Node256;
 
 impl Node256 {
@@ -367,7 +367,7 @@ impl Node256 {
     }
 }
 
-#[derive(Drop)]
+#[derive(Clone, Copy)]
 pub struct EmptyRoot;
 
 impl EmptyRoot {

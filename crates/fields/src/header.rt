@@ -7,7 +7,7 @@ ghost use Rattle.fields.specs.Header.{put_header};
 use layout::entry::Entry;
 use layout::number;
 
-#[derive(Drop)]
+#[derive(Clone, Copy)]
 pub struct Header {
     // the edition's number
     pub edition: usize,

@@ -7,7 +7,7 @@ ghost use Rattle.layout.specs.Entry.{entry_of, entry_place, entry_high, place_of
 
 use crate::number;
 
-#[derive(Drop)]
+#[derive(Clone, Copy)]
 pub struct Entry {
     // the kind of a live slot, the next slot of a freed one
     pub high: usize,

@@ -5,7 +5,7 @@ ghost use Rattle.lines.specs.Line.{Inside, part_of, numbers as Line·numbers, ba
 use crate::number::{Number, read};
 
 // The bytes of a line from `from` up to, not including, `to`.
-#[derive(Drop)]
+#[derive(Clone, Copy)]
 pub struct Part {
     pub from: usize,
     pub to: usize,
@@ -22,7 +22,7 @@ impl Part {
     }
 }
 
-#[derive(Drop)]
+#[derive(Clone, Copy)]
 pub enum Command {
     // f F N
     Format(usize, usize),

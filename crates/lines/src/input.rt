@@ -12,7 +12,7 @@ const TOO_LONG: usize = MOST + 1;
 
 const NEWLINE: u8 = 10;
 
-#[derive(Drop)]
+#[derive(Clone, Copy)]
 pub struct Taking {
     pub have: usize,
     // where the piece goes on

@@ -20,14 +20,14 @@ const PAST_GROUP: usize = 256;
 pub const LENGTH_SIZE: usize = 2;
 
 // How many bytes of a key its entry has, and what stands behind them in the entry's bound.
-#[derive(Drop)]
+#[derive(Clone, Copy)]
 pub struct Cut {
     pub long: usize,
     pub tail: usize,
 }
 
 // An entry, as bytes of the frame, and what stands behind it in its bound; or that there is none.
-#[derive(Drop)]
+#[derive(Clone, Copy)]
 pub struct Entry {
     pub there: bool,
     pub at: usize,

@@ -24,7 +24,7 @@ fn gather(f: &[u8], place: usize, q: usize, row: &mut [usize], have: usize, byte
 // ---- the first byte goes
 
 // The slot of what is left, and whether the first body is spare: 1, or 0 if it still has bytes.
-#[derive(Drop)]
+#[derive(Clone, Copy)]
 pub struct Rest {
     pub slot: usize,
     pub spare: usize,

@@ -6,7 +6,7 @@ ghost use Rattle.room.specs.Fit.{Fit, Small, Asks};
 use layout::kind;
 use layout::kind::Kind;
 
-#[derive(Drop)]
+#[derive(Clone, Copy)]
 pub struct Room {
     // bodies on each kind's list
     pub free: [usize; 9],
@@ -16,7 +16,7 @@ pub struct Room {
     pub bytes: usize,
 }
 
-#[derive(Drop)]
+#[derive(Clone, Copy)]
 pub struct Needs {
     // bodies of each kind
     pub bodies: [usize; 9],

@@ -15,13 +15,13 @@ use layout::entry::Entry;
 use layout::kind::Kind;
 
 // A tree that lies above the bound, and how many bytes lead to it; slot 0 where there is none.
-#[derive(Drop)]
+#[derive(Clone, Copy)]
 pub struct Spare {
     pub slot: usize,
     pub depth: usize,
 }
 
-#[derive(Drop)]
+#[derive(Clone, Copy)]
 pub struct Sought {
     pub found: bool,
     // of the Leaf's body

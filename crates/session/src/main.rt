@@ -17,7 +17,7 @@ use part::{answer_lines, end, greet};
 const REPLIES: usize = 20480;
 
 // What is kept from piece to piece: the length of the frame in use, and how much of a line has come.
-#[derive(Drop)]
+#[derive(Clone, Copy)]
 struct Kept {
     long: usize,
     have: usize,

@@ -12,7 +12,7 @@ use fields::body::Leaf;
 const KEY_MOST: usize = 112;
 
 // The answer, and of a good Leaf where its extent lies and how many bytes it has, rounded up.
-#[derive(Drop)]
+#[derive(Clone, Copy)]
 pub struct LeafFound {
     pub good: bool,
     pub extent: usize,

@@ -11,7 +11,7 @@ use answers::{Put, PutOrReplace, Refusal, Replace};
 const LONGEST_VALUE: usize = 65535;
 
 // What stands against a record that is to be written, whatever else is asked of it.
-#[derive(Drop)]
+#[derive(Clone, Copy)]
 pub enum Bar {
     Nothing,
     Refused(Refusal),
