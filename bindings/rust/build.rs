@@ -7,7 +7,7 @@ use std::env;
 use std::path::Path;
 use std::process::exit;
 
-/// The crate that exports the calls; `rt staticlib` names the archive for it.
+/// The library whose calls are exported; `tools/archive` names the archive for it.
 const LIBRARY: &str = "frame_store";
 const FOLDER_VARIABLE: &str = "FRAME_STORE_DIR";
 const DEFAULT_FOLDER: &str = "../../target/staticlib";
@@ -20,7 +20,9 @@ fn main() {
     // A relative folder counts from this package, wherever cargo was started.
     let folder = Path::new(&package).join(named.as_deref().unwrap_or(DEFAULT_FOLDER));
     if named.is_none() && !(target.starts_with("x86_64-") && target.contains("linux")) {
-        missing(&format!("`rt` makes it for x86-64 Linux, and this is a build for {target}"));
+        missing(&format!(
+            "`tools/archive` makes it for x86-64 Linux, and this is a build for {target}"
+        ));
     }
     let archive = folder.join(format!("lib{LIBRARY}.a"));
     if !archive.is_file() {
@@ -34,7 +36,7 @@ fn main() {
 
 fn missing(what: &str) -> ! {
     eprintln!("frame_store needs the archive lib{LIBRARY}.a with the proved calls, and {what}.");
-    eprintln!("Make it with `rt staticlib {LIBRARY}` in the repository's root, or let");
+    eprintln!("Make it with `tools/archive` in the repository, or let");
     eprintln!("{FOLDER_VARIABLE} name the folder that holds it.");
     exit(1)
 }

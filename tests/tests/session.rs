@@ -34,9 +34,13 @@ fn stored(file: &str) -> Vec<u8> {
 }
 
 fn built_program() -> PathBuf {
-    let built = root().join("target/bin/session");
+    let built = root().join("crates/session/out/session");
     let program = std::env::var(PROGRAM_VARIABLE).map_or(built, PathBuf::from);
-    assert!(program.is_file(), "{} is missing: `rt check session` makes it", program.display());
+    assert!(
+        program.is_file(),
+        "{} is missing: `rt run` in crates/session makes it",
+        program.display()
+    );
     program
 }
 

@@ -112,7 +112,7 @@ pub fn both_orders(
     if copy.len() != frame.len() {
         return Orders::Uncopied;
     }
-    bytes::copy(frame, copy);
+    copy.copy_from_slice(frame);
     let forth = in_order(
         frame,
         out,

@@ -105,7 +105,7 @@ pub fn last_first(
     if copy.len() != frame.len() {
         return Rows::Uncopied;
     }
-    bytes::copy(frame, copy);
+    copy.copy_from_slice(frame);
     let forth = in_row(
         frame,
         out,

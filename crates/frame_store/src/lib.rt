@@ -1,4 +1,4 @@
-// The calls for C and Rust: numbers and slices only. A slice passes as a pointer and a length. `frame_` is edition 1, `frame2_` is edition 2.
+// The calls for C and Rust, which frame_store_c exports: numbers and slices only. `frame_` is edition 1, `frame2_` is edition 2.
 mod calls;
 
 ghost use Rattle.model.specs.Edition.{edition1, edition2, unstamped};
@@ -15,72 +15,62 @@ const NO_STAMP: usize = 0;
 
 // ---- edition 1
 
-#[unsafe(no_mangle)]
-pub extern "C" fn frame_format(frame: &mut [u8], length: usize, capacity: usize) -> u32
+pub fn frame_format(frame: &mut [u8], length: usize, capacity: usize) -> u32
     ensures { FormatPromise edition1 frame.old length capacity result frame.new }
 {
     calls::format(frame, length, capacity, Header::FIRST_EDITION)
 }
 
-#[unsafe(no_mangle)]
-pub extern "C" fn frame_check(frame: &[u8]) -> u32
+pub fn frame_check(frame: &[u8]) -> u32
     ensures { CheckPromise edition1 frame.now result }
 {
     calls::check(frame, Header::FIRST_EDITION)
 }
 
-#[unsafe(no_mangle)]
-pub extern "C" fn frame_look_up(frame: &[u8], key: &[u8], found: &mut [u64]) -> u32
+pub fn frame_look_up(frame: &[u8], key: &[u8], found: &mut [u64]) -> u32
     ensures { LookedUp edition1 frame.now key.now found.old result found.new }
 {
     calls::look_up(frame, key, found, Header::FIRST_EDITION)
 }
 
-#[unsafe(no_mangle)]
-pub extern "C" fn frame_put(frame: &mut [u8], key: &[u8], value: &[u8]) -> u32
+pub fn frame_put(frame: &mut [u8], key: &[u8], value: &[u8]) -> u32
     ensures { PutPromise edition1 frame.old key.now (unstamped value.now) result frame.new }
 {
     calls::put(frame, key, value, NO_STAMP, Header::FIRST_EDITION)
 }
 
-#[unsafe(no_mangle)]
-pub extern "C" fn frame_replace(frame: &mut [u8], key: &[u8], value: &[u8]) -> u32
+pub fn frame_replace(frame: &mut [u8], key: &[u8], value: &[u8]) -> u32
     ensures { ReplacePromise edition1 frame.old key.now (unstamped value.now) result frame.new }
 {
     calls::replace(frame, key, value, NO_STAMP, Header::FIRST_EDITION)
 }
 
-#[unsafe(no_mangle)]
-pub extern "C" fn frame_erase(frame: &mut [u8], key: &[u8]) -> u32
+pub fn frame_erase(frame: &mut [u8], key: &[u8]) -> u32
     ensures { ErasePromise edition1 frame.old key.now result frame.new }
 {
     calls::erase(frame, key, Header::FIRST_EDITION)
 }
 
-#[unsafe(no_mangle)]
-pub extern "C" fn frame_pack(frame: &[u8], out: &mut [u8]) -> u32
+pub fn frame_pack(frame: &[u8], out: &mut [u8]) -> u32
     ensures { PackPromise edition1 frame.now out.old result out.new }
 {
     calls::pack(frame, out, Header::FIRST_EDITION)
 }
 
 // A frame from before is taken too, in which what was freed is not wiped.
-#[unsafe(no_mangle)]
-pub extern "C" fn frame_pack_before(frame: &[u8], out: &mut [u8]) -> u32
+pub fn frame_pack_before(frame: &[u8], out: &mut [u8]) -> u32
     ensures { PackBeforePromise frame.now out.old result out.new }
 {
     answers::pack_number(pack::pack_before(frame, out))
 }
 
-#[unsafe(no_mangle)]
-pub extern "C" fn frame_info(frame: &[u8], counts: &mut [u64]) -> u32
+pub fn frame_info(frame: &[u8], counts: &mut [u64]) -> u32
     ensures { Informed edition1 frame.now counts.old result counts.new }
 {
     calls::info(frame, counts, Header::FIRST_EDITION)
 }
 
-#[unsafe(no_mangle)]
-pub extern "C" fn frame_list(
+pub fn frame_list(
     frame: &[u8],
     prefix: &[u8],
     start: &[u8],
@@ -103,8 +93,7 @@ pub extern "C" fn frame_list(
     )
 }
 
-#[unsafe(no_mangle)]
-pub extern "C" fn frame_batch(
+pub fn frame_batch(
     frame: &mut [u8],
     second: &mut [u8],
     changes: &[u8],
@@ -117,64 +106,55 @@ pub extern "C" fn frame_batch(
 
 // ---- edition 2
 
-#[unsafe(no_mangle)]
-pub extern "C" fn frame2_format(frame: &mut [u8], length: usize, capacity: usize) -> u32
+pub fn frame2_format(frame: &mut [u8], length: usize, capacity: usize) -> u32
     ensures { FormatPromise edition2 frame.old length capacity result frame.new }
 {
     calls::format(frame, length, capacity, Header::SECOND_EDITION)
 }
 
-#[unsafe(no_mangle)]
-pub extern "C" fn frame2_check(frame: &[u8]) -> u32
+pub fn frame2_check(frame: &[u8]) -> u32
     ensures { CheckPromise edition2 frame.now result }
 {
     calls::check(frame, Header::SECOND_EDITION)
 }
 
-#[unsafe(no_mangle)]
-pub extern "C" fn frame2_look_up(frame: &[u8], key: &[u8], found: &mut [u64]) -> u32
+pub fn frame2_look_up(frame: &[u8], key: &[u8], found: &mut [u64]) -> u32
     ensures { LookedUp edition2 frame.now key.now found.old result found.new }
 {
     calls::look_up(frame, key, found, Header::SECOND_EDITION)
 }
 
-#[unsafe(no_mangle)]
-pub extern "C" fn frame2_put(frame: &mut [u8], key: &[u8], value: &[u8], stamp: usize) -> u32
+pub fn frame2_put(frame: &mut [u8], key: &[u8], value: &[u8], stamp: usize) -> u32
     ensures { PutPromise edition2 frame.old key.now (record { bytes = value.now; stamp = stamp }) result frame.new }
 {
     calls::put(frame, key, value, stamp, Header::SECOND_EDITION)
 }
 
-#[unsafe(no_mangle)]
-pub extern "C" fn frame2_replace(frame: &mut [u8], key: &[u8], value: &[u8], stamp: usize) -> u32
+pub fn frame2_replace(frame: &mut [u8], key: &[u8], value: &[u8], stamp: usize) -> u32
     ensures { ReplacePromise edition2 frame.old key.now (record { bytes = value.now; stamp = stamp }) result frame.new }
 {
     calls::replace(frame, key, value, stamp, Header::SECOND_EDITION)
 }
 
-#[unsafe(no_mangle)]
-pub extern "C" fn frame2_erase(frame: &mut [u8], key: &[u8]) -> u32
+pub fn frame2_erase(frame: &mut [u8], key: &[u8]) -> u32
     ensures { ErasePromise edition2 frame.old key.now result frame.new }
 {
     calls::erase(frame, key, Header::SECOND_EDITION)
 }
 
-#[unsafe(no_mangle)]
-pub extern "C" fn frame2_pack(frame: &[u8], out: &mut [u8]) -> u32
+pub fn frame2_pack(frame: &[u8], out: &mut [u8]) -> u32
     ensures { PackPromise edition2 frame.now out.old result out.new }
 {
     calls::pack(frame, out, Header::SECOND_EDITION)
 }
 
-#[unsafe(no_mangle)]
-pub extern "C" fn frame2_info(frame: &[u8], counts: &mut [u64]) -> u32
+pub fn frame2_info(frame: &[u8], counts: &mut [u64]) -> u32
     ensures { Informed edition2 frame.now counts.old result counts.new }
 {
     calls::info(frame, counts, Header::SECOND_EDITION)
 }
 
-#[unsafe(no_mangle)]
-pub extern "C" fn frame2_list(
+pub fn frame2_list(
     frame: &[u8],
     prefix: &[u8],
     start: &[u8],
@@ -197,8 +177,7 @@ pub extern "C" fn frame2_list(
     )
 }
 
-#[unsafe(no_mangle)]
-pub extern "C" fn frame2_batch(
+pub fn frame2_batch(
     frame: &mut [u8],
     second: &mut [u8],
     changes: &[u8],
