@@ -1,4 +1,6 @@
 // The answers of the public calls as enums by value, and document 01's number for each.
+#![tactic(auto)]
+
 ghost use Rattle.std.specs.Prelude.{◌≡◌};
 ghost use Rattle.answers.specs.Number.{refusal_number, format_number, check_number, look_up_number, put_number, replace_number, put_or_replace_number, erase_number, pack_number, info_number, list_number};
 

@@ -1,4 +1,6 @@
 // The exact check of a frame: every rule of "A good frame", of any bytes of any length. Of the frame nothing is written.
+#![tactic(auto)]
+
 pub mod walk;
 pub mod whole;
 

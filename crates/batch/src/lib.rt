@@ -1,4 +1,6 @@
 // Many changes, checked once: a batch is tried in a second frame, and carried out in the first if no change is refused.
+#![tactic(auto)]
+
 mod change;
 mod laid;
 mod run;

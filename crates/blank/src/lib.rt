@@ -1,4 +1,6 @@
 // The frame as format leaves it: "zeroes the frame, then sets slot 1 to an EmptyRoot at D".
+#![tactic(auto)]
+
 ghost use Rattle.std.specs.Prelude.{[], ◌≡◌, ◌<◌, length};
 ghost use Rattle.blank.specs.Limits.{Limits};
 ghost use Rattle.model.specs.Edition.{Edition};

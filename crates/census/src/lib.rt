@@ -1,5 +1,7 @@
 // What the exact check counts on its way: bodies and extents claim their units of the map, each once, and the lists of freed slots are
 // followed. Each function tells its witness, or that no good frame has one (specs/Told.antt).
+#![tactic(auto)]
+
 pub mod freed;
 pub mod take;
 

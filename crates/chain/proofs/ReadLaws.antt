@@ -204,6 +204,7 @@ module _ {f row row' bytes bytes' : List ℕ} {slot have long count n r : ℕ} (
           let e : m ≡ le 2 f (place_of f r + prefix_length) = em ∙ ap (λ y. le 2 f (y + prefix_length)) eo in
           (omega (arith, read_room), omega (arith, read_long.0), omega (arith, read_long.1), omega (arith, read_fits.0), read_fits.1)
 
+module _ (row : List ℕ) {f row' bytes bytes' : List ℕ} {slot have long count n r : ℕ} (Z : RowRead f row row' bytes bytes' slot have long count n r) where
   pub read_step : high_of f r ≡ 2 → {o m c : ℕ} {b'' : List ℕ} → o ≡ place_of f r → m ≡ le 2 f (o + prefix_length) → c ≡ le 4 f (o + prefix_child)
       → Pasted bytes' b'' n (length (take (o + prefix_bytes + m - (o + prefix_bytes)) (drop (o + prefix_bytes) f))) (take (o + prefix_bytes + m - (o + prefix_bytes)) (drop (o + prefix_bytes) f))
       → n + m ≤ length bytes' → count < length row' → RowRead f row (set row' count r) bytes b'' slot have long (count + 1) (n + m) c

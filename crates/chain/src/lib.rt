@@ -1,5 +1,7 @@
 // "A shared beginning longer than 112 bytes is a chain of Prefixes, each full but the last": a row of Prefix bodies is taken, freed, and
 // written as the chain of a string, the last piece first.
+#![tactic(auto)]
+
 pub mod shift;
 
 ghost use Rattle.std.specs.Prelude.{◌≡◌, ◌+◌, ◌-◌, ◌%◌, ◌≤◌, ◌<◌, length};

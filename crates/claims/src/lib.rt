@@ -1,5 +1,7 @@
 // The map of the exact check: one bit for each unit of 8 bytes of the frame, in words of 64 bits. Every body and every
 // live extent claims its units; a unit that is claimed twice is refused.
+#![tactic(auto)]
+
 ghost use Rattle.std.specs.Prelude.{◌≡◌, true, false, ◌+◌, ◌*◌, ◌%◌, ◌^◌, ◌<◌, ◌≤◌, length};
 ghost use Rattle.claims.specs.Units.{Mask, Run, Claimed, Taken};
 

@@ -1,4 +1,6 @@
 // Erase on a good frame: the spot is found, the needs are compared with the room, and only then is anything written.
+#![tactic(auto)]
+
 ghost use Rattle.answers.specs.Number.{erase_number};
 ghost use Rattle.model.specs.Edition.{Edition, SomeEdition, edition_of, Legal};
 ghost use Rattle.model.specs.State.{State};

@@ -1,6 +1,6 @@
 -- The run of Prefixes of the child that is left, and the run above the Node4: how long they are, and the lists of their bodies. Assumes nothing.
 use Prim.Native.Nat.{ℕ, suc, ◌+◌, ◌≤◌}
-use mathlib.Core.Path.{◌≡◌, refl, sym, ap, ◌∙◌}
+use mathlib.Core.Path.{◌≡◌, refl, subst, sym, ap, ◌∙◌}
 use mathlib.Core.List.{List, [], ◌∷◌, ◌++◌, append_assoc}
 use mathlib.Core.Bool.{Bool, true, false}
 use native.Mathlib.Omega.{arith}
@@ -93,7 +93,7 @@ along_gone goes [] left gone e h = tt
 along_gone goes (x ∷ rs) [] [] e h = clash (cc)
 along_gone goes (x ∷ rs) [] (z ∷ gone) e h =
     let q : x.0 ≡ z.0 = ap head_slot e in
-    let a : among x.0 (slots_in (z ∷ gone)) ≡ true = rw q (among_here z.0 (slots_in gone)) in
+    let a : among x.0 (slots_in (z ∷ gone)) ≡ true = subst (λ (i : ℕ). among i (slots_in (z ∷ gone)) ≡ true) (sym q) (among_here z.0 (slots_in gone)) in
     (h x.0 a, along_gone goes rs [] gone (tail_is x z rs gone e) (λ j b. h j (among_there j z.0 (slots_in gone) b)))
 along_gone goes (x ∷ rs) (y ∷ left) gone e h = (ap head_slot e, along_gone goes rs left gone (tail_is x y rs (left ++ gone) e) h)
 

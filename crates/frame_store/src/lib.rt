@@ -1,4 +1,6 @@
 // The calls for C and Rust, which frame_store_c exports: numbers and slices only. `frame_` is edition 1, `frame2_` is edition 2.
+#![tactic(auto)]
+
 mod calls;
 
 ghost use Rattle.model.specs.Edition.{edition1, edition2, unstamped};

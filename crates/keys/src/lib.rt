@@ -1,5 +1,7 @@
 // Keys and their walked strings in both editions: the refusal that a key gets, its walked string written out or compared with a path, and what
 // two keys share.
+#![tactic(auto)]
+
 ghost use Rattle.std.specs.Prelude.{◌≡◌, [], ◌+◌, ◌-◌, ◌≤◌, ◌<◌, length, get_or, take, drop};
 ghost use Rattle.pieces.specs.Decides.{Decides};
 ghost use Rattle.model.specs.Strings.{has_zero, shared};

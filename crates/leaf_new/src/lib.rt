@@ -1,4 +1,6 @@
 // What every put of a new key does: a Leaf with its extent is made, and R grows.
+#![tactic(auto)]
+
 ghost use Rattle.leaf_new.specs.Make.{stamped, Makes, NewLeaf, Counts, Counted};
 
 use fields::body::Leaf;

@@ -2,6 +2,7 @@
 ghost use Rattle.std.specs.Prelude.{◌≡◌, List, ℕ};
 ghost use Rattle.lines.specs.Line.{Inside, part_of, numbers as Line·numbers, bare as Line·bare, one_field, two_fields, Parsed, said};
 
+use crate::find::find;
 use crate::number::{Number, read};
 
 // The bytes of a line from `from` up to, not including, `to`.
@@ -98,12 +99,12 @@ pub fn parse(line: &[u8]) -> Command
     if line[1] != SPACE {
         return Command::Unknown;
     }
-    let first = bytes::scan::find(line, 2, n, SPACE);
+    let first = find(line, 2, SPACE);
     let key = Part { from: 2, to: first };
     if first == n {
         return one_field(letter, key);
     }
-    let second = bytes::scan::find(line, first + 1, n, SPACE);
+    let second = find(line, first + 1, SPACE);
     if second < n {
         return Command::Unknown;
     }

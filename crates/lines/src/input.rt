@@ -3,6 +3,7 @@
 ghost use Rattle.std.specs.Prelude.{◌≤◌, length};
 ghost use Rattle.lines.specs.Input.{Gathers, Takes};
 
+use crate::find::find;
 use crate::output::append;
 
 // Bytes of a line, its newline left out.
@@ -39,7 +40,7 @@ pub fn take(held: &mut [u8], have: usize, piece: &[u8], from: usize) -> Taking
     requires { (1024 ≤ length held.old) × (from ≤ length piece.now) }
     ensures { Takes held.old have piece.now from held.new result }
 {
-    let end = bytes::scan::find(piece, from, piece.len(), NEWLINE);
+    let end = find(piece, from, NEWLINE);
     let have = gather(held, have, &piece[from..end]);
     if end < piece.len() {
         Taking {

@@ -1,4 +1,6 @@
 // Names in order (document 02, Q-1): the keys of a frame from a prefix and a start key on, in byte order, into a lent buffer. The frame is only read.
+#![tactic(auto)]
+
 mod entry;
 mod page;
 

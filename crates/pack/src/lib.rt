@@ -1,4 +1,6 @@
 // Packing (document 01, "The packed image"): the records of a good frame, laid out anew in another slice. The frame is only read.
+#![tactic(auto)]
+
 mod bodies;
 mod image;
 mod walk;

@@ -128,7 +128,7 @@ numbers_set {m} {o} (x ∷ l) zero v h H =
 numbers_set {m} {o} (x ∷ l) (suc p) v h H =
     let z : o + 4 * suc p ≡ o + 4 + 4 * p = omega arith in
     rw z (has_join (digits 4 x) (numbers 4 (set l p v)) 4 refl (has_only (only_put 4 m (o + 4 + 4 * p) v) (digits 4 x) (inl (omega arith)) (has_left (digits 4 x) (numbers 4 l) H))
-    (numbers_set l p v (omega arith) (has_right (digits 4 x) (numbers 4 l) 4 refl H)))
+    (numbers_set {o = o + 4} l p v (omega arith) (has_right (digits 4 x) (numbers 4 l) 4 refl H)))
 
 -- ---- the entries of the slots from s on
 

@@ -1,6 +1,8 @@
 // Bytes of slices tested several at a time: are two ranges the same, is every byte of a range 0, is none? A range is tested in pieces of one
 // length, of which the last ends with the range and may go back over the one before. A piece has a fixed length, and all its bytes are looked
 // at, so that they go together.
+#![tactic(auto)]
+
 ghost use Rattle.std.specs.Prelude.{◌+◌, ◌≤◌, ◌<◌, length};
 ghost use Rattle.pieces.specs.Decides.{Decides};
 ghost use Rattle.pieces.specs.Range.{Blank, Clean, Joined, Paired, Alike};

@@ -1,5 +1,7 @@
 // The body of a Prefix: written whole, with a byte more in front or at the end, with bytes of another one, with its first or its last bytes
 // cut off, and in two bodies.
+#![tactic(auto)]
+
 ghost use Rattle.std.specs.Prelude.{◌≡◌, List, [], ◌∷◌, ◌++◌, ℕ, ◌+◌, ◌≤◌, ◌<◌, length, get_or, take, drop};
 ghost use Rattle.model.specs.Body.{PrefixAt};
 ghost use Rattle.moves.specs.Moved.{Only, Moved};

@@ -1,5 +1,7 @@
 // Put of a new key at an inner node without its byte, and in an empty frame: "an inner node without that byte: nothing if not full, else
 // the next kind, and the old body is freed"; "empty frame: EmptyRoot is freed".
+#![tactic(auto)]
+
 ghost use Rattle.model.specs.Edition.{Edition, SomeEdition};
 ghost use Rattle.leaf_new.specs.Make.{stamped};
 ghost use Rattle.leaf_new.specs.Put.{PutStep};

@@ -1,5 +1,7 @@
 // Put, replacement and either of them on a good frame: the spot is found, the needs are compared with the room, and only then is anything
 // written. Edition 2 writes the walked string out first; edition 1 reads the key itself.
+#![tactic(auto)]
+
 ghost use Rattle.answers.specs.Number.{put_number, replace_number, put_or_replace_number};
 ghost use Rattle.model.specs.Edition.{Edition, edition_of, SomeEdition};
 ghost use Rattle.model.specs.State.{new, replacing, either};

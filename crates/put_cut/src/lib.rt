@@ -1,6 +1,8 @@
 // Put of a new key whose way ends within a Prefix: "a Prefix of p bytes matched for q < p: a Node4; the part before has q bytes, the part
 // after p - 1 - q. Both non-empty: one more Prefix. One: the old body is rewritten. None: it is freed." Of a chain the part after goes on in the
 // bodies below.
+#![tactic(auto)]
+
 pub mod after;
 
 ghost use Rattle.model.specs.Edition.{Edition, SomeEdition};

@@ -1,5 +1,7 @@
 // Put of a key that is there: "with the same value length the extent is overwritten and nothing is needed; otherwise a new extent, and
 // the old one's size is added to X." The stamp is the new one in either case.
+#![tactic(auto)]
+
 ghost use Rattle.std.specs.Prelude.{◌+◌, ◌<◌, ◌≤◌, length};
 ghost use Rattle.model.specs.Edition.{Edition, SomeEdition};
 ghost use Rattle.leaf_new.specs.Make.{stamped};

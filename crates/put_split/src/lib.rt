@@ -1,5 +1,7 @@
 // Put of a new key at a Leaf of another key: "a Leaf with another key, q walked bytes shared from there: a Node4, and a Prefix if q > 0", a chain
 // of them for a longer beginning. The bodies that it writes serve a cut Prefix too.
+#![tactic(auto)]
+
 pub mod parts;
 
 ghost use Rattle.model.specs.Edition.{edition_of};

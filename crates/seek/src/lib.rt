@@ -1,5 +1,7 @@
 // The first Leaf of a tree in byte order, and the first whose key is at or above a bound: one way down each, with no array and no recursion. What a
 // listing (document 02, Q-1) finds each of its entries by.
+#![tactic(auto)]
+
 ghost use Rattle.std.specs.Prelude.{◌≡◌, ℕ, ◌+◌, ◌≤◌, ◌<◌, length, take, drop, List};
 ghost use Rattle.inner.specs.Inner.{NodeSome};
 ghost use Rattle.seek.specs.Sub.{Sub, FirstAt};

@@ -1,4 +1,6 @@
 // The exact test of an inner node's body, of any kind, in a frame whose bytes are arbitrary. Nothing is written.
+#![tactic(auto)]
+
 ghost use Rattle.std.specs.Prelude.{◌+◌, ◌*◌, ◌≤◌, ◌<◌, ◌≡◌, length};
 ghost use Rattle.layout.specs.Kind.{body_size};
 ghost use Rattle.layout.specs.Place.{node48_children};

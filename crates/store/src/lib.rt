@@ -1,4 +1,6 @@
 // The public calls on one lent frame. None of them asks anything of its caller.
+#![tactic(auto)]
+
 pub mod erase;
 pub mod format;
 pub mod info;

@@ -1,5 +1,7 @@
 // "In a good frame freed bodies, dead extents and bytes from B on are zero": the units that no live item has claimed are tested, and all
 // bytes from B on. Freed bodies claim their units only after that.
+#![tactic(auto)]
+
 ghost use Rattle.std.specs.Prelude.{◌≡◌, ◌+◌, ◌*◌, ◌%◌, ◌<◌, ◌≤◌, length};
 ghost use Rattle.pieces.specs.Decides.{Decides};
 ghost use Rattle.sweep.specs.Sweep.{Lowest, Dropped, Inside, Zeros, Bare, Swept};

@@ -135,7 +135,7 @@ loop-again c =
     let z = c.before.before.before.before.before.before.before.before.before.before.before.before.before.before.before.requires in
     let e = c.before.before.before.before.before.before.before.before.before.before.read.ensures in
     let p = read_piece v.3 z (omega (arith, e.0)) e.1 c.before.before.before.before.before.before.length.ensures.0 in
-    (p.3, search rules, search rules, read_step v.3 (omega (arith, e.0)) e.1 c.before.before.before.before.before.before.length.ensures.0 c.child.ensures.0 c.before.before.before.paste.ensures (omega (arith, p.3)) (omega (arith, p.4)))
+    (p.3, search rules, search rules, read_step _ v.3 (omega (arith, e.0)) e.1 c.before.before.before.before.before.before.length.ensures.0 c.child.ensures.0 c.before.before.before.paste.ensures (omega (arith, p.3)) (omega (arith, p.4)))
 
 pub read_row_spec : {M : Type 1} → statement M
 read_row_spec =
