@@ -95,12 +95,7 @@ pub fn frame_list(
     )
 }
 
-pub fn frame_batch(
-    frame: &mut [u8],
-    second: &mut [u8],
-    changes: &[u8],
-    answers: &mut [u8],
-) -> u64
+pub fn frame_batch(frame: &mut [u8], second: &mut [u8], changes: &[u8], answers: &mut [u8]) -> u64
     ensures { Batched edition1 frame.old second.old changes.now answers.old result frame.new second.new answers.new }
 {
     calls::batch(frame, second, changes, answers, Header::FIRST_EDITION)
@@ -179,12 +174,7 @@ pub fn frame2_list(
     )
 }
 
-pub fn frame2_batch(
-    frame: &mut [u8],
-    second: &mut [u8],
-    changes: &[u8],
-    answers: &mut [u8],
-) -> u64
+pub fn frame2_batch(frame: &mut [u8], second: &mut [u8], changes: &[u8], answers: &mut [u8]) -> u64
     ensures { Batched edition2 frame.old second.old changes.now answers.old result frame.new second.new answers.new }
 {
     calls::batch(frame, second, changes, answers, Header::SECOND_EDITION)

@@ -1,0 +1,20 @@
+-- The loop's invariant: what is told of the slots from here on tells of all. Assumes nothing.
+use Prim.Native.Nat.{◌-◌}
+use mathlib.Core.Path.{◌≡◌, refl}
+use native.Mathlib.Omega.{arith}
+use borrow.Author.Tests.{not-true, not-false}
+use lib.ListN.{length}
+use Rattle.census.specs.Told.{Tally}
+use Rattle.census.specs.Freed.{ChainItems}
+use Rattle.census.proofs.ToldLaws.{Leads, told_from, tally_to, tally_body, body_slots, place_whole}
+use Rattle.census.proofs.FreedLaws.{chain_end, chain_past, chain_bad, chain_more}
+use borrow.Author.Rules.{rules}
+use Rattle.census.proofs.freed.chain.Given as goal
+
+abbrev pub invariant-loop-s : goal.invariant-loop-s
+invariant-loop-s l =
+    (length l.map ≡ length l.initial.map) × Tally l.bounds.given 0 l.sums
+    × Leads (ChainItems l.f l.kind l.s) (ChainItems l.f l.kind l.s) (ChainItems l.f l.kind l.head) (ChainItems l.f l.kind l.head) l.f l.bounds.start l.bounds.given l.bounds.next l.map l.sums l.initial.map l.initial.sums
+
+abbrev pub decreases-loop-s : goal.decreases-loop-s
+decreases-loop-s l = l.bounds.given - l.sums.slots

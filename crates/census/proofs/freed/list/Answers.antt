@@ -1,0 +1,21 @@
+-- One law for each answer (FreedLaws). Assumes nothing.
+use native.Mathlib.Omega.{arith}
+use borrow.Author.Rules.{rules}
+use Rattle.census.proofs.ToldLaws.{told_to}
+use Rattle.census.proofs.FreedLaws.{list_some, list_third, list_none}
+use Rattle.census.proofs.freed.list.Goals as goal
+
+pub returns-then-kind-ne-CROSSING : goal.returns-then-kind-ne-CROSSING
+returns-then-kind-ne-CROSSING c =
+    list_some c.if-kind-ne-CROSSING.true c.list_head-head.ensures.0 c.chain.ensures
+
+pub returns-then-head-ne0 : goal.returns-then-head-ne0
+returns-then-head-ne0 c =
+    list_third (omega (arith, c.if-kind-ne-CROSSING.false)) c.list_head-head.ensures.0 c.if-head-ne0.true c.refused.ensures
+
+pub kept-requires : goal.kept-requires
+kept-requires c = c.requires.2.good
+
+pub returns : goal.returns
+returns c =
+    told_to c.kept.ensures (list_none c.list_head-head.ensures.0 c.if-head-ne0.false c.requires.2)

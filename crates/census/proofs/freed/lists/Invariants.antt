@@ -1,0 +1,20 @@
+-- The loop's invariant: what is told of the lists from here on tells of all. Assumes nothing.
+use Prim.Native.Nat.{◌-◌, ◌≤◌}
+use mathlib.Core.Path.{◌≡◌, refl}
+use native.Mathlib.Omega.{arith}
+use borrow.Author.Tests.{not-true, not-false}
+use lib.ListN.{length}
+use Rattle.census.specs.Told.{Tally}
+use Rattle.census.specs.Freed.{FreedItems}
+use Rattle.census.proofs.ToldLaws.{Leads, told_from, tally_to}
+use Rattle.census.proofs.FreedLaws.{list_none, lists_bad, lists_more, lists_end}
+use borrow.Author.Rules.{rules}
+use Rattle.census.proofs.freed.lists.Given as goal
+
+abbrev pub invariant-loop-kind : goal.invariant-loop-kind
+invariant-loop-kind l =
+    (1 ≤ l.kind) × (l.kind ≤ 9) × (length l.map ≡ length l.initial.map) × Tally l.bounds.given 0 l.sums
+    × Leads (FreedItems l.f l.kind) (FreedItems l.f l.kind) (FreedItems l.f 1) (FreedItems l.f 1) l.f l.bounds.start l.bounds.given l.bounds.next l.map l.sums l.initial.map l.initial.sums
+
+abbrev pub decreases-loop-kind : goal.decreases-loop-kind
+decreases-loop-kind l = 9 - l.kind

@@ -1,0 +1,39 @@
+-- `descend`: the invariant is the way so far, the measure what is left of the bytes that a path can have. Assumes nothing.
+use Prim.Native.Nat.{◌-◌}
+use mathlib.Core.Path.{◌≡◌, sym, ap, ◌∙◌}
+use native.Mathlib.Omega.{arith}
+use Rattle.model.specs.Edition.{edition_of}
+use Rattle.descent.specs.declared.spot.Spot.{Spot}
+use Rattle.descent.specs.Spot.{Underway}
+use Rattle.descent.proofs.RootLaws.{header_room, root_entry, start_going, start_empty, ended_spot}
+use borrow.Author.Rules.{rules}
+use Rattle.descent.proofs.walk.descend.Goals as goal
+
+pub root-slot-requires : goal.root-slot-requires
+root-slot-requires c = header_room _ c.requires.0
+
+pub read-e-requires : goal.read-e-requires
+read-e-requires c = root_entry _ c.requires.0 c.root-slot.result c.root-slot.ensures.0
+
+pub ended-requires : goal.ended-requires
+ended-requires c = let e : c.start-s.result.visited ≡ 0 = ap (λ (z : Spot). z.visited) c.start-s.ensures in omega arith
+
+pub returns-then-e-eq-EMPTY_ROOT : goal.returns-then-e-eq-EMPTY_ROOT
+returns-then-e-eq-EMPTY_ROOT c =
+    let r = c.root-slot in let e = c.read-e in rw (c.ended.ensures, c.start-s.ensures) (start_empty _ c.args.key.now c.requires.0 r.result r.ensures.0 e.result.place (sym e.ensures.0 ∙ c.if-e-eq-EMPTY_ROOT.true) e.ensures.1)
+
+pub loop-s-init : goal.loop-s-init
+loop-s-init c =
+    let r = c.root-slot in let e = c.read-e in rw c.start-s.ensures (start_going _ c.args.key.now c.requires.0 r.result r.ensures.0 (λ q. c.if-e-eq-EMPTY_ROOT.false (e.ensures.0 ∙ q)))
+
+pub step-s-requires : goal.step-s-requires
+step-s-requires c = (c.loop-s.invariant, c.requires.1)
+
+pub returns-then-s-ne-GOING : goal.returns-then-s-ne-GOING
+returns-then-s-ne-GOING c = ended_spot _ (c.step-s.ensures.ends c.if-s-ne-GOING.true)
+
+pub loop-s-smaller : goal.loop-s-smaller
+loop-s-smaller c = let d = c.step-s.ensures.goes c.if-s-ne-GOING.false in omega (arith, d.1, d.2)
+
+pub loop-s-preserved : goal.loop-s-preserved
+loop-s-preserved c = (c.step-s.ensures.goes c.if-s-ne-GOING.false).0

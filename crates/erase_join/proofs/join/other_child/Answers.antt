@@ -1,0 +1,19 @@
+-- The first child, or the second where the first is at the byte. Assumes nothing.
+use Rattle.erase_join.proofs.PairLaws.{visit_first, visit_second, is_first, is_second}
+use borrow.Author.Rules.{rules}
+use Rattle.erase_join.proofs.join.other_child.Goals as goal
+
+pub child_at-first-requires : goal.child_at-first-requires
+child_at-first-requires c = visit_first c.requires
+
+pub child_at-requires : goal.child_at-requires
+child_at-requires c =
+    visit_second c.requires c.child_at-first.ensures
+
+pub returns-then-first-b : goal.returns-then-first-b
+returns-then-first-b c =
+    is_second c.requires c.child_at-first.ensures c.if-first-b.true c.child_at.ensures
+
+pub returns : goal.returns
+returns c =
+    is_first c.requires c.child_at-first.ensures c.if-first-b.false

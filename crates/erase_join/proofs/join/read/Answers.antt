@@ -1,0 +1,14 @@
+-- What is read at the spot is the site of the join. Assumes nothing.
+use Rattle.erase_join.proofs.PairLaws.{pair_couple, child_entry, pair_read}
+use borrow.Author.Rules.{rules}
+use Rattle.erase_join.proofs.join.read.Goals as goal
+
+pub other_child-other-requires : goal.other_child-other-requires
+other_child-other-requires c = pair_couple c.requires.holds
+
+pub read-entry-requires : goal.read-entry-requires
+read-entry-requires c = child_entry c.requires.holds c.other_child-other.ensures
+
+pub returns : goal.returns
+returns c =
+    λ E P. pair_read P c.other_child-other.ensures c.read-entry.ensures.0

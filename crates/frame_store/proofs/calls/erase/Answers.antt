@@ -1,0 +1,6 @@
+-- The number is that of erase's answer. Assumes nothing.
+use borrow.Author.Rules.{rules}
+use Rattle.frame_store.proofs.calls.erase.Goals as goal
+
+pub returns : goal.returns
+returns c = rw c.erase_number.ensures c.erase.ensures

@@ -1,0 +1,6 @@
+-- The number is that of put's answer. Assumes nothing.
+use borrow.Author.Rules.{rules}
+use Rattle.frame_store.proofs.calls.put.Goals as goal
+
+pub returns : goal.returns
+returns c = rw c.put_number.ensures c.put.ensures

@@ -1,0 +1,6 @@
+-- The number is that of replacement's answer. Assumes nothing.
+use borrow.Author.Rules.{rules}
+use Rattle.frame_store.proofs.calls.replace.Goals as goal
+
+pub returns : goal.returns
+returns c = rw c.replace_number.ensures c.replace.ensures

@@ -1,0 +1,11 @@
+-- 2 names edition 2. Assumes nothing.
+use Rattle.model.specs.Edition.{edition_of}
+use native.Mathlib.Omega.{arith}
+use Rattle.model.specs.State.{new}
+use Rattle.frame_store.proofs.PutLaws.{stamp_is}
+use borrow.Author.Rules.{rules}
+use Rattle.frame_store.proofs.frame2_put.Goals as goal
+
+pub returns : goal.returns
+unfolding edition_of
+returns c = let call = c.put in stamp_is _ _ _ new _ (omega arith) call.ensures

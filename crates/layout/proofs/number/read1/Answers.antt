@@ -1,0 +1,9 @@
+-- `read1` is `le 1`. Assumes nothing.
+use native.Mathlib.Omega.{arith}
+use Rattle.layout.specs.Number.{le}
+use borrow.Author.Rules.{rules}
+use Rattle.layout.proofs.number.read1.Goals as goal
+
+pub returns : goal.returns
+unfolding le
+returns c = omega arith

@@ -1,0 +1,16 @@
+-- `read4` is `le 4`: its low half and its high half. Assumes nothing.
+use Prim.Native.Nat.{ℕ, ◌+◌, ◌*◌}
+use mathlib.Core.Path.{◌≡◌}
+use mathlib.Core.List.{List}
+use native.Mathlib.Omega.{arith}
+use native.Mathlib.Nat.{add_assoc}
+use Rattle.layout.specs.Number.{le}
+use borrow.Author.Rules.{rules}
+use Rattle.layout.proofs.number.read4.Goals as goal
+
+halves : (f : List ℕ) (o : ℕ) → le 4 f o ≡ le 2 f o + 65536 * le 2 f (o + 2)
+unfolding le
+halves f o = simp add_assoc (omega arith)
+
+pub returns : goal.returns
+returns c = let a = c.args in omega (arith, halves a.f.now a.o)

@@ -1,0 +1,14 @@
+-- Bytes go down from the lowest on: those that have gone are `Moved`. Assumes nothing.
+use mathlib.Core.Path.{refl}
+use Rattle.moves.specs.Moved.{Moved}
+use Rattle.moves.proofs.MoveLaws.{moved_none, moved_more, moved_at}
+use Prim.Native.Nat.{◌-◌, ◌≤◌}
+use native.Mathlib.Omega.{arith}
+use borrow.Author.Rules.{rules}
+use Rattle.moves.proofs.slide_down.Given as goal
+
+abbrev pub invariant-loop-j : goal.invariant-loop-j
+invariant-loop-j l = (l.j ≤ l.n) × Moved l.initial.f l.f l.src l.dst l.j
+
+abbrev pub decreases-loop-j : goal.decreases-loop-j
+decreases-loop-j l = l.n - l.j

@@ -1,0 +1,6 @@
+-- One byte and one child written. Assumes nothing.
+use borrow.Author.Rules.{rules}
+use Rattle.node.proofs.sorted.append.Goals as goal
+
+pub returns : goal.returns
+returns c = cc

@@ -1,0 +1,16 @@
+-- No child passed is a slot. Assumes nothing.
+use mathlib.Core.Path.{◌∙◌, sym, ◌≡◌}
+use borrow.Author.Count.{below_more}
+use Rattle.layout.specs.Number.{le}
+use Rattle.layout.specs.Place.{node256_children}
+use Rattle.node_big.proofs.Laws256.{next256_in, next256_out}
+use Prim.Native.Nat.{ℕ, ◌+◌, ◌-◌, ◌*◌, ◌<◌, ◌≤◌}
+use native.Mathlib.Omega.{arith}
+use borrow.Author.Rules.{rules}
+use Rattle.node_big.proofs.node256.next.Given as goal
+
+abbrev pub invariant-loop-b : goal.invariant-loop-b
+invariant-loop-b l = (l.from ≤ l.b) × (l.b ≤ 256) × ((d : ℕ) → d < l.b → l.from ≤ d → le 4 l.f (l.o + node256_children + 4 * d) ≡ 0)
+
+abbrev pub decreases-loop-b : goal.decreases-loop-b
+decreases-loop-b l = 256 - l.b

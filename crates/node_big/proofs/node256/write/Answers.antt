@@ -1,0 +1,9 @@
+-- Child and count written. Assumes nothing.
+use native.Mathlib.Omega.{arith}
+use Rattle.moves.proofs.MoveLaws.{only_none}
+use Rattle.node_big.proofs.Laws256.{wrote256}
+use borrow.Author.Rules.{rules}
+use Rattle.node_big.proofs.node256.write.Goals as goal
+
+pub returns : goal.returns
+returns c = wrote256 _ _ _ _ (omega arith) (omega arith) (omega arith) (omega arith) (only_none _ _ _) c.set_child.ensures c.set_count.ensures

@@ -1,0 +1,6 @@
+-- One entry and one child written. Assumes nothing.
+use borrow.Author.Rules.{rules}
+use Rattle.node_big.proofs.node48.append.Goals as goal
+
+pub returns : goal.returns
+returns c = cc

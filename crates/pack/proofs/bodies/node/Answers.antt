@@ -1,0 +1,13 @@
+-- One law for each end (BodiesLaws). Assumes nothing.
+use Prim.Native.Nat.{ℕ, ◌+◌}
+use mathlib.Core.Path.{refl, ap}
+use Rattle.pack.proofs.BodiesLaws.{node_lent, node_laid}
+use borrow.Author.Rules.{rules}
+use Rattle.pack.proofs.bodies.node.Goals as goal
+
+pub start-requires : goal.start-requires
+start-requires c = node_lent c.requires c.write.ensures
+
+pub returns : goal.returns
+returns c =
+    node_laid c.requires c.write.ensures c.args.n c.start.ensures refl (ap (λ (n : ℕ). c.args.next.place + n) c.body_size.ensures)

@@ -1,0 +1,12 @@
+-- One law for each end (BodiesLaws). Assumes nothing.
+use mathlib.Core.Path.{refl}
+use Rattle.pack.proofs.BodiesLaws.{prefix_lent, prefix_laid}
+use borrow.Author.Rules.{rules}
+use Rattle.pack.proofs.bodies.prefix.Goals as goal
+
+pub copy-requires : goal.copy-requires
+copy-requires c = prefix_lent c.requires c.write.ensures
+
+pub returns : goal.returns
+returns c =
+    prefix_laid c.requires c.write.ensures c.copy.ensures refl refl

@@ -1,0 +1,13 @@
+-- `same` decides that two ranges are the same: its pieces cover them. Assumes nothing.
+use Prim.Native.Nat.{◌-◌, ◌≤◌}
+use native.Mathlib.Omega.{arith}
+use borrow.Author.Rules.{rules}
+use Rattle.pieces.specs.Range.{Paired, SameAt}
+use Rattle.pieces.proofs.RangeLaws.{piece_bad, piece_last, piece_two, piece_next, counted}
+use Rattle.pieces.proofs.same.Given as goal
+
+abbrev pub invariant-loop-at : goal.invariant-loop-at
+invariant-loop-at l = (l.at ≤ l.n) × (16 ≤ l.n) × Paired l.a l.i l.b l.j 0 l.at
+
+abbrev pub decreases-loop-at : goal.decreases-loop-at
+decreases-loop-at l = l.n - l.at

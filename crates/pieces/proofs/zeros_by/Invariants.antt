@@ -1,0 +1,13 @@
+-- The pieces cover the range. Assumes nothing.
+use Prim.Native.Nat.{◌-◌, ◌≤◌}
+use native.Mathlib.Omega.{arith}
+use borrow.Author.Rules.{rules}
+use Rattle.pieces.specs.Range.{Blank, IsZero}
+use Rattle.pieces.proofs.RangeLaws.{piece_bad, piece_last, piece_next}
+use Rattle.pieces.proofs.zeros_by.Given as goal
+
+abbrev pub invariant-loop-i : goal.invariant-loop-i
+invariant-loop-i l = (l.from ≤ l.i) × (l.i ≤ l.to) × Blank l.f l.from l.i
+
+abbrev pub decreases-loop-i : goal.decreases-loop-i
+decreases-loop-i l = l.to - l.i

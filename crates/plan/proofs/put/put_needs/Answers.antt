@@ -1,0 +1,94 @@
+-- `put_needs` gives the takes and the extent of the put. Assumes nothing.
+use Prim.Native.Nat.{◌+◌}
+use mathlib.Core.List.{[]}
+use native.Mathlib.Omega.{arith}
+use lib.ListN.{length}
+use lib.Dec.{eqb}
+use Rattle.model.specs.Tree.{up8}
+use Rattle.room.proofs.FitLaws.{asks_small}
+use Rattle.plan.specs.Plan.{fork_takes, grow_takes}
+use Rattle.plan.proofs.PutLaws.{sized, sized_if, small_found, small_new, fork_few, grow_few, asks_empty, asks_found, asks_other, asks_missing, asks_parted, size_fits, extent_fits, leaf_room, node_room, other_short, beginning_at, cut_fits, cut_few, last_end}
+use borrow.Author.Rules.{rules}
+use Rattle.plan.proofs.put.put_needs.Goals as goal
+
+pub rounded-extent-requires : goal.rounded-extent-requires
+rounded-extent-requires c = size_fits c.requires.holds
+
+pub value_length-requires : goal.value_length-requires
+value_length-requires c = leaf_room c.requires.holds c.if-spot-eq-FOUND.true
+
+pub returns-then-spot-eq-FOUND : goal.returns-then-spot-eq-FOUND
+returns-then-spot-eq-FOUND c =
+    let old = c.value_length in let v = c.args.value.now in (
+      small_found (eqb (length v) old.result) c.rounded-extent.result c.replacing.ensures (extent_fits c.requires.holds c.rounded-extent.ensures),
+      λ E st W S t. asks_found W S (record { bytes = v; stamp = t }) old.result c.if-spot-eq-FOUND.true old.ensures.0 (sized_if (eqb (length v) old.result) c.rounded-extent.result (up8 (length c.args.key.now + length v)) c.rounded-extent.ensures c.replacing.ensures),
+    )
+
+pub recording-requires : goal.recording-requires
+recording-requires c = asks_small c.none.ensures (omega arith) (omega arith)
+
+pub returns-then-spot-eq-EMPTY : goal.returns-then-spot-eq-EMPTY
+returns-then-spot-eq-EMPTY c =
+    let A = c.recording.ensures [] c.none.ensures in (
+      small_new A (omega arith) (extent_fits c.requires.holds c.rounded-extent.ensures),
+      λ E st W S t. asks_empty W S (record { bytes = c.args.value.now; stamp = t }) c.if-spot-eq-EMPTY.true (sized c.rounded-extent.ensures A),
+    )
+
+pub bodies_of-requires : goal.bodies_of-requires
+bodies_of-requires c = omega (arith, other_short c.requires.holds c.if-spot-eq-OTHER.true)
+
+pub forking-requires : goal.forking-requires
+forking-requires c = omega (arith, c.bodies_of.ensures, other_short c.requires.holds c.if-spot-eq-OTHER.true)
+
+pub recording-requires-then-spot-eq-OTHER : goal.recording-requires-then-spot-eq-OTHER
+recording-requires-then-spot-eq-OTHER c = c.forking.ensures.small
+
+pub returns-then-spot-eq-OTHER : goal.returns-then-spot-eq-OTHER
+returns-then-spot-eq-OTHER c =
+    let A = c.recording-then-spot-eq-OTHER.ensures (fork_takes c.bodies_of.result) c.forking.ensures.asks in (
+      small_new A (fork_few c.bodies_of.result (omega (arith, c.bodies_of.ensures, other_short c.requires.holds c.if-spot-eq-OTHER.true))) (extent_fits c.requires.holds c.rounded-extent.ensures),
+      λ E st W S t. asks_other W S (record { bytes = c.args.value.now; stamp = t }) c.bodies_of.result c.if-spot-eq-OTHER.true c.bodies_of.ensures (sized c.rounded-extent.ensures A),
+    )
+
+pub count-requires : goal.count-requires
+count-requires c = (node_room c.requires.holds c.if-spot-eq-MISSING.true).0
+
+pub growing-requires : goal.growing-requires
+growing-requires c = (node_room c.requires.holds c.if-spot-eq-MISSING.true).1
+
+pub recording-requires-then-spot-eq-MISSING : goal.recording-requires-then-spot-eq-MISSING
+recording-requires-then-spot-eq-MISSING c = c.growing.ensures.small
+
+pub returns-then-spot-eq-MISSING : goal.returns-then-spot-eq-MISSING
+returns-then-spot-eq-MISSING c =
+    let kind = c.args.spot.here.kind in let A = c.recording-then-spot-eq-MISSING.ensures (grow_takes c.count.result kind) c.growing.ensures.asks in (
+      small_new A (grow_few c.count.result kind) (extent_fits c.requires.holds c.rounded-extent.ensures),
+      λ E st W S t. asks_missing W S (record { bytes = c.args.value.now; stamp = t }) c.count.result c.if-spot-eq-MISSING.true (c.count.ensures.1 kind) (sized c.rounded-extent.ensures A),
+    )
+
+pub beginning-requires : goal.beginning-requires
+beginning-requires c =
+    beginning_at c.requires.holds (last_end c.requires.holds c.if-spot-eq-FOUND.false c.if-spot-eq-EMPTY.false c.if-spot-eq-OTHER.false c.if-spot-eq-MISSING.false)
+
+pub cutting-more-requires : goal.cutting-more-requires
+cutting-more-requires c =
+    let e = last_end c.requires.holds c.if-spot-eq-FOUND.false c.if-spot-eq-EMPTY.false c.if-spot-eq-OTHER.false c.if-spot-eq-MISSING.false in
+    cut_fits c.requires.holds e c.beginning.ensures
+
+pub forking-requires-2 : goal.forking-requires-2
+forking-requires-2 c =
+    let e = last_end c.requires.holds c.if-spot-eq-FOUND.false c.if-spot-eq-EMPTY.false c.if-spot-eq-OTHER.false c.if-spot-eq-MISSING.false in
+    let f = cut_fits c.requires.holds e c.beginning.ensures in
+    omega (arith, cut_few c.args.spot.shared c.beginning.result c.cutting-more.result f.1 f.2 c.cutting-more.ensures)
+
+pub recording-requires-2 : goal.recording-requires-2
+recording-requires-2 c = c.forking-2.ensures.small
+
+pub returns : goal.returns
+returns c =
+    let q = c.args.spot.shared in let e = last_end c.requires.holds c.if-spot-eq-FOUND.false c.if-spot-eq-EMPTY.false c.if-spot-eq-OTHER.false c.if-spot-eq-MISSING.false in
+    let f = cut_fits c.requires.holds e c.beginning.ensures in
+    let A = c.recording-2.ensures (fork_takes c.cutting-more.result) c.forking-2.ensures.asks in (
+      small_new A (fork_few c.cutting-more.result (cut_few q c.beginning.result c.cutting-more.result f.1 f.2 c.cutting-more.ensures)) (extent_fits c.requires.holds c.rounded-extent.ensures),
+      λ E st W S t. asks_parted W S (record { bytes = c.args.value.now; stamp = t }) c.cutting-more.result c.beginning.result e c.beginning.ensures c.cutting-more.ensures (sized c.rounded-extent.ensures A),
+    )

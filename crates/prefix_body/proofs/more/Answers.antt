@@ -1,0 +1,8 @@
+-- The first bytes of another Prefix join at the end. Assumes nothing.
+use Rattle.prefix_body.proofs.PrefixLaws.{more_done}
+use borrow.Author.Rules.{rules}
+use Rattle.prefix_body.proofs.more.Goals as goal
+
+pub returns : goal.returns
+returns c =
+    more_done c.requires c.length-n.ensures.0 c.copy.ensures c.set_length.ensures

@@ -1,0 +1,24 @@
+-- `put_or_replace`: edition 2 reads the walked string, written out; edition 1 the key itself. Assumes nothing.
+use native.Mathlib.Omega.{arith}
+use Rattle.keys.proofs.WordLaws.{escaped_fits, spells_walked, spelt_within, spells_key}
+use borrow.Author.Rules.{rules}
+use Rattle.put_core.proofs.put_or_replace.Goals as goal
+
+pub spell-n-requires : goal.spell-n-requires
+spell-n-requires c = (escaped_fits _ _ c.if-edition-eq-SECOND.true c.requires.legal, omega arith)
+
+pub slice_bounds-either_by-end : goal.slice_bounds-either_by-end
+slice_bounds-either_by-end c = spelt_within c.spell-n.ensures
+
+pub either_by-requires : goal.either_by-requires
+either_by-requires c =
+    (c.requires, spells_walked _ _ _ _ c.if-edition-eq-SECOND.true c.spell-n.ensures)
+
+pub returns-then-edition-eq-SECOND : goal.returns-then-edition-eq-SECOND
+returns-then-edition-eq-SECOND c = c.either_by.ensures
+
+pub either_by-requires-2 : goal.either_by-requires-2
+either_by-requires-2 c = (c.requires, spells_key _ _ c.if-edition-eq-SECOND.false)
+
+pub returns : goal.returns
+returns c = c.either_by-2.ensures

@@ -1,0 +1,24 @@
+-- `replace`: edition 2 reads the walked string, written out; edition 1 the key itself. Assumes nothing.
+use native.Mathlib.Omega.{arith}
+use Rattle.keys.proofs.WordLaws.{escaped_fits, spells_walked, spelt_within, spells_key}
+use borrow.Author.Rules.{rules}
+use Rattle.put_core.proofs.replace.Goals as goal
+
+pub spell-n-requires : goal.spell-n-requires
+spell-n-requires c = (escaped_fits _ _ c.if-edition-eq-SECOND.true c.requires.legal, omega arith)
+
+pub slice_bounds-replace_by-end : goal.slice_bounds-replace_by-end
+slice_bounds-replace_by-end c = spelt_within c.spell-n.ensures
+
+pub replace_by-requires : goal.replace_by-requires
+replace_by-requires c =
+    (c.requires, spells_walked _ _ _ _ c.if-edition-eq-SECOND.true c.spell-n.ensures)
+
+pub returns-then-edition-eq-SECOND : goal.returns-then-edition-eq-SECOND
+returns-then-edition-eq-SECOND c = c.replace_by.ensures
+
+pub replace_by-requires-2 : goal.replace_by-requires-2
+replace_by-requires-2 c = (c.requires, spells_key _ _ c.if-edition-eq-SECOND.false)
+
+pub returns : goal.returns
+returns c = c.replace_by-2.ensures

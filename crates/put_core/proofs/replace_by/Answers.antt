@@ -1,0 +1,17 @@
+-- `replace_by` finds the key missing, or ends as the write does. Assumes nothing.
+use borrow.Author.Tests.{not-true, not-false}
+use Rattle.put_core.proofs.CoreLaws.{replace_absent, there_full, there_made}
+use borrow.Author.Rules.{rules}
+use Rattle.put_core.proofs.replace_by.Goals as goal
+
+pub returns-then-spot-ne-FOUND : goal.returns-then-spot-ne-FOUND
+returns-then-spot-ne-FOUND c =
+    replace_absent (record { asked = c.requires.0; spells = c.requires.1; spot = c.descend-spot.ensures }) c.if-spot-ne-FOUND.true
+
+pub returns-then-not-write : goal.returns-then-not-write
+returns-then-not-write c =
+    there_full (record { asked = c.requires.0; spells = c.requires.1; spot = c.descend-spot.ensures }) c.write.ensures (not-true _ c.if-not-write.true-raw) c.if-spot-ne-FOUND.false
+
+pub returns : goal.returns
+returns c =
+    there_made (record { asked = c.requires.0; spells = c.requires.1; spot = c.descend-spot.ensures }) c.write.ensures (not-false _ c.if-not-write.false-raw) c.if-spot-ne-FOUND.false

@@ -1,0 +1,30 @@
+-- `drop_first` looks whether other bytes stand in the Prefix, and whether another Prefix stands below. Assumes nothing.
+use mathlib.Core.Path.{◌∙◌}
+use Rattle.put_cut.proofs.DropLaws.{drop_room, drop_entry, drop_longer, drop_all_of, drop_one_of}
+use borrow.Author.Rules.{rules}
+use Rattle.put_cut.proofs.after.drop_first.Goals as goal
+
+pub child-child-requires : goal.child-child-requires
+child-child-requires c = drop_room c.requires
+
+pub length-requires : goal.length-requires
+length-requires c = drop_room c.requires
+
+pub returns-then-length-eq1 : goal.returns-then-length-eq1
+returns-then-length-eq1 c =
+    drop_all_of c.length.ensures.0 c.if-length-eq1.true c.child-child.ensures.0
+
+pub read-e-requires : goal.read-e-requires
+read-e-requires c =
+    drop_entry c.requires c.child-child.ensures.0
+
+pub move_up-requires : goal.move_up-requires
+move_up-requires c = c.requires
+
+pub drop_first-requires : goal.drop_first-requires
+drop_first-requires c =
+    drop_longer c.requires c.length.ensures.0 c.if-length-eq1.false
+
+pub returns : goal.returns
+returns c =
+    drop_one_of c.length.ensures.0 c.if-length-eq1.false c.child-child.ensures.0 (λ z. c.if-e-eq-PREFIX.false (c.read-e.ensures.0 ∙ z)) c.drop_first.ensures

@@ -1,0 +1,21 @@
+-- `fits` answers whether needs fit the room. The invariant: the sums are those of the kinds below k, and small. Assumes nothing.
+use Prim.Native.Nat.{◌-◌, ◌*◌, ◌<◌, ◌≤◌}
+use mathlib.Core.Path.{◌≡◌, refl}
+use mathlib.Core.Bool.{false≢true}
+use native.Mathlib.Omega.{arith}
+use borrow.Author.Rules.{rules}
+use Rattle.layout.specs.Kind.{body_size}
+use Rattle.room.specs.Fit.{lacking, slots_needed, bytes_needed}
+use Rattle.room.proofs.FitLaws.{up_to, up_to_none, up_to_more, all_slots, all_bytes, few_bytes}
+use Rattle.room.proofs.fit.fits.Given as goal
+
+abbrev pub invariant-loop-k : goal.invariant-loop-k
+invariant-loop-k l =
+    (l.k ≤ 9)
+    × (l.slots ≡ up_to (lacking l.needs.bodies l.room.free) l.k)
+    × (l.bytes ≡ up_to (λ j. lacking l.needs.bodies l.room.free j * body_size j) l.k)
+    × (l.slots ≤ l.k * 65536)
+    × (l.bytes ≤ l.k * 67633152)
+
+abbrev pub decreases-loop-k : goal.decreases-loop-k
+decreases-loop-k l = 9 - l.k

@@ -1,0 +1,14 @@
+-- The lists of the kinds below `kind` are read; then the three numbers are those of the state. Assumes nothing.
+use Prim.Native.Nat.{◌-◌, ◌≤◌}
+use mathlib.Core.Path.{◌≡◌, refl, ◌∙◌}
+use native.Mathlib.Omega.{arith}
+use lib.ListN.{length, length-set}
+use Rattle.room.proofs.LeftLaws.{heap_fits, Counted, counted_none, counted_more, room_is}
+use borrow.Author.Rules.{rules as needed}
+use Rattle.room.proofs.left.room_for.Given as goal
+
+abbrev pub invariant-loop-kind : goal.invariant-loop-kind
+invariant-loop-kind l = (1 ≤ l.kind) × (l.kind ≤ 9) × (length l.free ≡ 9) × Counted l.f l.needs.bodies l.free l.kind
+
+abbrev pub decreases-loop-kind : goal.decreases-loop-kind
+decreases-loop-kind l = 9 - l.kind

@@ -1,0 +1,7 @@
+-- 0 past the key that is the text. Assumes nothing.
+use borrow.Author.Rules.{rules}
+use Rattle.seek.proofs.LeafLaws.{behind_is}
+use Rattle.seek.proofs.behind.Goals as goal
+
+pub returns : goal.returns
+returns c = behind_is c.args.tail c.requires

@@ -1,0 +1,15 @@
+-- `direct_good` decides how many children a Node256 has. Assumes nothing.
+use Prim.Native.Nat.{◌-◌, ◌≤◌}
+use mathlib.Core.Path.{sym, ap, ◌∙◌}
+use native.Mathlib.Omega.{arith}
+use borrow.Author.Rules.{rules}
+use Rattle.pieces.proofs.DecideLaws.{by_eq}
+use Rattle.shape_inner.specs.Inner.{in_use, child256}
+use Rattle.shape_inner.proofs.KidsLaws.{Counted, counted_end, direct_more}
+use Rattle.shape_inner.proofs.direct_good.Given as goal
+
+abbrev pub invariant-loop-b : goal.invariant-loop-b
+invariant-loop-b l = (l.used ≤ l.b) × (l.b ≤ 256) × Counted (child256 l.f l.o) l.b l.used
+
+abbrev pub decreases-loop-b : goal.decreases-loop-b
+decreases-loop-b l = 256 - l.b

@@ -1,0 +1,15 @@
+-- `indexed_good` decides the body of a Node48; the loop's invariant is `Marked`, with IndexedLaws at each exit. Assumes nothing.
+use Prim.Native.Nat.{◌-◌, ◌≤◌}
+use mathlib.Core.Path.{sym}
+use native.Mathlib.Omega.{arith}
+use borrow.Author.Rules.{rules}
+use Rattle.layout.specs.Number.{Bytes}
+use Rattle.pieces.proofs.DecideLaws.{denied, refuted, passed}
+use Rattle.shape_inner.proofs.IndexedLaws.{Marked, marked_none, marked_more, marked_far, marked_twice, marked_count, marked_end}
+use Rattle.shape_inner.proofs.indexed_good.Given as goal
+
+abbrev pub invariant-loop-b : goal.invariant-loop-b
+invariant-loop-b l = (l.b ≤ 256) × Marked l.f l.o l.b l.seen l.twice l.used
+
+abbrev pub decreases-loop-b : goal.decreases-loop-b
+decreases-loop-b l = 256 - l.b
