@@ -13,11 +13,10 @@ use Rattle.model.specs.Strings.{shared}
 use Rattle.model.specs.Edition.{Edition}
 use Rattle.model.specs.Body.{look_kid}
 use Rattle.model.specs.Visits.{visits}
-use Rattle.model.specs.Frame.{Lay, LayKids, tree, slot_of, art, pairs, NodeOf}
+use Rattle.model.specs.Frame.{Lay, LayKids, slot_of, art, pairs, NodeOf}
 use Rattle.model.specs.Frame.Lay.{leaf, node}
 use Rattle.model.specs.Frame.LayKids.{kid}
 use Rattle.model.proofs.StringLaws.{shared_left}
-use Rattle.model.proofs.StringLaws.Meets.{whole, ends}
 use Rattle.model.proofs.ChainLaws.{below_hung}
 use Rattle.node.specs.Kids.{or_zero, place_of}
 use Rattle.inner.specs.Inner.{link_at, place_at}

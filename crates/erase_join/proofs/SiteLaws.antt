@@ -14,8 +14,8 @@ use Rattle.model.specs.Tree.{Art, Kids, Change, Left, extent_of, find_tree, eras
 use Rattle.model.specs.Tree.Left.{gone, one, kept}
 use Rattle.model.specs.State.{State, done, tally, room, after, erase_change, call_erase}
 use Rattle.model.specs.Item.{Item, body, extent, leafy, sum, cover}
-use Rattle.model.specs.Frame.{Lay, Root, slot_of, art, art_kids, items, items_all, tree, root_art, root_items, Trees, View, freed, Stands}
-use Rattle.model.specs.Frame.Lay.{leaf, node}
+use Rattle.model.specs.Frame.{Lay, Root, slot_of, art, art_kids, items, items_all, tree, root_art, root_items, Trees, View, Stands}
+use Rattle.model.specs.Frame.Lay.{leaf}
 use Rattle.model.specs.Frame.LayKids.{nil, kid}
 use Rattle.model.specs.Touch.{touch_lost, touch_lone, erase_touch, find_at, extent_at}
 use Rattle.model.specs.Promise.{erase_kinds}

@@ -15,7 +15,7 @@ use Rattle.layout.specs.Entry.{place_of}
 use Rattle.layout.proofs.KindLaws.{size_least, shrunk_enough, shrunk_fits}
 use Rattle.model.specs.Edition.{Edition}
 use Rattle.model.specs.Tree.{Art, Change, Left, extent_of, carried, erase_tree}
-use Rattle.model.specs.State.{State, room, call_erase}
+use Rattle.model.specs.State.{State, call_erase}
 use Rattle.model.specs.Item.{Item, body, on_slot, cover, leafy, sum, Same}
 use Rattle.model.specs.Body.{child_in, InnerAt}
 use Rattle.model.specs.Frame.{Lay, LayKids, slot_of, art, items, items_all, pairs, freed, View, Heap, Stands}

@@ -15,7 +15,7 @@ use Rattle.model.specs.Tree.Art.{leaf, prefix, node}
 use Rattle.model.specs.Tree.Kids.{nil, kid}
 use Rattle.model.specs.Tree.Left.{gone, one, kept}
 use Rattle.model.specs.Tree.LeftKids.{fewer, still}
-use Rattle.model.specs.State.{total, after, erase_change}
+use Rattle.model.specs.State.{total, erase_change}
 use Rattle.model.specs.Image.{slots, slots_kids, size, size_kids}
 use Rattle.model.proofs.StringLaws.{bool_cases, eqb_cases, clash, shared_left, same_true}
 use Rattle.model.proofs.Well.{NodeW, Well, WellKids}

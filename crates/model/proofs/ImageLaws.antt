@@ -13,7 +13,7 @@ use lib.Dec.{eqb}
 use borrow.Author.Tests.{eqb-true}
 use Rattle.layout.specs.Number.{byte_at, Bytes}
 use Rattle.layout.specs.Place.{entry_at, data_start, node48_index, prefix_most}
-use Rattle.layout.specs.Kind.{leaf_kind, prefix_kind, node48_kind, body_size, most}
+use Rattle.layout.specs.Kind.{leaf_kind, prefix_kind, node48_kind, body_size}
 use Rattle.layout.specs.Entry.{entry_of}
 use Rattle.layout.proofs.EntryLaws.{entry_lt}
 use Rattle.layout.proofs.KindLaws.{inner_range, size_least}

@@ -15,7 +15,7 @@ use Rattle.layout.specs.Number.{le}
 use Rattle.layout.specs.Place.{at_r, at_root}
 use Rattle.model.specs.Edition.{Edition}
 use Rattle.model.specs.Tree.{Art}
-use Rattle.model.specs.Records.{Record, records, records_of}
+use Rattle.model.specs.Records.{Record, records_of}
 use Rattle.model.specs.State.{State}
 use Rattle.model.specs.Frame.{Lay, Root, bare, tree, slot_of, art, root_art, root_slot, RootAt, Tree, Good, Stands}
 use Rattle.model.specs.Promise.{Told, CheckPromise}

@@ -10,7 +10,7 @@ use lib.ListN.{length, get_or, drop}
 use Rattle.layout.specs.Kind.{leaf_kind}
 use Rattle.model.specs.Edition.{Edition, Value}
 use Rattle.model.specs.Tree.{Art, extent_of, over, new_key, put_tree}
-use Rattle.model.specs.State.{State, room, put_change, put_in}
+use Rattle.model.specs.State.{State, put_change, put_in}
 use Rattle.model.specs.Frame.{LayKids, art_kids, tree, root_art, View, Heap, Stands}
 use Rattle.model.specs.Frame.Lay.{node}
 use Rattle.model.specs.Touch.{has_byte}

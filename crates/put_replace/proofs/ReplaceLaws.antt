@@ -15,7 +15,7 @@ use Rattle.layout.specs.Place.{leaf_extent, leaf_key, leaf_value, leaf_stamp}
 use Rattle.layout.specs.Kind.{leaf_kind}
 use Rattle.model.specs.Edition.{Edition, Value, text_of}
 use Rattle.model.specs.Tree.{Art, Change, up8, extent_of, put_tree}
-use Rattle.model.specs.State.{State, room}
+use Rattle.model.specs.State.{State}
 use Rattle.model.specs.Item.{Item, body, extent, cover, sum, Same}
 use Rattle.model.specs.Item as item
 use Rattle.model.specs.Frame.{Lay, slot_of, LeafOf, View, Heap, tree, Stands}

@@ -1,6 +1,5 @@
 -- The rule in force is the edition's own. Assumes nothing.
 use Rattle.audit.proofs.RuleLaws.{checked_now}
-use borrow.Author.Rules.{rules}
 use Rattle.audit.proofs.check.Goals as goal
 
 pub returns : goal.returns

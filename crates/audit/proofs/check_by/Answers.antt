@@ -7,7 +7,6 @@ use Rattle.model.specs.Edition.{edition_of}
 use Rattle.pieces.proofs.DecideLaws.{refuted, passed}
 use Rattle.audit.specs.Audit.{ruled}
 use Rattle.audit.proofs.WholeLaws.{audit_length, audit_bad, audit_good, header_none}
-use borrow.Author.Rules.{rules}
 use Rattle.audit.proofs.check_by.Goals as goal
 
 pub returns-then-not-length_good : goal.returns-then-not-length_good

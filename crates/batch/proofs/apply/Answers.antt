@@ -3,7 +3,6 @@ use mathlib.Core.List.{[]}
 use native.Mathlib.Omega.{arith}
 use Rattle.store.proofs.LookLaws.{standing}
 use Rattle.batch.proofs.ApplyLaws.{pasted_all, ready, ready_second, tried_as, is_laid, not_laid, bad_frame, other_length, no_batch, halted_at, carried}
-use borrow.Author.Rules.{rules}
 use Rattle.batch.proofs.apply.Goals as goal
 
 pub returns-then-n-ne-GOOD : goal.returns-then-n-ne-GOOD

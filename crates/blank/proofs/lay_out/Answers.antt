@@ -2,7 +2,6 @@
 use Rattle.blank.proofs.BlankLaws.{laid_out}
 use Prim.Native.Nat.{◌<◌}
 use native.Mathlib.Omega.{arith}
-use borrow.Author.Rules.{rules}
 use Rattle.blank.proofs.lay_out.Goals as goal
 
 pub returns : goal.returns

@@ -1,10 +1,7 @@
 -- `free_row` frees the last body of the row at each turn. Assumes nothing.
-use Prim.Native.Nat.{◌≤◌}
-use mathlib.Core.Path.{◌≡◌, refl}
+use mathlib.Core.Path.{refl}
 use native.Mathlib.Omega.{arith}
-use lib.ListN.{length}
 use borrow.Author.Rules.{rules}
-use Rattle.chain.specs.Row.{RowFreed}
 use Rattle.chain.proofs.FreeLaws.{freed_start, freed_frees, freed_step, freed_end}
 use Rattle.chain.proofs.free_row.Goals as goal
 

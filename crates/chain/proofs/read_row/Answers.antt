@@ -1,10 +1,7 @@
 -- `read_row` opens a Prefix at each turn, until another kind stands there. Assumes nothing.
-use Prim.Native.Nat.{◌-◌, ◌≤◌}
-use mathlib.Core.Path.{◌≡◌, refl}
+use mathlib.Core.Path.{refl}
 use native.Mathlib.Omega.{arith}
-use lib.ListN.{length}
 use borrow.Author.Rules.{rules}
-use Rattle.chain.specs.Row.{RowRead}
 use Rattle.chain.proofs.ReadLaws.{read_start, read_slot, read_room, read_piece, read_step, part_fits}
 use Rattle.chain.proofs.read_row.Goals as goal
 

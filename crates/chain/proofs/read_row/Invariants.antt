@@ -1,11 +1,8 @@
 -- `read_row` opens a Prefix at each turn, until another kind stands there. Assumes nothing.
 use Prim.Native.Nat.{◌-◌, ◌≤◌}
-use mathlib.Core.Path.{◌≡◌, refl}
-use native.Mathlib.Omega.{arith}
+use mathlib.Core.Path.{◌≡◌}
 use lib.ListN.{length}
-use borrow.Author.Rules.{rules}
 use Rattle.chain.specs.Row.{RowRead}
-use Rattle.chain.proofs.ReadLaws.{read_start, read_slot, read_room, read_piece, read_step, part_fits}
 use Rattle.chain.proofs.read_row.Given as goal
 
 abbrev pub invariant-loop-e : goal.invariant-loop-e

@@ -1,10 +1,7 @@
 -- `take_row` takes a body a turn, and the row names it. Assumes nothing.
-use Prim.Native.Nat.{◌-◌, ◌≤◌}
-use mathlib.Core.Path.{◌≡◌, refl}
+use mathlib.Core.Path.{refl}
 use native.Mathlib.Omega.{arith}
-use lib.ListN.{length}
 use borrow.Author.Rules.{rules}
-use Rattle.chain.specs.Row.{RowTaken}
 use Rattle.chain.proofs.TakeLaws.{taken_start, taken_takes, taken_step, taken_end}
 use Rattle.chain.proofs.take_row.Goals as goal
 

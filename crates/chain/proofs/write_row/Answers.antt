@@ -1,11 +1,7 @@
 -- `write_row`: from the last piece on, each body names what stands below it. Assumes nothing.
-use Prim.Native.Nat.{◌+◌, ◌*◌, ◌<◌, ◌≤◌}
-use mathlib.Core.Path.{◌≡◌, refl, ◌∙◌}
+use mathlib.Core.Path.{refl, ◌∙◌}
 use native.Mathlib.Omega.{arith}
-use lib.ListN.{length}
-use borrow.Author.Rules.{rules}
 use Rattle.chain.proofs.RowLaws.{row_start, row_seat, row_fits, row_step, row_end}
-use Rattle.chain.specs.Row.{RowWritten}
 use Rattle.chain.proofs.write_row.Goals as goal
 
 pub loop-i-init : goal.loop-i-init

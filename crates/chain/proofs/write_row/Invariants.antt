@@ -1,10 +1,7 @@
 -- `write_row`: from the last piece on, each body names what stands below it. Assumes nothing.
 use Prim.Native.Nat.{◌+◌, ◌*◌, ◌<◌, ◌≤◌}
-use mathlib.Core.Path.{◌≡◌, refl, ◌∙◌}
-use native.Mathlib.Omega.{arith}
+use mathlib.Core.Path.{◌≡◌}
 use lib.ListN.{length}
-use borrow.Author.Rules.{rules}
-use Rattle.chain.proofs.RowLaws.{row_start, row_seat, row_fits, row_step, row_end}
 use Rattle.chain.specs.Row.{RowWritten}
 use Rattle.chain.proofs.write_row.Given as goal
 

@@ -1,5 +1,4 @@
 -- `claims::claim` meets its contract: nothing to claim, one word, or more. Assumes nothing.
-use borrow.Author.Rules.{rules}
 use Rattle.model.proofs.StringLaws.{clash}
 use Rattle.claims.proofs.BitLaws.{claim_start, claim_end}
 use Rattle.claims.proofs.claim.Goals as goal

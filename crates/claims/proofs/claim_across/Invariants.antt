@@ -1,9 +1,6 @@
 -- `claims::claim_across` meets its contract. The loop's invariant: `left` units from `at` on are not marked yet, and the others are.
 -- Assumes nothing.
-use native.Mathlib.Omega.{arith}
-use borrow.Author.Rules.{rules}
-use Rattle.model.proofs.StringLaws.{clash}
-use Rattle.claims.proofs.BitLaws.{Claiming, claim_start, claim_more, claim_taken, claim_end}
+use Rattle.claims.proofs.BitLaws.{Claiming}
 use Rattle.claims.proofs.claim_across.Given as goal
 
 abbrev pub invariant-loop-left : goal.invariant-loop-left

@@ -1,6 +1,5 @@
 -- Units of one word are claimed at once: the only step of `Claiming`. Assumes nothing.
 use native.Mathlib.Omega.{arith}
-use borrow.Author.Rules.{rules}
 use Rattle.model.proofs.StringLaws.{clash}
 use Rattle.claims.specs.Units.{Run}
 use Rattle.claims.proofs.BitLaws.{claim_start, claim_more, claim_taken, claim_end}

@@ -1,5 +1,4 @@
 -- `claims::mask` meets its contract. Assumes nothing.
-use borrow.Author.Rules.{rules}
 use Rattle.claims.proofs.BitLaws.{mask_is}
 use Rattle.claims.proofs.mask.Goals as goal
 

@@ -2,7 +2,6 @@
 use native.Mathlib.Omega.{arith}
 use Rattle.plan.proofs.EraseLaws.{mark_small}
 use Rattle.erase_core.proofs.CoreLaws.{node_fits, at_keeps, at_pair, at_mark}
-use borrow.Author.Rules.{rules}
 use Rattle.erase_core.proofs.apply.Goals as goal
 
 pub count-requires : goal.count-requires

@@ -2,7 +2,6 @@
 use borrow.Author.Tests.{not-true, not-false}
 use Rattle.keys.proofs.KeyLaws.{key_some}
 use Rattle.erase_core.proofs.CoreLaws.{absent, only, only_made, from, no_room, at_spot, erased}
-use borrow.Author.Rules.{rules}
 use Rattle.erase_core.proofs.erase.Goals as goal
 
 pub returns-then-spot-ne-FOUND : goal.returns-then-spot-ne-FOUND

@@ -1,6 +1,5 @@
 -- 2 names edition 2. Assumes nothing.
 use Rattle.model.specs.Edition.{edition_of}
-use borrow.Author.Rules.{rules}
 use Rattle.frame_store.proofs.frame2_format.Goals as goal
 
 pub returns : goal.returns

@@ -3,7 +3,6 @@ use Rattle.model.specs.Edition.{edition_of}
 use native.Mathlib.Omega.{arith}
 use Rattle.model.specs.State.{new}
 use Rattle.frame_store.proofs.PutLaws.{stamp_is}
-use borrow.Author.Rules.{rules}
 use Rattle.frame_store.proofs.frame2_put.Goals as goal
 
 pub returns : goal.returns

@@ -1,6 +1,5 @@
 -- 1 names edition 1. Assumes nothing.
 use Rattle.model.specs.Edition.{edition_of}
-use borrow.Author.Rules.{rules}
 use Rattle.frame_store.proofs.frame_list.Goals as goal
 
 pub returns : goal.returns

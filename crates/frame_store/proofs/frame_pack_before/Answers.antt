@@ -1,5 +1,4 @@
 -- The number is that of packing's answer. Assumes nothing.
-use borrow.Author.Rules.{rules}
 use Rattle.frame_store.proofs.frame_pack_before.Goals as goal
 
 pub returns : goal.returns

@@ -1,6 +1,5 @@
 -- `byte_at` by the edition. Assumes nothing.
 use Rattle.keys.proofs.KeyLaws.{byte_two, byte_other}
-use borrow.Author.Rules.{rules}
 use Rattle.keys.proofs.byte_at.Goals as goal
 
 pub returns-then-edition-eq-SECOND : goal.returns-then-edition-eq-SECOND

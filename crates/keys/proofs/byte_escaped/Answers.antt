@@ -1,9 +1,6 @@
 -- `byte_escaped`: the byte sought stands in what is left, as far on as was not passed. Assumes nothing.
-use Rattle.keys.proofs.EscapeLaws.{Passed, passed_none, passed_more, passed_first, passed_second, passed_end}
-use Prim.Native.Nat.{◌-◌}
+use Rattle.keys.proofs.EscapeLaws.{passed_none, passed_more, passed_first, passed_second, passed_end}
 use native.Mathlib.Omega.{arith}
-use lib.ListN.{length}
-use borrow.Author.Rules.{rules}
 use Rattle.keys.proofs.byte_escaped.Goals as goal
 
 pub loop-i-init : goal.loop-i-init

@@ -1,9 +1,7 @@
 -- `byte_escaped`: the byte sought stands in what is left, as far on as was not passed. Assumes nothing.
-use Rattle.keys.proofs.EscapeLaws.{Passed, passed_none, passed_more, passed_first, passed_second, passed_end}
+use Rattle.keys.proofs.EscapeLaws.{Passed}
 use Prim.Native.Nat.{◌-◌}
-use native.Mathlib.Omega.{arith}
 use lib.ListN.{length}
-use borrow.Author.Rules.{rules}
 use Rattle.keys.proofs.byte_escaped.Given as goal
 
 abbrev pub invariant-loop-i : goal.invariant-loop-i

@@ -1,10 +1,8 @@
 -- `escape` writes the walked string of edition 2: of the key the bytes passed are written. Assumes nothing.
-use Rattle.keys.proofs.EscapeLaws.{Begun, begun_none, begun_more, begun_end, begun_room}
-use Prim.Native.Nat.{◌-◌}
-use mathlib.Core.Path.{◌≡◌, refl}
+use Rattle.keys.proofs.EscapeLaws.{begun_none, begun_more, begun_end, begun_room}
+use mathlib.Core.Path.{refl}
 use native.Mathlib.Omega.{arith}
-use lib.ListN.{length, length-set}
-use borrow.Author.Rules.{rules}
+use lib.ListN.{length-set}
 use Rattle.keys.proofs.escape.Goals as goal
 
 pub loop-i-init : goal.loop-i-init

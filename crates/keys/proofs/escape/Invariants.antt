@@ -1,10 +1,8 @@
 -- `escape` writes the walked string of edition 2: of the key the bytes passed are written. Assumes nothing.
-use Rattle.keys.proofs.EscapeLaws.{Begun, begun_none, begun_more, begun_end, begun_room}
+use Rattle.keys.proofs.EscapeLaws.{Begun}
 use Prim.Native.Nat.{◌-◌}
-use mathlib.Core.Path.{◌≡◌, refl}
-use native.Mathlib.Omega.{arith}
-use lib.ListN.{length, length-set}
-use borrow.Author.Rules.{rules}
+use mathlib.Core.Path.{◌≡◌}
+use lib.ListN.{length}
 use Rattle.keys.proofs.escape.Given as goal
 
 abbrev pub invariant-loop-i : goal.invariant-loop-i

@@ -2,7 +2,6 @@
 use mathlib.Core.Path.{sym, ◌∙◌}
 use native.Mathlib.Omega.{arith}
 use Rattle.keys.proofs.KeyLaws.{fault_none, fault_far, fault_near, fault_long, fault_zero, fault_free}
-use borrow.Author.Rules.{rules}
 use Rattle.keys.proofs.fault.Goals as goal
 
 pub returns-then-key-eq0 : goal.returns-then-key-eq0

@@ -1,10 +1,7 @@
 -- `matched`: all bytes are shared, or the bytes counted and those that what is left shares are all that is shared. Assumes nothing.
-use Prim.Native.Nat.{◌+◌, ◌-◌, ◌≤◌}
+use Prim.Native.Nat.{◌+◌}
 use mathlib.Core.Path.{refl, sym, ◌∙◌, ◌≡◌}
 use native.Mathlib.Omega.{arith}
-use lib.ListN.{drop, length}
-use borrow.Author.Rules.{rules}
-use Rattle.model.specs.Strings.{shared}
 use Rattle.keys.proofs.KeyLaws.{share_all, share_more, share_part, share_left, share_right}
 use Rattle.keys.proofs.matched.Goals as goal
 

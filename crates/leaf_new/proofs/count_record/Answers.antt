@@ -1,6 +1,5 @@
 -- `count_record` adds one to R. Assumes nothing.
 use Rattle.leaf_new.proofs.LeafLaws.{count_law}
-use borrow.Author.Rules.{rules}
 use Rattle.leaf_new.proofs.count_record.Goals as goal
 
 pub returns : goal.returns

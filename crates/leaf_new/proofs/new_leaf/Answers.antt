@@ -1,6 +1,5 @@
 -- `new_leaf` takes a body, then the extent, and writes the body. Assumes nothing.
 use Rattle.leaf_new.proofs.LeafLaws.{makes_takes, makes_entry, makes_extends, makes_writes, leaf_law}
-use borrow.Author.Rules.{rules}
 use Rattle.leaf_new.proofs.new_leaf.Goals as goal
 
 pub take-s-requires : goal.take-s-requires

@@ -1,9 +1,6 @@
 -- The bytes passed are `Cleared`. Assumes nothing.
 use Rattle.moves.specs.Moved.{Cleared}
-use Rattle.moves.proofs.MoveLaws.{cleared_none, cleared_more, cleared_all}
 use Prim.Native.Nat.{◌-◌, ◌≤◌}
-use native.Mathlib.Omega.{arith}
-use borrow.Author.Rules.{rules}
 use Rattle.moves.proofs.clear.Given as goal
 
 abbrev pub invariant-loop-j : goal.invariant-loop-j

@@ -1,7 +1,6 @@
 -- Moved down, then a zero. Assumes nothing.
 use native.Mathlib.Omega.{arith}
 use Rattle.moves.proofs.MoveLaws.{closed_byte}
-use borrow.Author.Rules.{rules}
 use Rattle.moves.proofs.close_byte.Goals as goal
 
 pub returns : goal.returns

@@ -1,7 +1,6 @@
 -- Moved down, then a child 0. Assumes nothing.
 use native.Mathlib.Omega.{arith}
 use Rattle.moves.proofs.MoveLaws.{closed_child}
-use borrow.Author.Rules.{rules}
 use Rattle.moves.proofs.close_child.Goals as goal
 
 pub returns : goal.returns

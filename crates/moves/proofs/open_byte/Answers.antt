@@ -1,7 +1,6 @@
 -- Moved up, then the new byte. Assumes nothing.
 use native.Mathlib.Omega.{arith}
 use Rattle.moves.proofs.MoveLaws.{opened_byte}
-use borrow.Author.Rules.{rules}
 use Rattle.moves.proofs.open_byte.Goals as goal
 
 pub returns : goal.returns

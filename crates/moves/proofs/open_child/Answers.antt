@@ -1,7 +1,6 @@
 -- Moved up, then the new child. Assumes nothing.
 use native.Mathlib.Omega.{arith}
 use Rattle.moves.proofs.MoveLaws.{opened_child}
-use borrow.Author.Rules.{rules}
 use Rattle.moves.proofs.open_child.Goals as goal
 
 pub returns : goal.returns

@@ -1,10 +1,7 @@
 -- Bytes go up from the highest on: those that have gone are `Moved`. Assumes nothing.
 use mathlib.Core.Path.{refl}
-use Rattle.moves.specs.Moved.{Moved}
 use Rattle.moves.proofs.MoveLaws.{moved_none, moved_under, moved_at}
-use Prim.Native.Nat.{◌+◌, ◌-◌, ◌≤◌}
 use native.Mathlib.Omega.{arith}
-use borrow.Author.Rules.{rules}
 use Rattle.moves.proofs.slide_up.Goals as goal
 
 pub loop-j-init : goal.loop-j-init

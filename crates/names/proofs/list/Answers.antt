@@ -1,7 +1,6 @@
 -- The word is as long as the edition asks. Assumes nothing.
 use native.Mathlib.Omega.{arith}
 use Rattle.names.proofs.SoughtLaws.{room_two, room_other}
-use borrow.Author.Rules.{rules}
 use Rattle.names.proofs.list.Goals as goal
 
 pub list_by-requires : goal.list_by-requires

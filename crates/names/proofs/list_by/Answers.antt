@@ -3,7 +3,6 @@ use mathlib.Core.Path.{◌≡◌, sym, ◌∙◌}
 use native.Mathlib.Omega.{arith}
 use Rattle.names.proofs.EditionLaws.{naming}
 use Rattle.names.proofs.ListLaws.{header_long, list_sub, list_one, list_two, list_prefix, list_start, list_zero, list_empty, list_page}
-use borrow.Author.Rules.{rules}
 use Rattle.names.proofs.list_by.Goals as goal
 
 pub returns-then-n-eq-BAD_LENGTH : goal.returns-then-n-eq-BAD_LENGTH

@@ -1,7 +1,6 @@
 -- None is legal. Assumes nothing.
 use Rattle.model.specs.Edition.{edition_of}
 use Rattle.names.proofs.ListLaws.{fault_none, fault_given}
-use borrow.Author.Rules.{rules}
 use Rattle.names.proofs.start_fault.Goals as goal
 
 pub returns-then-not-given : goal.returns-then-not-given

@@ -1,7 +1,6 @@
 -- Each way out is one of packing's ends (PackLaws). Assumes nothing.
 use native.Mathlib.Omega.{arith}
 use Rattle.pack.proofs.PackLaws.{rule_either, pack_one, pack_two, pack_seven, pack_done, header_long, known}
-use borrow.Author.Rules.{rules}
 use Rattle.pack.proofs.by_rule.Goals as goal
 
 pub returns-then-n-eq-BAD_LENGTH : goal.returns-then-n-eq-BAD_LENGTH

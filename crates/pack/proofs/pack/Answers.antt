@@ -1,6 +1,5 @@
 -- The rule in force is the edition's own. Assumes nothing.
 use Rattle.pack.proofs.PackLaws.{packed_now}
-use borrow.Author.Rules.{rules}
 use Rattle.pack.proofs.pack.Goals as goal
 
 pub returns : goal.returns

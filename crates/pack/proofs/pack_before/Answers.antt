@@ -1,6 +1,5 @@
 -- 1 names edition 1, and the rule from before is `before1`. Assumes nothing.
 use Rattle.model.specs.Edition.{edition_of}
-use borrow.Author.Rules.{rules}
 use Rattle.pack.proofs.pack_before.Goals as goal
 
 pub returns : goal.returns

@@ -1,10 +1,7 @@
 -- `alike` decides that the bytes are the same; the loop's invariant says so of those that it has passed. Assumes nothing.
 use Prim.Native.Nat.{◌+◌, ◌-◌, ◌≤◌}
-use native.Mathlib.Omega.{arith}
-use borrow.Author.Rules.{rules}
 use Rattle.pieces.specs.Decides.{Decides}
-use Rattle.pieces.specs.Range.{Paired, SameAt}
-use Rattle.pieces.proofs.RangeLaws.{test_none, test_good, test_bad, test_all}
+use Rattle.pieces.specs.Range.{Paired}
 use Rattle.pieces.proofs.alike.Given as goal
 
 abbrev pub invariant-loop-k : goal.invariant-loop-k

@@ -1,5 +1,4 @@
 -- `eight` joins eight bytes, as two numbers. Assumes nothing.
-use borrow.Author.Rules.{rules}
 use Rattle.pieces.proofs.ZeroLaws.{eight_joined}
 use Rattle.pieces.proofs.eight.Goals as goal
 

@@ -1,9 +1,6 @@
 -- `full` decides that none of the bytes is zero; the loop's invariant says so of those that it has passed. Assumes nothing.
-use Prim.Native.Nat.{◌+◌, ◌-◌, ◌≤◌}
 use native.Mathlib.Omega.{arith}
-use borrow.Author.Rules.{rules}
-use Rattle.pieces.specs.Decides.{Decides}
-use Rattle.pieces.specs.Range.{Clean, NotZero}
+use Rattle.pieces.specs.Range.{NotZero}
 use Rattle.pieces.proofs.RangeLaws.{test_none, test_good, test_bad, test_all}
 use Rattle.pieces.proofs.full.Goals as goal
 

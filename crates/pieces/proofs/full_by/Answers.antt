@@ -1,8 +1,6 @@
 -- The pieces cover the range. Assumes nothing.
-use Prim.Native.Nat.{◌-◌, ◌≤◌}
 use native.Mathlib.Omega.{arith}
-use borrow.Author.Rules.{rules}
-use Rattle.pieces.specs.Range.{Clean, NotZero}
+use Rattle.pieces.specs.Range.{NotZero}
 use Rattle.pieces.proofs.RangeLaws.{piece_bad, piece_last, piece_next}
 use Rattle.pieces.proofs.full_by.Goals as goal
 

@@ -1,5 +1,4 @@
 -- A range goes by pieces of a length that it has. Assumes nothing.
-use borrow.Author.Rules.{rules}
 use Rattle.pieces.proofs.no_zero.Goals as goal
 
 pub returns-then-to-from-lt-HALF : goal.returns-then-to-from-lt-HALF

@@ -1,9 +1,6 @@
 -- `same` decides that two ranges are the same: its pieces cover them. Assumes nothing.
 use Prim.Native.Nat.{◌-◌, ◌≤◌}
-use native.Mathlib.Omega.{arith}
-use borrow.Author.Rules.{rules}
-use Rattle.pieces.specs.Range.{Paired, SameAt}
-use Rattle.pieces.proofs.RangeLaws.{piece_bad, piece_last, piece_two, piece_next, counted}
+use Rattle.pieces.specs.Range.{Paired}
 use Rattle.pieces.proofs.same.Given as goal
 
 abbrev pub invariant-loop-at : goal.invariant-loop-at

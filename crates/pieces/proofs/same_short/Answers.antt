@@ -1,6 +1,5 @@
 -- The pieces cover the short range. Assumes nothing.
 use native.Mathlib.Omega.{arith}
-use borrow.Author.Rules.{rules}
 use Rattle.pieces.specs.Range.{SameAt}
 use Rattle.pieces.proofs.RangeLaws.{test_all, piece_bad, piece_two}
 use Rattle.pieces.proofs.same_short.Goals as goal

@@ -1,7 +1,6 @@
 -- `zero_eight` decides that eight bytes are zero. Assumes nothing.
 use Prim.Native.Nat.{◌+◌}
 use mathlib.Core.Path.{refl}
-use borrow.Author.Rules.{rules}
 use Rattle.pieces.proofs.ZeroLaws.{joined_end}
 use Rattle.pieces.proofs.zero_eight.Goals as goal
 

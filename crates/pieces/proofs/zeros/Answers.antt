@@ -1,8 +1,6 @@
 -- `zeros` decides that the bytes are zero: the bytes joined come to 0 exactly if each is. Assumes nothing.
-use Prim.Native.Nat.{◌+◌, ◌-◌, ◌≤◌}
+use Prim.Native.Nat.{◌+◌}
 use native.Mathlib.Omega.{arith}
-use borrow.Author.Rules.{rules}
-use Rattle.pieces.specs.Range.{Joined}
 use Rattle.pieces.proofs.ZeroLaws.{joined_none, joined_more, joined_end}
 use Rattle.pieces.proofs.zeros.Goals as goal
 

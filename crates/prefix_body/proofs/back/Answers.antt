@@ -1,6 +1,5 @@
 -- A byte joins at the end. Assumes nothing.
 use Rattle.prefix_body.proofs.PrefixLaws.{back_done}
-use borrow.Author.Rules.{rules}
 use Rattle.prefix_body.proofs.back.Goals as goal
 
 pub returns : goal.returns

@@ -1,7 +1,6 @@
 -- A Prefix is filled up from another one. Assumes nothing.
 use Rattle.prefix_body.proofs.PrefixLaws.{draws_gets, draws_longer, draw_done}
 use mathlib.Core.Path.{refl}
-use borrow.Author.Rules.{rules}
 use Rattle.prefix_body.proofs.draw.Goals as goal
 
 pub more-requires : goal.more-requires

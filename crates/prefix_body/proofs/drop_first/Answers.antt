@@ -1,6 +1,5 @@
 -- `drop_first` closes the bytes up, and sets the length. Assumes nothing.
 use Rattle.prefix_body.proofs.CutLaws.{first_dropped}
-use borrow.Author.Rules.{rules}
 use Rattle.prefix_body.proofs.drop_first.Goals as goal
 
 pub returns : goal.returns

@@ -3,7 +3,6 @@ use Prim.Native.Nat.{◌+◌, ◌-◌}
 use mathlib.Core.Path.{refl}
 use native.Mathlib.Omega.{arith}
 use Rattle.prefix_body.proofs.FrontLaws.{shortened}
-use borrow.Author.Rules.{rules}
 use Rattle.prefix_body.proofs.drop_front.Goals as goal
 
 pub returns : goal.returns

@@ -1,6 +1,5 @@
 -- A Prefix of one byte. Assumes nothing.
 use Rattle.prefix_body.proofs.PrefixLaws.{fresh_law}
-use borrow.Author.Rules.{rules}
 use Rattle.prefix_body.proofs.fresh.Goals as goal
 
 pub returns : goal.returns

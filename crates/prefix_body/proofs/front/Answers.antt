@@ -1,6 +1,5 @@
 -- A byte joins in front. Assumes nothing.
 use Rattle.prefix_body.proofs.PrefixLaws.{front_done}
-use borrow.Author.Rules.{rules}
 use Rattle.prefix_body.proofs.front.Goals as goal
 
 pub returns : goal.returns

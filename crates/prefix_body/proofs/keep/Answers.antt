@@ -1,6 +1,5 @@
 -- `keep` clears what goes, and sets length and child. Assumes nothing.
 use Rattle.prefix_body.proofs.CutLaws.{front_kept}
-use borrow.Author.Rules.{rules}
 use Rattle.prefix_body.proofs.keep.Goals as goal
 
 pub returns : goal.returns

@@ -1,6 +1,5 @@
 -- The first bytes of another Prefix join at the end. Assumes nothing.
 use Rattle.prefix_body.proofs.PrefixLaws.{more_done}
-use borrow.Author.Rules.{rules}
 use Rattle.prefix_body.proofs.more.Goals as goal
 
 pub returns : goal.returns

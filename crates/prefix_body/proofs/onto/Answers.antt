@@ -1,6 +1,5 @@
 -- The bytes of another Prefix join at the end. Assumes nothing.
 use Rattle.prefix_body.proofs.PrefixLaws.{joins_gets, onto_done}
-use borrow.Author.Rules.{rules}
 use Rattle.prefix_body.proofs.onto.Goals as goal
 
 pub more-requires : goal.more-requires

@@ -2,7 +2,6 @@
 use Prim.Native.Nat.{◌-◌}
 use mathlib.Core.Path.{ap}
 use Rattle.prefix_body.proofs.CutLaws.{tail_moved}
-use borrow.Author.Rules.{rules}
 use Rattle.prefix_body.proofs.tail.Goals as goal
 
 pub returns : goal.returns

@@ -1,6 +1,5 @@
 -- A byte joins a full Prefix in front, and the last one goes. Assumes nothing.
 use Rattle.prefix_body.proofs.PrefixLaws.{turn_done}
-use borrow.Author.Rules.{rules}
 use Rattle.prefix_body.proofs.turn.Goals as goal
 
 pub returns : goal.returns

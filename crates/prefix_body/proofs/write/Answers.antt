@@ -1,6 +1,5 @@
 -- `write` zeroes the body, then writes child, length and bytes. Assumes nothing.
 use Rattle.prefix_body.proofs.PrefixLaws.{prefix_law}
-use borrow.Author.Rules.{rules}
 use Rattle.prefix_body.proofs.write.Goals as goal
 
 pub returns : goal.returns

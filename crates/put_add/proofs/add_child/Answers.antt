@@ -1,7 +1,6 @@
 -- `add_child` makes a Leaf, adds it to the node and counts it. Assumes nothing.
 use native.Mathlib.Omega.{arith}
 use Rattle.put_add.proofs.AddLaws.{open_makes, open_adds, open_counts, open_put}
-use borrow.Author.Rules.{rules}
 use Rattle.put_add.proofs.add_child.Goals as goal
 
 pub new_leaf-leaf-requires : goal.new_leaf-leaf-requires

@@ -1,7 +1,6 @@
 -- `first_record` makes the Leaf, names it in the root slot field and frees the EmptyRoot. Assumes nothing.
 use native.Mathlib.Omega.{arith}
 use Rattle.put_add.proofs.FirstLaws.{vacant_makes, vacant_frees, vacant_counts, vacant_put}
-use borrow.Author.Rules.{rules}
 use Rattle.put_add.proofs.first_record.Goals as goal
 
 pub new_leaf-leaf-requires : goal.new_leaf-leaf-requires

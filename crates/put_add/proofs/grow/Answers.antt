@@ -1,7 +1,6 @@
 -- `grow` takes a body of the next kind, makes the Leaf, fills the body, writes the link and frees the old body. Assumes nothing.
 use native.Mathlib.Omega.{arith}
 use Rattle.put_add.proofs.GrowLaws.{full_kind, full_takes, full_makes, full_fills, full_link, full_frees, full_counts, full_put}
-use borrow.Author.Rules.{rules}
 use Rattle.put_add.proofs.grow.Goals as goal
 
 pub kind_up-up-requires : goal.kind_up-up-requires

@@ -1,6 +1,5 @@
 -- `refill` zeroes the body, carries the children and adds the Leaf. Assumes nothing.
 use Rattle.put_add.proofs.FillLaws.{fill_carries, fill_adds, fill_law}
-use borrow.Author.Rules.{rules}
 use Rattle.put_add.proofs.refill.Goals as goal
 
 pub carry-requires : goal.carry-requires

@@ -1,7 +1,6 @@
 -- `add` has room in the node, or goes to the next kind. Assumes nothing.
 use native.Mathlib.Omega.{arith}
 use Rattle.put_core.proofs.CoreLaws.{node_fits, node_open, node_full}
-use borrow.Author.Rules.{rules}
 use Rattle.put_core.proofs.add.Goals as goal
 
 pub count-requires : goal.count-requires

@@ -1,6 +1,5 @@
 -- `apply` calls the edit that the spot asks for. Assumes nothing.
 use Rattle.put_core.proofs.CoreLaws.{at_found, at_empty, at_other, at_node, at_part}
-use borrow.Author.Rules.{rules}
 use Rattle.put_core.proofs.apply.Goals as goal
 
 pub replace-requires : goal.replace-requires

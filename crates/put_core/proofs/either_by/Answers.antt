@@ -1,7 +1,6 @@
 -- `either_by` ends as the write does, and tells whether the key was there. Assumes nothing.
 use borrow.Author.Tests.{not-true, not-false}
 use Rattle.put_core.proofs.CoreLaws.{either_full, either_there, either_new}
-use borrow.Author.Rules.{rules}
 use Rattle.put_core.proofs.either_by.Goals as goal
 
 pub returns-then-not-write : goal.returns-then-not-write

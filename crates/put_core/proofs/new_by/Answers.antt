@@ -1,7 +1,6 @@
 -- `new_by` finds the key there, or ends as the write does. Assumes nothing.
 use borrow.Author.Tests.{not-true, not-false}
 use Rattle.put_core.proofs.CoreLaws.{new_present, new_full, new_made}
-use borrow.Author.Rules.{rules}
 use Rattle.put_core.proofs.new_by.Goals as goal
 
 pub returns-then-spot-eq-FOUND : goal.returns-then-spot-eq-FOUND

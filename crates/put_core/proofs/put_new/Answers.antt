@@ -1,7 +1,6 @@
 -- `put_new`: edition 2 reads the walked string, written out; edition 1 the key itself. Assumes nothing.
 use native.Mathlib.Omega.{arith}
 use Rattle.keys.proofs.WordLaws.{escaped_fits, spells_walked, spelt_within, spells_key}
-use borrow.Author.Rules.{rules}
 use Rattle.put_core.proofs.put_new.Goals as goal
 
 pub spell-n-requires : goal.spell-n-requires

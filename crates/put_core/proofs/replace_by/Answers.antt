@@ -1,7 +1,6 @@
 -- `replace_by` finds the key missing, or ends as the write does. Assumes nothing.
 use borrow.Author.Tests.{not-true, not-false}
 use Rattle.put_core.proofs.CoreLaws.{replace_absent, there_full, there_made}
-use borrow.Author.Rules.{rules}
 use Rattle.put_core.proofs.replace_by.Goals as goal
 
 pub returns-then-spot-ne-FOUND : goal.returns-then-spot-ne-FOUND

@@ -2,7 +2,6 @@
 use borrow.Author.Tests.{not-true, not-false}
 use Rattle.keys.proofs.KeyLaws.{key_some}
 use Rattle.put_core.proofs.CoreLaws.{plans, spotted, no_room, there_was}
-use borrow.Author.Rules.{rules}
 use Rattle.put_core.proofs.write.Goals as goal
 
 pub put_needs-needs-requires : goal.put_needs-needs-requires

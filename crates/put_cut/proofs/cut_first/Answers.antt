@@ -2,7 +2,6 @@
 use mathlib.Core.Path.{refl}
 use native.Mathlib.Omega.{arith}
 use Rattle.put_cut.proofs.FirstLaws.{first_room, first_forked, first_takes, first_drops, first_forks, first_relinks, first_frees, first_counts, first_put}
-use borrow.Author.Rules.{rules}
 use Rattle.put_cut.proofs.cut_first.Goals as goal
 
 pub byte-c-requires : goal.byte-c-requires

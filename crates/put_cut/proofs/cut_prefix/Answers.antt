@@ -1,6 +1,5 @@
 -- `cut_prefix` tells by the part before. Assumes nothing.
 use native.Mathlib.Omega.{arith}
-use borrow.Author.Rules.{rules}
 use Rattle.put_cut.proofs.cut_prefix.Goals as goal
 
 pub cut_first-requires : goal.cut_first-requires

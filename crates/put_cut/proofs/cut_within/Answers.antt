@@ -3,7 +3,6 @@ use mathlib.Core.Path.{refl}
 use native.Mathlib.Omega.{arith}
 use Rattle.put_cut.proofs.SpotLaws.{word_low, forked_as}
 use Rattle.put_cut.proofs.WithinLaws.{within_room, within_takes, within_splits, within_forks, within_keeps, within_counts, within_put}
-use borrow.Author.Rules.{rules}
 use Rattle.put_cut.proofs.cut_within.Goals as goal
 
 pub overflow_add-spot : goal.overflow_add-spot

@@ -1,6 +1,5 @@
 -- `replace` meets its contract: each need is one law of ReplaceLaws. Assumes nothing.
 use native.Mathlib.Omega.{arith}
-use borrow.Author.Rules.{rules}
 use Rattle.put_replace.proofs.ReplaceLaws.{body_room, stamp_fits, lengths, paste_ok, restamp_ok, ends_same, extend_ok, write_ok, retire_ok, ends_other}
 use Rattle.put_replace.proofs.replace.Goals as goal
 

@@ -1,7 +1,6 @@
 -- `restamp` writes the stamp if it is another. Assumes nothing.
 use native.Mathlib.Omega.{arith}
 use Rattle.put_replace.proofs.ReplaceLaws.{stamp_stays, stamp_put}
-use borrow.Author.Rules.{rules}
 use Rattle.put_replace.proofs.restamp.Goals as goal
 
 pub returns-then-stamp : goal.returns-then-stamp

@@ -2,7 +2,6 @@
 use mathlib.Core.Path.{refl}
 use native.Mathlib.Omega.{arith}
 use Rattle.put_split.proofs.OtherLaws.{leaf_here, to_short, to_low, shared_short, takes_node, takes_row, forks, writes, relinks, counts, ends}
-use borrow.Author.Rules.{rules}
 use Rattle.put_split.proofs.split_leaf.Goals as goal
 
 pub overflow_add-to : goal.overflow_add-to

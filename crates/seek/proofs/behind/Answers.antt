@@ -1,5 +1,4 @@
 -- 0 past the key that is the text. Assumes nothing.
-use borrow.Author.Rules.{rules}
 use Rattle.seek.proofs.LeafLaws.{behind_is}
 use Rattle.seek.proofs.behind.Goals as goal
 

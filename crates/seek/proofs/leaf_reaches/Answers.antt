@@ -1,6 +1,5 @@
 -- The key's bytes decide, or where it ends. Assumes nothing.
 use native.Mathlib.Omega.{arith}
-use borrow.Author.Rules.{rules}
 use Rattle.seek.proofs.LeafLaws.{leaf_decided, leaf_less, leaf_same}
 use Rattle.seek.proofs.leaf_reaches.Goals as goal
 

@@ -1,6 +1,5 @@
 -- The child that is found, or what there was. Assumes nothing.
 use mathlib.Core.Path.{refl, sym, ◌∙◌}
-use borrow.Author.Rules.{rules}
 use native.Mathlib.Omega.{arith}
 use Rattle.seek.proofs.nearer.Goals as goal
 

@@ -1,5 +1,4 @@
 -- Bytes that are the text's do not decide; others are weighed one after the other. Assumes nothing.
-use borrow.Author.Rules.{rules}
 use Rattle.seek.proofs.WeighLaws.{same_open}
 use Rattle.seek.proofs.weigh_bytes.Goals as goal
 

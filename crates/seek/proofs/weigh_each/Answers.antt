@@ -1,7 +1,7 @@
 -- What is left weighs what the whole weighs. Assumes nothing.
-use Prim.Native.Nat.{◌+◌, ◌-◌, ◌≤◌}
+use Prim.Native.Nat.{◌+◌}
 use native.Mathlib.Omega.{arith}
-use Rattle.seek.proofs.WeighLaws.{Weighed, weighed_start, weighed_end, tail_above, tail_below, byte_above, byte_below, byte_same}
+use Rattle.seek.proofs.WeighLaws.{weighed_start, weighed_end, tail_above, tail_below, byte_above, byte_below, byte_same}
 use Rattle.seek.proofs.weigh_each.Goals as goal
 
 pub loop-i-init : goal.loop-i-init

@@ -1,7 +1,6 @@
 -- What is left weighs what the whole weighs. Assumes nothing.
-use Prim.Native.Nat.{◌+◌, ◌-◌, ◌≤◌}
-use native.Mathlib.Omega.{arith}
-use Rattle.seek.proofs.WeighLaws.{Weighed, weighed_start, weighed_end, tail_above, tail_below, byte_above, byte_below, byte_same}
+use Prim.Native.Nat.{◌-◌, ◌≤◌}
+use Rattle.seek.proofs.WeighLaws.{Weighed}
 use Rattle.seek.proofs.weigh_each.Given as goal
 
 abbrev pub invariant-loop-i : goal.invariant-loop-i

@@ -1,6 +1,5 @@
 -- `count_fits` decides that a kind may have so many children. Assumes nothing.
 use native.Mathlib.Omega.{arith}
-use borrow.Author.Rules.{rules}
 use Rattle.pieces.proofs.DecideLaws.{denied, by_le}
 use Rattle.shape_inner.proofs.count_fits.Goals as goal
 

@@ -1,11 +1,9 @@
 -- `direct_good` decides how many children a Node256 has. Assumes nothing.
-use Prim.Native.Nat.{◌-◌, ◌≤◌}
 use mathlib.Core.Path.{sym, ap, ◌∙◌}
 use native.Mathlib.Omega.{arith}
-use borrow.Author.Rules.{rules}
 use Rattle.pieces.proofs.DecideLaws.{by_eq}
 use Rattle.shape_inner.specs.Inner.{in_use, child256}
-use Rattle.shape_inner.proofs.KidsLaws.{Counted, counted_end, direct_more}
+use Rattle.shape_inner.proofs.KidsLaws.{counted_end, direct_more}
 use Rattle.shape_inner.proofs.direct_good.Goals as goal
 
 pub loop-b-preserved : goal.loop-b-preserved

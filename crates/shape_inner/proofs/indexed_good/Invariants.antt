@@ -1,11 +1,6 @@
 -- `indexed_good` decides the body of a Node48; the loop's invariant is `Marked`, with IndexedLaws at each exit. Assumes nothing.
 use Prim.Native.Nat.{◌-◌, ◌≤◌}
-use mathlib.Core.Path.{sym}
-use native.Mathlib.Omega.{arith}
-use borrow.Author.Rules.{rules}
-use Rattle.layout.specs.Number.{Bytes}
-use Rattle.pieces.proofs.DecideLaws.{denied, refuted, passed}
-use Rattle.shape_inner.proofs.IndexedLaws.{Marked, marked_none, marked_more, marked_far, marked_twice, marked_count, marked_end}
+use Rattle.shape_inner.proofs.IndexedLaws.{Marked}
 use Rattle.shape_inner.proofs.indexed_good.Given as goal
 
 abbrev pub invariant-loop-b : goal.invariant-loop-b

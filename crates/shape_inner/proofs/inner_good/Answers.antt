@@ -1,12 +1,9 @@
 -- `inner_good` decides that an inner node of the kind stands there, with InnerLaws at each exit. Assumes nothing.
-use Prim.Native.Nat.{◌+◌}
 use mathlib.Core.Path.{◌≡◌}
 use native.Mathlib.Omega.{arith}
-use borrow.Author.Rules.{rules}
 use Rattle.layout.proofs.KindLaws.{size_least}
-use Rattle.layout.specs.Number.{le}
 use Rattle.pieces.proofs.DecideLaws.{denied, refuted, passed}
-use Rattle.shape_inner.proofs.InnerLaws.{Head, inner_fits, inner_two, inner_four, node4_end, node16_end, node48_end, node256_end}
+use Rattle.shape_inner.proofs.InnerLaws.{inner_fits, inner_two, inner_four, node4_end, node16_end, node48_end, node256_end}
 use Rattle.shape_inner.proofs.inner_good.Goals as goal
 
 pub count-n-requires : goal.count-n-requires

@@ -1,9 +1,7 @@
 -- `rising` decides that the bytes ascend: those that are left do, from `low` on, exactly if all do. Assumes nothing.
-use Prim.Native.Nat.{◌-◌, ◌≤◌}
 use native.Mathlib.Omega.{arith}
-use borrow.Author.Rules.{rules}
 use Rattle.pieces.proofs.DecideLaws.{granted, denied}
-use Rattle.shape_inner.proofs.SortedLaws.{Left, left_all, left_more, left_low, left_end}
+use Rattle.shape_inner.proofs.SortedLaws.{left_all, left_more, left_low, left_end}
 use Rattle.shape_inner.proofs.rising.Goals as goal
 
 pub loop-i-init : goal.loop-i-init

@@ -1,9 +1,6 @@
 -- `rising` decides that the bytes ascend: those that are left do, from `low` on, exactly if all do. Assumes nothing.
 use Prim.Native.Nat.{◌-◌, ◌≤◌}
-use native.Mathlib.Omega.{arith}
-use borrow.Author.Rules.{rules}
-use Rattle.pieces.proofs.DecideLaws.{granted, denied}
-use Rattle.shape_inner.proofs.SortedLaws.{Left, left_all, left_more, left_low, left_end}
+use Rattle.shape_inner.proofs.SortedLaws.{Left}
 use Rattle.shape_inner.proofs.rising.Given as goal
 
 abbrev pub invariant-loop-i : goal.invariant-loop-i

@@ -1,5 +1,4 @@
 -- `sorted_good` decides the body of a Node4 or Node16 by its two halves. Assumes nothing.
-use borrow.Author.Rules.{rules}
 use Rattle.pieces.proofs.DecideLaws.{denied, refuted, passed, handed}
 use Rattle.shape_inner.proofs.sorted_good.Goals as goal
 

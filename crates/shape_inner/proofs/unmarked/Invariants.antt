@@ -1,13 +1,9 @@
 -- `unmarked` decides that the children at places without a mark are zero. Assumes nothing.
 use Prim.Native.Nat.{ℕ, ◌+◌, ◌-◌, ◌*◌, ◌<◌, ◌≤◌}
 use mathlib.Core.Path.{◌≡◌}
-use native.Mathlib.Omega.{arith}
-use borrow.Author.Count.{below_more}
-use borrow.Author.Rules.{rules}
 use lib.ListN.{get_or}
 use Rattle.layout.specs.Number.{le}
 use Rattle.layout.specs.Place.{node48_children}
-use Rattle.pieces.proofs.DecideLaws.{granted, denied}
 use Rattle.shape_inner.proofs.unmarked.Given as goal
 
 abbrev pub invariant-loop-p : goal.invariant-loop-p

@@ -1,6 +1,5 @@
 -- The word without its lowest digit. Assumes nothing.
 use native.Mathlib.Omega.{arith}
-use borrow.Author.Rules.{rules}
 use Rattle.sweep.proofs.DigitLaws.{dropped_is, dropped_less}
 use Rattle.sweep.proofs.but_lowest.Goals as goal
 

@@ -1,6 +1,5 @@
 -- Units with no mark are one range; else those without a mark are left of the mask. Assumes nothing.
 use native.Mathlib.Omega.{arith}
-use borrow.Author.Rules.{rules}
 use Rattle.sweep.proofs.SweepLaws.{run_none, run_inside, run_some}
 use Rattle.sweep.proofs.run.Goals as goal
 

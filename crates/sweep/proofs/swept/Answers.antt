@@ -1,8 +1,7 @@
 -- The invariant: the units before `at` are swept. Assumes nothing.
 use native.Mathlib.Omega.{arith}
-use borrow.Author.Rules.{rules}
 use Rattle.pieces.proofs.DecideLaws.{denied, refuted, passed}
-use Rattle.sweep.proofs.SweepLaws.{Sweeping, sweep_start, sweep_more, sweep_bad, sweep_end}
+use Rattle.sweep.proofs.SweepLaws.{sweep_start, sweep_more, sweep_bad, sweep_end}
 use Rattle.sweep.proofs.swept.Goals as goal
 
 pub loop-left-init : goal.loop-left-init

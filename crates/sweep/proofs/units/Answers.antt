@@ -1,7 +1,6 @@
 -- The invariant: the units that are no longer left are joined. Assumes nothing.
 use native.Mathlib.Omega.{arith}
-use borrow.Author.Rules.{rules}
-use Rattle.sweep.proofs.SweepLaws.{Going, going_start, going_on, going_end}
+use Rattle.sweep.proofs.SweepLaws.{going_start, going_on, going_end}
 use Rattle.sweep.proofs.units.Goals as goal
 
 pub loop-left-init : goal.loop-left-init

@@ -1,23 +1,18 @@
 -- The outer loop arrives at slots: its invariant is `Coming`. The inner one walks a node's children and goes back to those that wait: `Walking`, until it
 -- stands at a slot below and its invariant is `Coming` again, with one law for each turn (WayLaws). Every arrival counts a body; of the turns of the inner
 -- loop a Leaf counts one, the way back makes the path shorter, and on the way down the loop ends. Assumes nothing.
-use Prim.Native.Nat.{ℕ, ◌+◌, ◌-◌, ◌*◌, ◌≤◌}
+use Prim.Native.Nat.{ℕ, ◌+◌, ◌-◌}
 use mathlib.Core.Path.{◌≡◌, refl, sym, ap, ◌∙◌}
-use mathlib.Core.Bool.{Bool, true, false}
-use mathlib.Core.List.{List, []}
+use mathlib.Core.Bool.{Bool}
 use native.Mathlib.Omega.{arith}
-use lib.ListN.{length, length-set}
+use lib.ListN.{length-set}
 use borrow.Author.Tests.{not-true, not-false}
 use Rattle.model.specs.Strings.{pick}
-use Rattle.model.specs.Edition.{edition_of}
 use Rattle.model.proofs.Edition2.{lawful_of}
 use Rattle.pieces.proofs.DecideLaws.{clash}
-use Rattle.census.specs.declared.Sums.{Sums}
 use Rattle.census.proofs.ToldLaws.{place_whole}
-use Rattle.audit.specs.Walk.{TreeItems}
 use Rattle.audit.proofs.WalkLaws.{path_length, slot_fails, slot_at}
-use Rattle.audit.proofs.WayLaws.{Walking, Coming, node_room, tree_more, walk_start, come_entry, come_refused, come_prefix, come_node, walk_room, walk_few, walk_end, walk_refused, walk_leaf, walk_down, walk_above, walk_back}
-use borrow.Author.Rules.{rules}
+use Rattle.audit.proofs.WayLaws.{node_room, tree_more, walk_start, come_entry, come_refused, come_prefix, come_node, walk_room, walk_few, walk_end, walk_refused, walk_leaf, walk_down, walk_above, walk_back}
 use Rattle.audit.proofs.walk.along.Goals as goal
 
 pub loop-kind-init : goal.loop-kind-init

@@ -3,7 +3,6 @@ use native.Mathlib.Omega.{arith}
 use mathlib.Core.Path.{sym, ◌∙◌}
 use Rattle.audit.proofs.WalkLaws.{below_other}
 use Rattle.pieces.proofs.DecideLaws.{denied, by_eq, by_le}
-use borrow.Author.Rules.{rules}
 use Rattle.audit.proofs.walk.below_slot.Goals as goal
 
 pub returns-then-s-lt1 : goal.returns-then-s-lt1

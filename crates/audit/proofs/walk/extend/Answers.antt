@@ -1,12 +1,10 @@
 -- The bytes passed follow the path. Assumes nothing.
-use Prim.Native.Nat.{◌+◌, ◌-◌, ◌≤◌}
+use Prim.Native.Nat.{◌+◌}
 use mathlib.Core.Path.{◌≡◌, refl}
-use mathlib.Core.List.{◌++◌}
 use native.Mathlib.Omega.{arith}
-use lib.ListN.{length, take, drop, length-set}
+use lib.ListN.{take, length-set}
 use Rattle.layout.specs.Place.{prefix_bytes}
 use Rattle.audit.proofs.WalkLaws.{path_start, path_step}
-use borrow.Author.Rules.{rules}
 use Rattle.audit.proofs.walk.extend.Goals as goal
 
 pub loop-i-init : goal.loop-i-init

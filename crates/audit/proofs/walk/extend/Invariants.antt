@@ -1,12 +1,9 @@
 -- The bytes passed follow the path. Assumes nothing.
 use Prim.Native.Nat.{◌+◌, ◌-◌, ◌≤◌}
-use mathlib.Core.Path.{◌≡◌, refl}
+use mathlib.Core.Path.{◌≡◌}
 use mathlib.Core.List.{◌++◌}
-use native.Mathlib.Omega.{arith}
-use lib.ListN.{length, take, drop, length-set}
+use lib.ListN.{length, take, drop}
 use Rattle.layout.specs.Place.{prefix_bytes}
-use Rattle.audit.proofs.WalkLaws.{path_start, path_step}
-use borrow.Author.Rules.{rules}
 use Rattle.audit.proofs.walk.extend.Given as goal
 
 abbrev pub invariant-loop-i : goal.invariant-loop-i

@@ -1,7 +1,6 @@
 -- One law for each answer (WalkLaws). Assumes nothing.
 use native.Mathlib.Omega.{arith}
 use Prim.Native.Nat.{◌+◌, ◌≤◌}
-use borrow.Author.Rules.{rules}
 use borrow.Author.Tests.{not-true, not-false}
 use Rattle.keys.proofs.KeyLaws.{key_some}
 use Rattle.audit.proofs.WalkLaws.{leaf_body, leaf_whole, leaf_bad, leaf_on}

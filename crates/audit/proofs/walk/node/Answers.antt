@@ -1,6 +1,5 @@
 -- One law for each answer (WalkLaws). Assumes nothing.
 use native.Mathlib.Omega.{arith}
-use borrow.Author.Rules.{rules}
 use borrow.Author.Tests.{not-true, not-false}
 use Rattle.pieces.proofs.DecideLaws.{refuted, passed}
 use Rattle.audit.proofs.WalkLaws.{few, node_other, node_body, node_refused, node_told, node_deep, node_bad}

@@ -1,6 +1,5 @@
 -- One law for each answer (WalkLaws). Assumes nothing.
 use native.Mathlib.Omega.{arith}
-use borrow.Author.Rules.{rules}
 use borrow.Author.Tests.{not-true, not-false}
 use Rattle.pieces.proofs.DecideLaws.{refuted, passed}
 use Rattle.audit.proofs.WalkLaws.{path_length, kept_same, kept_far, path_on, entry_made, prefix_body, prefix_refused, prefix_told, prefix_bad, prefix_long, prefix_child_lem}

@@ -1,7 +1,6 @@
 -- One law for each answer (WholeLaws). Assumes nothing.
 use mathlib.Core.Path.{sym, ◌∙◌}
 use Rattle.audit.proofs.WholeLaws.{closes_no, closes_last}
-use borrow.Author.Rules.{rules}
 use Rattle.audit.proofs.whole.closes.Goals as goal
 
 pub returns-then-slots-slots_given : goal.returns-then-slots-slots_given

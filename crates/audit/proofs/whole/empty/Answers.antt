@@ -6,7 +6,6 @@ use borrow.Author.Tests.{not-true, not-false}
 use Rattle.pieces.proofs.DecideLaws.{refuted, passed}
 use Rattle.shape.proofs.ZeroLaws.{blank_zero, zero_blank}
 use Rattle.audit.proofs.RootLaws.{empty_body, empty_zero, empty_good}
-use borrow.Author.Rules.{rules}
 use Rattle.audit.proofs.whole.empty.Goals as goal
 
 pub returns-then-not-r : goal.returns-then-not-r

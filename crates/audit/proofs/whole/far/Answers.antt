@@ -1,6 +1,5 @@
 -- The array by how many slots are given out. Assumes nothing.
 use native.Mathlib.Omega.{arith}
-use borrow.Author.Rules.{rules}
 use Rattle.audit.proofs.whole.far.Goals as goal
 
 pub far_some-requires : goal.far_some-requires

@@ -1,7 +1,6 @@
 -- The arrays fit the paths of every edition. Assumes nothing.
 use native.Mathlib.Omega.{arith}
 use Rattle.model.proofs.Edition2.{lawful_of}
-use borrow.Author.Rules.{rules}
 use Rattle.audit.proofs.whole.far_any.Goals as goal
 
 pub over-requires : goal.over-requires

@@ -1,7 +1,6 @@
 -- No more nodes wait than slots are given out. Assumes nothing.
 use native.Mathlib.Omega.{arith}
 use Rattle.model.proofs.Edition2.{lawful_of}
-use borrow.Author.Rules.{rules}
 use Rattle.audit.proofs.whole.far_many.Goals as goal
 
 pub over-requires : goal.over-requires

@@ -1,6 +1,5 @@
 -- No more nodes wait than slots are given out. Assumes nothing.
 use native.Mathlib.Omega.{arith}
-use borrow.Author.Rules.{rules}
 use Rattle.audit.proofs.whole.near_few.Goals as goal
 
 pub over-requires : goal.over-requires

@@ -6,7 +6,6 @@ use Rattle.model.specs.Edition.{edition_of}
 use Rattle.pieces.proofs.DecideLaws.{denied, refuted, passed}
 use Rattle.audit.proofs.RuleLaws.{rule_before}
 use Rattle.audit.proofs.WholeLaws.{ground_of, limits_of, sweep_ok, whole_root, whole_unclean, whole_lists, whole_open, whole_good}
-use borrow.Author.Rules.{rules}
 use Rattle.audit.proofs.whole.over.Goals as goal
 
 pub root-r-requires : goal.root-r-requires

@@ -3,7 +3,6 @@ use mathlib.Core.Path.{◌∙◌}
 use native.Mathlib.Omega.{arith}
 use Rattle.audit.proofs.WalkLaws.{slot_at}
 use Rattle.audit.proofs.RootLaws.{root_slot_lem, root_empty, root_tree}
-use borrow.Author.Rules.{rules}
 use Rattle.audit.proofs.whole.root.Goals as goal
 
 pub returns-then-s-lt1 : goal.returns-then-s-lt1

@@ -2,7 +2,6 @@
 use native.Mathlib.Omega.{arith}
 use Rattle.claims.proofs.UnitLaws.{bit_fresh}
 use Rattle.audit.proofs.RuleLaws.{longest_other}
-use borrow.Author.Rules.{rules}
 use Rattle.audit.proofs.whole.smallest.Goals as goal
 
 pub far_few-requires : goal.far_few-requires

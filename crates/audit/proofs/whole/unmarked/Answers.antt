@@ -1,5 +1,4 @@
 -- By the rule from before there is nothing to look at; else the sweep tells. Assumes nothing.
-use borrow.Author.Rules.{rules}
 use mathlib.Core.Path.{sym, ◌∙◌}
 use borrow.Author.Tests.{not-true, not-false}
 use Rattle.pieces.proofs.DecideLaws.{clash, granted, handed}

@@ -5,7 +5,6 @@ use native.Mathlib.Omega.{arith}
 use Rattle.model.specs.Edition.{edition_of}
 use Rattle.batch.proofs.LayoutLaws.{key_behind}
 use Rattle.batch.proofs.ChangeLaws.{call_put, call_replace, call_erase, key_part, text_part}
-use borrow.Author.Rules.{rules}
 use Rattle.batch.proofs.change.change.Goals as goal
 
 pub kind-kind-requires : goal.kind-kind-requires

@@ -1,7 +1,6 @@
 -- `erase`: refused for its key, or what the core has made. Assumes nothing.
 use native.Mathlib.Omega.{arith}
 use Rattle.batch.proofs.ChangeLaws.{erase_barred, erase_ready, erase_done_lem, erase_small}
-use borrow.Author.Rules.{rules}
 use Rattle.batch.proofs.change.erase.Goals as goal
 
 pub returns-then-e-ne0 : goal.returns-then-e-ne0

@@ -2,7 +2,6 @@
 use native.Mathlib.Omega.{arith}
 use Rattle.model.specs.Edition.{edition_of, unstamped}
 use Rattle.batch.proofs.ChangeLaws.{fault_key, fault_value, fault_free}
-use borrow.Author.Rules.{rules}
 use Rattle.batch.proofs.change.fault.Goals as goal
 
 pub returns-then-e-ne0 : goal.returns-then-e-ne0

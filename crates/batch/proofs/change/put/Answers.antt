@@ -3,7 +3,6 @@ use native.Mathlib.Omega.{arith}
 use Rattle.model.specs.Edition.{Value}
 use Rattle.model.specs.State.{new}
 use Rattle.batch.proofs.ChangeLaws.{barred, asked, write_done, put_small}
-use borrow.Author.Rules.{rules}
 use Rattle.batch.proofs.change.put.Goals as goal
 
 pub returns-then-e-ne0 : goal.returns-then-e-ne0

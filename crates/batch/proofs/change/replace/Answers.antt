@@ -3,7 +3,6 @@ use native.Mathlib.Omega.{arith}
 use Rattle.model.specs.Edition.{Value}
 use Rattle.model.specs.State.{replacing}
 use Rattle.batch.proofs.ChangeLaws.{barred, asked, write_done, replace_small}
-use borrow.Author.Rules.{rules}
 use Rattle.batch.proofs.change.replace.Goals as goal
 
 pub returns-then-e-ne0 : goal.returns-then-e-ne0

@@ -1,7 +1,6 @@
 -- `at_key`: by the edition. Assumes nothing.
 use native.Mathlib.Omega.{arith}
 use Rattle.batch.proofs.LayoutLaws.{key_second, key_other}
-use borrow.Author.Rules.{rules}
 use Rattle.batch.proofs.laid.at_key.Goals as goal
 
 pub returns-then-edition-eq-SECOND : goal.returns-then-edition-eq-SECOND

@@ -3,7 +3,6 @@ use mathlib.Core.Path.{◌∙◌, ap}
 use native.Mathlib.Omega.{arith}
 use Rattle.batch.specs.Layout.{known}
 use Rattle.batch.proofs.LayoutLaws.{before, headless, endless, of_kind}
-use borrow.Author.Rules.{rules}
 use Rattle.batch.proofs.laid.is_sound.Goals as goal
 
 pub returns-then-o-low : goal.returns-then-o-low

@@ -1,7 +1,6 @@
 -- `stamp`: by the edition. Assumes nothing.
 use native.Mathlib.Omega.{arith}
 use Rattle.batch.proofs.LayoutLaws.{key_second, stamp_second, stamp_other}
-use borrow.Author.Rules.{rules}
 use Rattle.batch.proofs.laid.stamp.Goals as goal
 
 pub read8-requires : goal.read8-requires

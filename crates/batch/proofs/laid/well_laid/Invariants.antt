@@ -1,11 +1,8 @@
 -- `well_laid`: what is left of the changes is laid exactly if the whole is. Assumes nothing.
 use Prim.Native.Nat.{◌-◌, ◌≤◌}
-use mathlib.Core.Path.{◌≡◌, refl, sym, ◌∙◌}
+use mathlib.Core.Path.{◌≡◌}
 use Rattle.model.specs.Edition.{edition_of}
 use Rattle.batch.specs.Layout.{changes_from, changes_of, laid}
-use Rattle.batch.proofs.LayoutLaws.{passed, sound_is, sound_not, on, left_bad, left_none, countless, offsetless, first}
-use native.Mathlib.Omega.{arith}
-use borrow.Author.Rules.{rules}
 use Rattle.batch.proofs.laid.well_laid.Given as goal
 
 abbrev pub invariant-loop-i : goal.invariant-loop-i

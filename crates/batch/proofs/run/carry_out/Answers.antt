@@ -1,12 +1,8 @@
 -- `carry_out`: the changes so far were made, and their answers told. Assumes nothing.
-use Prim.Native.Nat.{◌-◌, ◌<◌}
+use Prim.Native.Nat.{◌<◌}
 use mathlib.Core.Path.{◌≡◌, refl}
 use native.Mathlib.Omega.{arith}
-use lib.ListN.{length}
-use Rattle.model.specs.Edition.{edition_of}
 use Rattle.batch.specs.Layout.{count_in}
-use Rattle.batch.specs.Batch.{told}
-use Rattle.batch.specs.Run.{Far}
 use Rattle.batch.proofs.RunLaws.{headed_of, carry_start, far_at, carry_more, carry_end}
 use borrow.Author.Rules.{rules}
 use Rattle.batch.proofs.run.carry_out.Goals as goal

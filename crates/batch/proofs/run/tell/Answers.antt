@@ -1,7 +1,6 @@
 -- `tell` writes one answer, or none. Assumes nothing.
 use mathlib.Core.Path.{refl}
 use native.Mathlib.Omega.{arith}
-use borrow.Author.Rules.{rules}
 use Rattle.batch.proofs.run.tell.Goals as goal
 
 pub returns-then-i-answers : goal.returns-then-i-answers

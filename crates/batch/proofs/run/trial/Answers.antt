@@ -1,12 +1,8 @@
 -- `trial`: the changes so far were made and none refused; the first that is ends it. Assumes nothing.
-use Prim.Native.Nat.{◌-◌, ◌<◌}
+use Prim.Native.Nat.{◌<◌}
 use mathlib.Core.Path.{◌≡◌, refl, sym, ◌∙◌}
 use native.Mathlib.Omega.{arith}
-use lib.ListN.{length}
-use Rattle.model.specs.Edition.{edition_of}
 use Rattle.batch.specs.Layout.{count_in}
-use Rattle.batch.specs.Batch.{Unrefused}
-use Rattle.batch.specs.Run.{Far}
 use Rattle.batch.proofs.RunLaws.{headed_of, trial_start, far_at, trial_more, tried_through, tried_halted}
 use borrow.Author.Rules.{rules}
 use Rattle.batch.proofs.run.trial.Goals as goal

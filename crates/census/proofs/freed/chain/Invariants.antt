@@ -1,14 +1,10 @@
 -- The loop's invariant: what is told of the slots from here on tells of all. Assumes nothing.
 use Prim.Native.Nat.{◌-◌}
-use mathlib.Core.Path.{◌≡◌, refl}
-use native.Mathlib.Omega.{arith}
-use borrow.Author.Tests.{not-true, not-false}
+use mathlib.Core.Path.{◌≡◌}
 use lib.ListN.{length}
 use Rattle.census.specs.Told.{Tally}
 use Rattle.census.specs.Freed.{ChainItems}
-use Rattle.census.proofs.ToldLaws.{Leads, told_from, tally_to, tally_body, body_slots, place_whole}
-use Rattle.census.proofs.FreedLaws.{chain_end, chain_past, chain_bad, chain_more}
-use borrow.Author.Rules.{rules}
+use Rattle.census.proofs.ToldLaws.{Leads}
 use Rattle.census.proofs.freed.chain.Given as goal
 
 abbrev pub invariant-loop-s : goal.invariant-loop-s

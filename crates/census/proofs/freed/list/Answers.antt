@@ -1,6 +1,5 @@
 -- One law for each answer (FreedLaws). Assumes nothing.
 use native.Mathlib.Omega.{arith}
-use borrow.Author.Rules.{rules}
 use Rattle.census.proofs.ToldLaws.{told_to}
 use Rattle.census.proofs.FreedLaws.{list_some, list_third, list_none}
 use Rattle.census.proofs.freed.list.Goals as goal

@@ -1,14 +1,9 @@
 -- The loop's invariant: what is told of the lists from here on tells of all. Assumes nothing.
-use Prim.Native.Nat.{◌-◌, ◌≤◌}
-use mathlib.Core.Path.{◌≡◌, refl}
+use mathlib.Core.Path.{refl}
 use native.Mathlib.Omega.{arith}
 use borrow.Author.Tests.{not-true, not-false}
-use lib.ListN.{length}
-use Rattle.census.specs.Told.{Tally}
-use Rattle.census.specs.Freed.{FreedItems}
-use Rattle.census.proofs.ToldLaws.{Leads, told_from, tally_to}
+use Rattle.census.proofs.ToldLaws.{told_from, tally_to}
 use Rattle.census.proofs.FreedLaws.{list_none, lists_bad, lists_more, lists_end}
-use borrow.Author.Rules.{rules}
 use Rattle.census.proofs.freed.lists.Goals as goal
 
 pub kept-sums-requires : goal.kept-sums-requires

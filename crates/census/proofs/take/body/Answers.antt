@@ -1,7 +1,6 @@
 -- One law for each answer (TakeLaws). Assumes nothing.
 use mathlib.Core.Path.{refl}
 use native.Mathlib.Omega.{arith}
-use borrow.Author.Rules.{rules}
 use borrow.Author.Tests.{not-true, not-false}
 use Rattle.census.proofs.TakeLaws.{size_most, body_many, body_low, body_high, body_taken, body_good}
 use Rattle.census.proofs.take.body.Goals as goal

@@ -1,7 +1,6 @@
 -- One law for each answer (TakeLaws). Assumes nothing.
 use mathlib.Core.Path.{refl}
 use native.Mathlib.Omega.{arith}
-use borrow.Author.Rules.{rules}
 use borrow.Author.Tests.{not-true, not-false}
 use Rattle.census.proofs.TakeLaws.{extent_taken, extent_good}
 use Rattle.census.proofs.take.extent.Goals as goal

@@ -1,11 +1,7 @@
 -- `fill` draws bytes up at each turn, until what is below fits or is no Prefix. Assumes nothing.
-use Prim.Native.Nat.{ℕ}
-use mathlib.Core.Path.{◌≡◌, refl}
-use mathlib.Core.List.{List}
+use mathlib.Core.Path.{refl}
 use native.Mathlib.Omega.{arith}
-use lib.ListN.{length}
 use borrow.Author.Rules.{rules}
-use Rattle.chain.specs.Shift.{Fills, RunFilled}
 use Rattle.chain.proofs.FillLaws.{fills_slot, fills_room, fills_low, fills_left, fills_joins, fills_draws, fills_frees, fills_again, fill_other, fill_full, fill_onto, fill_draw}
 use Rattle.chain.proofs.shift.fill.Goals as goal
 

@@ -1,11 +1,7 @@
 -- `free` frees the first body of the run at each turn, until what is left is no Prefix. Assumes nothing.
-use Prim.Native.Nat.{ℕ}
-use mathlib.Core.Path.{◌≡◌, refl}
-use mathlib.Core.List.{List}
+use mathlib.Core.Path.{refl}
 use native.Mathlib.Omega.{arith}
-use lib.ListN.{length}
 use borrow.Author.Rules.{rules}
-use Rattle.chain.specs.Shift.{Frees, RunFreed}
 use Rattle.chain.proofs.DownLaws.{frees_slot, frees_room, frees_first, frees_left, frees_again, free_none, free_first}
 use Rattle.chain.proofs.shift.free.Goals as goal
 

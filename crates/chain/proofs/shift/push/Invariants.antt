@@ -1,12 +1,9 @@
 -- `push` turns a full Prefix at each turn, until one has room or there is none. Assumes nothing.
 use Prim.Native.Nat.{ℕ}
-use mathlib.Core.Path.{◌≡◌, refl}
+use mathlib.Core.Path.{◌≡◌}
 use mathlib.Core.List.{List}
-use native.Mathlib.Omega.{arith}
 use lib.ListN.{length}
-use borrow.Author.Rules.{rules}
 use Rattle.chain.specs.Shift.{Pushes, RunPushed}
-use Rattle.chain.proofs.PushLaws.{pushes_slot, pushes_link, pushes_takes, pushes_entry, pushes_fresh, pushes_named, pushes_low, pushes_left, pushes_spare, pushes_full, pushes_again, push_node, push_short, push_full}
 use Rattle.chain.proofs.shift.push.Given as goal
 
 abbrev pub invariant-loop-e : goal.invariant-loop-e

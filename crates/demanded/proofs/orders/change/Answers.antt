@@ -1,5 +1,4 @@
 -- The number is that of the call's answer. Assumes nothing.
-use borrow.Author.Rules.{rules}
 use Rattle.demanded.proofs.orders.change.Goals as goal
 
 pub returns-in-Put : goal.returns-in-Put

@@ -1,5 +1,4 @@
 -- The three calls, one after the other. Assumes nothing.
-use borrow.Author.Rules.{rules}
 use Rattle.demanded.proofs.orders.in_order.Goals as goal
 
 pub returns : goal.returns

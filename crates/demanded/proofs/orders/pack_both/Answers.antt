@@ -1,6 +1,5 @@
 -- Both packs keep their promise, and demand 3 speaks of two. Assumes nothing.
 use Rattle.demanded.proofs.DemandedLaws.{packed_both}
-use borrow.Author.Rules.{rules}
 use Rattle.demanded.proofs.orders.pack_both.Goals as goal
 
 pub returns : goal.returns

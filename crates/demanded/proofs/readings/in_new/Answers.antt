@@ -4,7 +4,6 @@ use Rattle.model.specs.Edition.{edition_of}
 use Rattle.store.specs.Write.{value_for}
 use Rattle.store.proofs.PutCallLaws.{stamp_held}
 use Rattle.demanded.proofs.DemandedLaws.{read_in_new}
-use borrow.Author.Rules.{rules}
 use Rattle.demanded.proofs.readings.in_new.Goals as goal
 
 pub returns : goal.returns

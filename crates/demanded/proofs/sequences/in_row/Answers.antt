@@ -1,6 +1,5 @@
 -- The changes, one after another, and packing. Assumes nothing.
 use mathlib.Core.Path.{refl}
-use borrow.Author.Rules.{rules}
 use Rattle.demanded.proofs.sequences.in_row.Goals as goal
 
 pub returns : goal.returns

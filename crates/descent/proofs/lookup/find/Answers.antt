@@ -1,6 +1,5 @@
 -- `find` gives what the end of the descent says. Assumes nothing.
 use Rattle.descent.proofs.LookLaws.{found_leaf, looked_none, looked_some}
-use borrow.Author.Rules.{rules}
 use Rattle.descent.proofs.lookup.find.Goals as goal
 
 pub returns-then-s-ne-FOUND : goal.returns-then-s-ne-FOUND

@@ -2,7 +2,6 @@
 use native.Mathlib.Omega.{arith}
 use Rattle.keys.proofs.WordLaws.{spells_walked, spelt_within, spells_key}
 use Rattle.model.proofs.Edition2.{escaped_length}
-use borrow.Author.Rules.{rules}
 use Rattle.descent.proofs.lookup.spot_of.Goals as goal
 
 pub spell-n-requires : goal.spell-n-requires

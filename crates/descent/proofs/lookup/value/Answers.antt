@@ -2,7 +2,6 @@
 use mathlib.Core.Path.{refl}
 use native.Mathlib.Omega.{arith}
 use Rattle.descent.proofs.LookLaws.{value_part, value_none}
-use borrow.Author.Rules.{rules}
 use Rattle.descent.proofs.lookup.value.Goals as goal
 
 pub overflow_add-to : goal.overflow_add-to

@@ -5,7 +5,6 @@ use native.Mathlib.Omega.{arith}
 use lib.ListN.{length}
 use Rattle.descent.proofs.SeatLaws.{leaf_part, leaf_shares}
 use Rattle.descent.proofs.StepLaws.{leaf_found, leaf_other}
-use borrow.Author.Rules.{rules}
 use Rattle.descent.proofs.walk.at_leaf.Goals as goal
 
 pub returns-then-stands_at : goal.returns-then-stands_at

@@ -3,7 +3,6 @@ use mathlib.Core.Path.{◌∙◌}
 use Rattle.model.specs.Frame.{pairs}
 use Rattle.keys.proofs.WordLaws.{spells_at}
 use Rattle.descent.proofs.StepLaws.{node_missing, node_below}
-use borrow.Author.Rules.{rules}
 use Rattle.descent.proofs.walk.at_node.Goals as goal
 
 pub returns-then-seat-eq0 : goal.returns-then-seat-eq0

@@ -4,7 +4,6 @@ use native.Mathlib.Omega.{arith}
 use lib.ListN.{length}
 use Rattle.descent.proofs.SeatLaws.{prefix_part, prefix_few, prefix_shares}
 use Rattle.descent.proofs.StepLaws.{prefix_parted, prefix_below}
-use borrow.Author.Rules.{rules}
 use Rattle.descent.proofs.walk.at_prefix.Goals as goal
 
 pub bytes-requires : goal.bytes-requires

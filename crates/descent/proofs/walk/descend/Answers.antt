@@ -1,12 +1,8 @@
 -- `descend`: the invariant is the way so far, the measure what is left of the bytes that a path can have. Assumes nothing.
-use Prim.Native.Nat.{◌-◌}
 use mathlib.Core.Path.{◌≡◌, sym, ap, ◌∙◌}
 use native.Mathlib.Omega.{arith}
-use Rattle.model.specs.Edition.{edition_of}
 use Rattle.descent.specs.declared.spot.Spot.{Spot}
-use Rattle.descent.specs.Spot.{Underway}
 use Rattle.descent.proofs.RootLaws.{header_room, root_entry, start_going, start_empty, ended_spot}
-use borrow.Author.Rules.{rules}
 use Rattle.descent.proofs.walk.descend.Goals as goal
 
 pub root-slot-requires : goal.root-slot-requires

@@ -1,7 +1,6 @@
 -- `descend_long`: the walked string, written out. Assumes nothing.
 use native.Mathlib.Omega.{arith}
 use Rattle.keys.proofs.WordLaws.{escaped_fits, spells_walked, spelt_within}
-use borrow.Author.Rules.{rules}
 use Rattle.descent.proofs.walk.descend_long.Goals as goal
 
 pub spell-n-requires : goal.spell-n-requires

@@ -2,7 +2,6 @@
 use mathlib.Core.Path.{sym, ◌∙◌}
 use Rattle.model.proofs.Edition2.{lawful_of}
 use Rattle.descent.proofs.SeatLaws.{going_entry, leaf_here, prefix_here, node_here}
-use borrow.Author.Rules.{rules}
 use Rattle.descent.proofs.walk.step.Goals as goal
 
 pub read-e-requires : goal.read-e-requires

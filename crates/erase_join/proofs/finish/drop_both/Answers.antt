@@ -1,6 +1,5 @@
 -- The Node4 is freed, then the Leaf goes. Assumes nothing.
 use Rattle.erase_join.proofs.DropLaws.{kind_four, frees_first, drops_leaf, dropped}
-use borrow.Author.Rules.{rules}
 use Rattle.erase_join.proofs.finish.drop_both.Goals as goal
 
 pub release-requires : goal.release-requires

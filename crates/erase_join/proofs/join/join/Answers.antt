@@ -1,6 +1,5 @@
 -- What is left, and what stands above. Assumes nothing.
 use Rattle.erase_join.proofs.PairLaws.{above_of, leaf_bare, leaf_under, other_bare, other_roomy}
-use borrow.Author.Rules.{rules}
 use Rattle.erase_join.proofs.join.join.Goals as goal
 
 pub spare-requires : goal.spare-requires

@@ -1,6 +1,5 @@
 -- The first child, or the second where the first is at the byte. Assumes nothing.
 use Rattle.erase_join.proofs.PairLaws.{visit_first, visit_second, is_first, is_second}
-use borrow.Author.Rules.{rules}
 use Rattle.erase_join.proofs.join.other_child.Goals as goal
 
 pub child_at-first-requires : goal.child_at-first-requires

@@ -1,6 +1,5 @@
 -- What is read at the spot is the site of the join. Assumes nothing.
 use Rattle.erase_join.proofs.PairLaws.{pair_couple, child_entry, pair_read}
-use borrow.Author.Rules.{rules}
 use Rattle.erase_join.proofs.join.read.Goals as goal
 
 pub other_child-other-requires : goal.other_child-other-requires

@@ -1,6 +1,5 @@
 -- The room of the Prefix above. Assumes nothing.
 use native.Mathlib.Omega.{arith}
-use borrow.Author.Rules.{rules}
 use Rattle.erase_join.proofs.join.spare.Goals as goal
 
 pub length-requires : goal.length-requires

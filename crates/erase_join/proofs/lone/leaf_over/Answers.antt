@@ -2,7 +2,6 @@
 use Rattle.erase_join.proofs.SiteLaws.{drops_of, step_of}
 use Rattle.erase_join.proofs.RunLaws.{run_some}
 use Rattle.erase_join.proofs.OverLaws.{run_frees, run_links, run_leaf}
-use borrow.Author.Rules.{rules}
 use Rattle.erase_join.proofs.lone.leaf_over.Goals as goal
 
 pub free-requires : goal.free-requires

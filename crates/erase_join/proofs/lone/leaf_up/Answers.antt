@@ -2,7 +2,6 @@
 use Rattle.erase_join.proofs.SiteLaws.{site_open, drops_of, step_of}
 use Rattle.chain.proofs.PushLaws.{link_ok}
 use Rattle.erase_join.proofs.UpLaws.{leaf_up}
-use borrow.Author.Rules.{rules}
 use Rattle.erase_join.proofs.lone.leaf_up.Goals as goal
 
 pub relink-requires : goal.relink-requires

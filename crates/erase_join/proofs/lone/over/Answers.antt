@@ -1,7 +1,6 @@
 -- The Prefix above takes the byte, and is filled up from the run that is left. Assumes nothing.
 use Rattle.erase_join.proofs.SiteLaws.{drops_of, step_of}
 use Rattle.erase_join.proofs.OverLaws.{over_spare, over_fills, run_over}
-use borrow.Author.Rules.{rules}
 use Rattle.erase_join.proofs.lone.over.Goals as goal
 
 pub back-requires : goal.back-requires

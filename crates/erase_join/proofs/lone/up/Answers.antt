@@ -1,7 +1,6 @@
 -- The byte joins the run that is left in front. Assumes nothing.
 use Rattle.erase_join.proofs.SiteLaws.{drops_of, step_of}
 use Rattle.erase_join.proofs.UpLaws.{up_pushes, run_up}
-use borrow.Author.Rules.{rules}
 use Rattle.erase_join.proofs.lone.up.Goals as goal
 
 pub push-requires : goal.push-requires

@@ -1,7 +1,6 @@
 -- `drop_leaf` reads the lengths of the Leaf before its body is freed. Assumes nothing.
 use Rattle.erase_remove.proofs.LeafLaws.{drops_room, drops_frees, drops_retires, drops_records, drop_law}
 use native.Mathlib.Omega.{arith}
-use borrow.Author.Rules.{rules}
 use Rattle.erase_remove.proofs.leaf.drop_leaf.Goals as goal
 
 pub key_length-k-requires : goal.key_length-k-requires

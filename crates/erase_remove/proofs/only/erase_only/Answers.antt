@@ -1,6 +1,5 @@
 -- `erase_only` lays the frame out anew, for the capacity and the edition that it has. Assumes nothing.
 use Rattle.erase_remove.proofs.OnlyLaws.{header_long, limits, only_step}
-use borrow.Author.Rules.{rules}
 use Rattle.erase_remove.proofs.only.erase_only.Goals as goal
 
 pub slot_capacity-slots-requires : goal.slot_capacity-slots-requires

@@ -2,7 +2,6 @@
 use Rattle.erase_remove.proofs.DoneLaws.{as_step}
 use Rattle.erase_remove.proofs.SpotLaws.{W0, has_byte_lem}
 use Rattle.erase_remove.proofs.RemoveLaws.{remove_drops, remove_done}
-use borrow.Author.Rules.{rules}
 use Rattle.erase_remove.proofs.remove.remove_child.Goals as goal
 
 pub remove-requires : goal.remove-requires

@@ -2,7 +2,6 @@
 use Rattle.erase_remove.proofs.DoneLaws.{as_step}
 use Rattle.erase_remove.proofs.ShrinkLaws.{large, shrink_takes, shrink_entry, shrink_has, shrink_empties, shrink_carries, shrink_links, shrink_frees, shrink_drops, shrink_done}
 use native.Mathlib.Omega.{arith}
-use borrow.Author.Rules.{rules}
 use Rattle.erase_remove.proofs.shrink.shrink.Goals as goal
 
 pub kind_down-smaller-requires : goal.kind_down-smaller-requires

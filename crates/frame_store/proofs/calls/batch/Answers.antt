@@ -1,6 +1,5 @@
 -- The number and the place of the batch's end in one. Assumes nothing.
 use Rattle.frame_store.proofs.BatchLaws.{batched}
-use borrow.Author.Rules.{rules}
 use Rattle.frame_store.proofs.calls.batch.Goals as goal
 
 pub returns : goal.returns

@@ -1,5 +1,4 @@
 -- The number is that of the check's answer. Assumes nothing.
-use borrow.Author.Rules.{rules}
 use Rattle.frame_store.proofs.calls.check.Goals as goal
 
 pub returns : goal.returns

@@ -1,5 +1,4 @@
 -- The number is that of erase's answer. Assumes nothing.
-use borrow.Author.Rules.{rules}
 use Rattle.frame_store.proofs.calls.erase.Goals as goal
 
 pub returns : goal.returns

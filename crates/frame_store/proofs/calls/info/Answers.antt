@@ -2,7 +2,6 @@
 use native.Mathlib.Omega.{arith}
 use lib.ListN.{length-set}
 use Rattle.frame_store.proofs.InfoLaws.{none_told, other_told, all_told}
-use borrow.Author.Rules.{rules}
 use Rattle.frame_store.proofs.calls.info.Goals as goal
 
 pub returns-in_default : goal.returns-in_default

@@ -1,5 +1,4 @@
 -- The number and the two numbers are those of the listing's answer; a refusal writes nothing. Assumes nothing.
-use borrow.Author.Rules.{rules}
 use Rattle.frame_store.proofs.ListLaws.{page_told, page_refused}
 use Rattle.frame_store.proofs.calls.list.Goals as goal
 

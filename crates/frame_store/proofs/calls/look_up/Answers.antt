@@ -1,5 +1,4 @@
 -- The number, place, length, slots and stamp are those of look_up's answer; a refusal writes nothing. Assumes nothing.
-use borrow.Author.Rules.{rules}
 use Rattle.frame_store.proofs.LookUpLaws.{found_told, absent_told, refused_told}
 use Rattle.frame_store.proofs.calls.look_up.Goals as goal
 

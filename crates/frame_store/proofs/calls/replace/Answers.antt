@@ -1,5 +1,4 @@
 -- The number is that of replacement's answer. Assumes nothing.
-use borrow.Author.Rules.{rules}
 use Rattle.frame_store.proofs.calls.replace.Goals as goal
 
 pub returns : goal.returns

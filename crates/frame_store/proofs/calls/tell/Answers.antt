@@ -1,6 +1,5 @@
 -- `tell`: by the edition. Assumes nothing.
 use Rattle.frame_store.proofs.LookUpLaws.{told_second, told_other}
-use borrow.Author.Rules.{rules}
 use Rattle.frame_store.proofs.calls.tell.Goals as goal
 
 pub returns-then-edition-eq-SECOND_EDITION : goal.returns-then-edition-eq-SECOND_EDITION

@@ -1,7 +1,6 @@
 -- `tell_four` writes all four numbers, or none. Assumes nothing.
 use native.Mathlib.Omega.{arith}
 use Rattle.frame_store.proofs.LookUpLaws.{four_told, four_not}
-use borrow.Author.Rules.{rules}
 use Rattle.frame_store.proofs.calls.tell_four.Goals as goal
 
 pub returns-then-found-eq-FOUND_STAMPED : goal.returns-then-found-eq-FOUND_STAMPED

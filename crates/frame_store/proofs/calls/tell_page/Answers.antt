@@ -1,7 +1,6 @@
 -- Both numbers are written, or none. Assumes nothing.
 use native.Mathlib.Omega.{arith}
 use Rattle.frame_store.proofs.ListLaws.{two_told, two_untold}
-use borrow.Author.Rules.{rules}
 use Rattle.frame_store.proofs.calls.tell_page.Goals as goal
 
 pub returns-then-page-eq-PAGE : goal.returns-then-page-eq-PAGE

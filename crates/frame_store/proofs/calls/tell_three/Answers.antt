@@ -1,7 +1,6 @@
 -- `tell_three` writes all three numbers, or none. Assumes nothing.
 use native.Mathlib.Omega.{arith}
 use Rattle.frame_store.proofs.LookUpLaws.{three_told, none_told}
-use borrow.Author.Rules.{rules}
 use Rattle.frame_store.proofs.calls.tell_three.Goals as goal
 
 pub returns-then-found-eq-FOUND : goal.returns-then-found-eq-FOUND

@@ -3,7 +3,6 @@ use native.Mathlib.Omega.{arith}
 use mathlib.Core.Path.{◌≡◌}
 use Rattle.inner.proofs.InnerLaws.{size_sorted}
 use Rattle.inner.proofs.DispatchLaws.{places_sorted, append_sorted, append_48, append_256}
-use borrow.Author.Rules.{rules}
 use Rattle.inner.proofs.carry.append.Goals as goal
 
 pub append-requires : goal.append-requires

@@ -1,14 +1,8 @@
 -- The first children stand at their new place, the count still to be written. Assumes nothing.
-use mathlib.Core.List.{List}
-use Rattle.layout.specs.Kind.{body_size}
-use Rattle.model.specs.Body.{InnerAt}
-use Rattle.moves.specs.Moved.{Only}
 use Rattle.moves.proofs.MoveLaws.{only_none}
 use Rattle.inner.proofs.InnerLaws.{inner_count, inner_room}
-use Rattle.inner.proofs.CarryLaws.{Part, part_none, part_all, turn_visit, turn_append, turn, size_8}
-use Prim.Native.Nat.{ℕ, ◌+◌, ◌-◌, ◌≤◌}
+use Rattle.inner.proofs.CarryLaws.{part_none, part_all, turn_visit, turn_append, turn, size_8}
 use native.Mathlib.Omega.{arith}
-use borrow.Author.Rules.{rules}
 use Rattle.inner.proofs.carry.carry.Goals as goal
 
 pub count-n-requires : goal.count-n-requires

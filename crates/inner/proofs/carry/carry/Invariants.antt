@@ -3,12 +3,8 @@ use mathlib.Core.List.{List}
 use Rattle.layout.specs.Kind.{body_size}
 use Rattle.model.specs.Body.{InnerAt}
 use Rattle.moves.specs.Moved.{Only}
-use Rattle.moves.proofs.MoveLaws.{only_none}
-use Rattle.inner.proofs.InnerLaws.{inner_count, inner_room}
-use Rattle.inner.proofs.CarryLaws.{Part, part_none, part_all, turn_visit, turn_append, turn, size_8}
+use Rattle.inner.proofs.CarryLaws.{Part}
 use Prim.Native.Nat.{ℕ, ◌+◌, ◌-◌, ◌≤◌}
-use native.Mathlib.Omega.{arith}
-use borrow.Author.Rules.{rules}
 use Rattle.inner.proofs.carry.carry.Given as goal
 
 abbrev pub invariant-loop-i : goal.invariant-loop-i

@@ -1,7 +1,6 @@
 -- By kind. Assumes nothing.
 use Rattle.inner.proofs.InnerLaws.{last_kind}
 use Rattle.inner.proofs.DispatchLaws.{places_sorted, open_sorted, open_48, open_256, added_sorted, added_48, added_256}
-use borrow.Author.Rules.{rules}
 use Rattle.inner.proofs.change.add.Goals as goal
 
 pub add-requires : goal.add-requires

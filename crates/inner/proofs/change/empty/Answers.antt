@@ -1,6 +1,5 @@
 -- Zeros are a body of no children. Assumes nothing.
 use Rattle.inner.proofs.InnerLaws.{emptied}
-use borrow.Author.Rules.{rules}
 use Rattle.inner.proofs.change.empty.Goals as goal
 
 pub returns : goal.returns

@@ -1,7 +1,6 @@
 -- By kind. Assumes nothing.
 use Rattle.inner.proofs.InnerLaws.{last_kind}
 use Rattle.inner.proofs.DispatchLaws.{places_sorted, has_sorted, has_48, has_256, removed_sorted, removed_48, removed_256}
-use borrow.Author.Rules.{rules}
 use Rattle.inner.proofs.change.remove.Goals as goal
 
 pub remove-requires : goal.remove-requires

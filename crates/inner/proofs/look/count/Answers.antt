@@ -1,7 +1,6 @@
 -- The count says how many. Assumes nothing.
 use mathlib.Core.Path.{◌∙◌}
 use Rattle.inner.proofs.InnerLaws.{inner_count}
-use borrow.Author.Rules.{rules}
 use Rattle.inner.proofs.look.count.Goals as goal
 
 pub returns : goal.returns

@@ -2,7 +2,6 @@
 use Prim.Native.Nat.{ℕ, zero, suc, ◌+◌, ◌<◌}
 use mathlib.Core.Path.{◌≡◌, refl}
 use native.Mathlib.Omega.{arith}
-use borrow.Author.Rules.{rules}
 use Rattle.layout.specs.Kind.{most}
 use Rattle.inner.specs.Inner.{sorted_bytes}
 use Rattle.inner.proofs.look.sorted_children.Goals as goal

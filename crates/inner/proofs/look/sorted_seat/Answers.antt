@@ -3,7 +3,6 @@ use mathlib.Core.Path.{◌∙◌}
 use Rattle.node.specs.Kids.{place_of}
 use Rattle.inner.proofs.InnerLaws.{link_is_sorted}
 use Rattle.inner.proofs.DispatchLaws.{places_sorted, children_sorted, at_sorted, some_sorted}
-use borrow.Author.Rules.{rules}
 use Rattle.inner.proofs.look.sorted_seat.Goals as goal
 
 pub seat-requires : goal.seat-requires

@@ -1,7 +1,6 @@
 -- By its place, or by the next byte that has a child. Assumes nothing.
 use native.Mathlib.Omega.{arith}
 use Rattle.inner.proofs.DispatchLaws.{visit_sorted, visited}
-use borrow.Author.Rules.{rules}
 use Rattle.inner.proofs.visit.child_at.Goals as goal
 
 pub sorted_child-requires : goal.sorted_child-requires

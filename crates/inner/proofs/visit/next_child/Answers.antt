@@ -1,7 +1,6 @@
 -- By kind. Assumes nothing.
 use Rattle.inner.proofs.InnerLaws.{last_kind}
 use Rattle.inner.proofs.DispatchLaws.{places_sorted, at_sorted, some_sorted}
-use borrow.Author.Rules.{rules}
 use Rattle.inner.proofs.visit.next_child.Goals as goal
 
 pub next-requires : goal.next-requires

@@ -1,7 +1,6 @@
 -- By its place. Assumes nothing.
 use native.Mathlib.Omega.{arith}
 use Rattle.inner.proofs.DispatchLaws.{places_sorted, at_sorted, some_sorted}
-use borrow.Author.Rules.{rules}
 use Rattle.inner.proofs.visit.sorted_child.Goals as goal
 
 pub child_at-requires : goal.child_at-requires

@@ -1,7 +1,6 @@
 -- `read1` is `le 1`. Assumes nothing.
 use native.Mathlib.Omega.{arith}
 use Rattle.layout.specs.Number.{le}
-use borrow.Author.Rules.{rules}
 use Rattle.layout.proofs.number.read1.Goals as goal
 
 pub returns : goal.returns

@@ -1,7 +1,6 @@
 -- `read2` is `le 2`. Assumes nothing.
 use native.Mathlib.Omega.{arith}
 use Rattle.layout.specs.Number.{le}
-use borrow.Author.Rules.{rules}
 use Rattle.layout.proofs.number.read2.Goals as goal
 
 pub returns : goal.returns

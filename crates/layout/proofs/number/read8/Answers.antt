@@ -5,7 +5,6 @@ use mathlib.Core.List.{List}
 use native.Mathlib.Omega.{arith}
 use native.Mathlib.Nat.{add_assoc}
 use Rattle.layout.specs.Number.{le}
-use borrow.Author.Rules.{rules}
 use Rattle.layout.proofs.number.read8.Goals as goal
 
 halves : (f : List ℕ) (o : ℕ) → le 8 f o ≡ le 4 f o + 4294967296 * le 4 f (o + 4)

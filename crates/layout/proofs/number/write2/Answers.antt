@@ -2,7 +2,6 @@
 use native.Mathlib.Omega.{arith}
 use lib.ListN.{length-set}
 use Rattle.layout.specs.Number.{put}
-use borrow.Author.Rules.{rules}
 use Rattle.layout.proofs.number.write2.Goals as goal
 
 pub bounds-f-o-2 : goal.bounds-f-o-2

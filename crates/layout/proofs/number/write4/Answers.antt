@@ -5,7 +5,6 @@ use mathlib.Core.List.{List}
 use native.Mathlib.Nat.{add_assoc}
 use lib.Pow.{shr-shr}
 use Rattle.layout.specs.Number.{put}
-use borrow.Author.Rules.{rules}
 use Rattle.layout.proofs.number.write4.Goals as goal
 
 halves : (f : List ℕ) (o v : ℕ) → put 4 f o v ≡ put 2 (put 2 f o v) (o + 2) (v / 65536)

@@ -1,10 +1,7 @@
 -- `paste` writes the bytes of p and nothing else: its pieces cover p. The last piece is written first; the invariant: the first i are written over it.
 -- Assumes nothing.
 use Prim.Native.Nat.{◌-◌, ◌≤◌}
-use native.Mathlib.Omega.{arith}
-use borrow.Author.Rules.{rules}
 use Rattle.moves.specs.Pasted.{Pasted}
-use Rattle.moves.proofs.PasteLaws.{pasted_none, pasted_piece, pasted_over}
 use Rattle.moves.proofs.fill.paste.Given as goal
 
 abbrev pub invariant-loop-i : goal.invariant-loop-i

@@ -1,11 +1,6 @@
 -- The pieces cover the short slice; those of one byte are counted by the invariant. Assumes nothing.
 use Prim.Native.Nat.{◌-◌, ◌≤◌}
-use mathlib.Core.Path.{◌≡◌}
-use native.Mathlib.Omega.{arith}
-use lib.ListN.{length}
-use borrow.Author.Rules.{rules}
 use Rattle.moves.specs.Pasted.{Pasted}
-use Rattle.moves.proofs.PasteLaws.{pasted_none, pasted_piece}
 use Rattle.moves.proofs.fill.paste_short.Given as goal
 
 abbrev pub invariant-loop-i : goal.invariant-loop-i

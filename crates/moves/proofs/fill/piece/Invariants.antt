@@ -1,11 +1,8 @@
 -- `piece` writes its n bytes of p and nothing else. The invariants: the first k are held, the first j of those are written.
 -- Assumes nothing.
 use Prim.Native.Nat.{◌-◌, ◌≤◌}
-use mathlib.Core.Path.{◌≡◌, refl}
-use native.Mathlib.Omega.{arith}
-use borrow.Author.Rules.{rules}
 use Rattle.moves.specs.Pasted.{Piece}
-use Rattle.moves.proofs.PasteLaws.{Held, held_none, held_more, piece_none, piece_more}
+use Rattle.moves.proofs.PasteLaws.{Held}
 use Rattle.moves.proofs.fill.piece.Given as goal
 
 abbrev pub invariant-loop-k : goal.invariant-loop-k

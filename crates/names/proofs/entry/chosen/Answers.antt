@@ -1,6 +1,5 @@
 -- A part of the word, or all of the text. Assumes nothing.
 use lib.ListN.{take}
-use borrow.Author.Rules.{rules}
 use Rattle.names.proofs.SoughtLaws.{chosen_two, chosen_other}
 use Rattle.names.proofs.entry.chosen.Goals as goal
 

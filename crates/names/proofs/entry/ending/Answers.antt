@@ -1,6 +1,5 @@
 -- A delimiter that is a byte is sought; without one the entry is the key. Assumes nothing.
 use native.Mathlib.Omega.{arith}
-use borrow.Author.Rules.{rules}
 use Rattle.names.proofs.CutLaws.{no_delimiter}
 use Rattle.names.proofs.entry.ending.Goals as goal
 

@@ -4,7 +4,6 @@ use Rattle.listing.specs.Listing.{delimiter_of}
 use Rattle.names.proofs.EditionLaws.{naming}
 use Rattle.names.proofs.SoughtLaws.{guided}
 use Rattle.names.proofs.EntryLaws.{entry_gone, sought_leaf, entry_there}
-use borrow.Author.Rules.{rules}
 use Rattle.names.proofs.entry.from_bound.Goals as goal
 
 pub seek-s-requires : goal.seek-s-requires

@@ -4,7 +4,6 @@ use mathlib.Core.Path.{◌∙◌}
 use native.Mathlib.Omega.{arith}
 use Rattle.listing.specs.Listing.{delimiter_of}
 use Rattle.names.proofs.CutLaws.{leaf_long, leaf_none, leaf_some}
-use borrow.Author.Rules.{rules}
 use Rattle.names.proofs.entry.of_leaf.Goals as goal
 
 pub extent-at-requires : goal.extent-at-requires

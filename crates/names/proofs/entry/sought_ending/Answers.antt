@@ -1,9 +1,6 @@
 -- No delimiter among the bytes passed. Assumes nothing.
-use Prim.Native.Nat.{◌-◌}
 use native.Mathlib.Omega.{arith}
-use borrow.Author.Rules.{rules}
-use lib.ListN.{length}
-use Rattle.names.proofs.CutLaws.{Passed, pass_start, pass_end, pass_hit, pass_on}
+use Rattle.names.proofs.CutLaws.{pass_start, pass_end, pass_hit, pass_on}
 use Rattle.names.proofs.entry.sought_ending.Goals as goal
 
 pub loop-i-init : goal.loop-i-init

@@ -1,9 +1,7 @@
 -- No delimiter among the bytes passed. Assumes nothing.
 use Prim.Native.Nat.{◌-◌}
-use native.Mathlib.Omega.{arith}
-use borrow.Author.Rules.{rules}
 use lib.ListN.{length}
-use Rattle.names.proofs.CutLaws.{Passed, pass_start, pass_end, pass_hit, pass_on}
+use Rattle.names.proofs.CutLaws.{Passed}
 use Rattle.names.proofs.entry.sought_ending.Given as goal
 
 abbrev pub invariant-loop-i : goal.invariant-loop-i

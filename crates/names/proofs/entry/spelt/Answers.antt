@@ -2,7 +2,6 @@
 use native.Mathlib.Omega.{arith}
 use Rattle.model.proofs.Edition2.{escaped_length}
 use Rattle.keys.proofs.EscapeLaws.{long_two}
-use borrow.Author.Rules.{rules}
 use Rattle.names.proofs.SoughtLaws.{room_two, spelt_other, spelt_past, spelt_text, spelt_none}
 use Rattle.names.proofs.entry.spelt.Goals as goal
 

@@ -1,6 +1,5 @@
 -- A key that is shorter does not; else its first bytes decide. Assumes nothing.
 use native.Mathlib.Omega.{arith}
-use borrow.Author.Rules.{rules}
 use Rattle.names.proofs.CutLaws.{begins_longer, begins_decided}
 use Rattle.names.proofs.entry.starts_with.Goals as goal
 

@@ -1,5 +1,4 @@
 -- The length, then the bytes. Assumes nothing.
-use borrow.Author.Rules.{rules}
 use Rattle.names.proofs.WriteLaws.{entry_written}
 use Rattle.names.proofs.entry.write.Goals as goal
 

@@ -4,11 +4,8 @@ use mathlib.Core.Path.{◌≡◌}
 use native.Mathlib.Omega.{arith}
 use borrow.Author.Tests.{not-true, not-false}
 use lib.ListN.{length}
-use Rattle.model.specs.Edition.{edition_of}
-use Rattle.listing.specs.Listing.{start_of, delimiter_of}
 use Rattle.names.proofs.EditionLaws.{naming}
-use Rattle.names.proofs.PageLaws.{Paging, paging_start, paging_long, paging_count, paging_room, paging_end, head, head_short, head_tail, head_part, head_most, paging_fits, paging_ten, paging_more, paging_on}
-use borrow.Author.Rules.{rules}
+use Rattle.names.proofs.PageLaws.{paging_start, paging_long, paging_count, paging_room, paging_end, head, head_short, head_tail, head_part, head_most, paging_fits, paging_ten, paging_more, paging_on}
 use Rattle.names.proofs.page.fill.Goals as goal
 
 pub first-e-requires : goal.first-e-requires

@@ -1,14 +1,10 @@
 -- The invariant: so many entries are written, and the next one that is left is at hand. The measure is the room that is left. Assumes nothing.
-use Prim.Native.Nat.{◌+◌, ◌-◌}
+use Prim.Native.Nat.{◌-◌}
 use mathlib.Core.Path.{◌≡◌}
-use native.Mathlib.Omega.{arith}
-use borrow.Author.Tests.{not-true, not-false}
 use lib.ListN.{length}
 use Rattle.model.specs.Edition.{edition_of}
 use Rattle.listing.specs.Listing.{start_of, delimiter_of}
-use Rattle.names.proofs.EditionLaws.{naming}
-use Rattle.names.proofs.PageLaws.{Paging, paging_start, paging_long, paging_count, paging_room, paging_end, head, head_short, head_tail, head_part, head_most, paging_fits, paging_ten, paging_more, paging_on}
-use borrow.Author.Rules.{rules}
+use Rattle.names.proofs.PageLaws.{Paging}
 use Rattle.names.proofs.page.fill.Given as goal
 
 abbrev pub invariant-loop-e : goal.invariant-loop-e

@@ -9,7 +9,6 @@ use Rattle.listing.specs.Listing.{delimiter_of}
 use Rattle.names.proofs.EditionLaws.{naming}
 use Rattle.names.proofs.CutLaws.{begins_long}
 use Rattle.names.proofs.PageLaws.{first_free, first_begins, first_above, first_below, start_short, cut_tail}
-use borrow.Author.Rules.{rules}
 use Rattle.names.proofs.page.first.Goals as goal
 
 pub from_bound-requires : goal.from_bound-requires

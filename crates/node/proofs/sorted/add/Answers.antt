@@ -4,7 +4,6 @@ use native.Mathlib.Omega.{arith}
 use mathlib.Core.Path.{◌≡◌, ◌∙◌}
 use Rattle.moves.proofs.MoveLaws.{only_none}
 use Rattle.node.proofs.SortedLaws.{sorted_row, sorted_insert, three}
-use borrow.Author.Rules.{rules}
 use Rattle.node.proofs.sorted.add.Goals as goal
 
 pub returns : goal.returns

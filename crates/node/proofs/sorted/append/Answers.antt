@@ -1,5 +1,4 @@
 -- One byte and one child written. Assumes nothing.
-use borrow.Author.Rules.{rules}
 use Rattle.node.proofs.sorted.append.Goals as goal
 
 pub returns : goal.returns

@@ -1,6 +1,5 @@
 -- The half that is compared tells where the byte stands, or that it stands nowhere. Assumes nothing.
 use native.Mathlib.Omega.{arith}
-use borrow.Author.Rules.{rules}
 use Rattle.node.proofs.SortedLaws.{half_found, half_none}
 use Rattle.node.proofs.sorted.halved.Goals as goal
 

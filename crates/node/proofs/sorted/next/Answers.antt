@@ -1,9 +1,8 @@
 -- Every byte passed is below `from`. Assumes nothing.
 use mathlib.Core.Path.{◌≡◌}
 use borrow.Author.Count.{below_more}
-use Rattle.layout.specs.Number.{byte_at}
 use Rattle.node.proofs.SortedLaws.{next_in, next_out}
-use Prim.Native.Nat.{ℕ, ◌+◌, ◌-◌, ◌<◌, ◌≤◌}
+use Prim.Native.Nat.{◌+◌, ◌-◌, ◌<◌}
 use native.Mathlib.Omega.{arith}
 use lib.ListN.{length}
 use borrow.Author.Rules.{rules}

@@ -1,12 +1,6 @@
 -- Every byte passed is below `from`. Assumes nothing.
-use mathlib.Core.Path.{◌≡◌}
-use borrow.Author.Count.{below_more}
 use Rattle.layout.specs.Number.{byte_at}
-use Rattle.node.proofs.SortedLaws.{next_in, next_out}
 use Prim.Native.Nat.{ℕ, ◌+◌, ◌-◌, ◌<◌, ◌≤◌}
-use native.Mathlib.Omega.{arith}
-use lib.ListN.{length}
-use borrow.Author.Rules.{rules}
 use Rattle.node.proofs.sorted.next.Given as goal
 
 abbrev pub invariant-loop-i : goal.invariant-loop-i

@@ -1,8 +1,6 @@
 -- No byte passed is above b. Assumes nothing.
 use borrow.Author.Count.{below_more}
-use Rattle.layout.specs.Number.{byte_at}
 use Rattle.node.proofs.SortedLaws.{rank_row}
-use Prim.Native.Nat.{ℕ, ◌+◌, ◌-◌, ◌<◌, ◌≤◌}
 use native.Mathlib.Omega.{arith}
 use borrow.Author.Rules.{rules}
 use Rattle.node.proofs.sorted.rank.Goals as goal

@@ -3,7 +3,6 @@ use Prim.Native.Nat.{◌+◌, ◌-◌}
 use native.Mathlib.Omega.{arith}
 use mathlib.Core.Path.{◌≡◌, ◌∙◌}
 use Rattle.node.proofs.SortedLaws.{sorted_row, sorted_remove, has_place, three}
-use borrow.Author.Rules.{rules}
 use Rattle.node.proofs.sorted.remove.Goals as goal
 
 pub close_byte-requires : goal.close_byte-requires

@@ -1,11 +1,7 @@
 -- No byte passed is b. Assumes nothing.
-use mathlib.Core.Path.{◌≡◌, ◌∙◌, sym}
-use borrow.Author.Count.{below_more}
+use mathlib.Core.Path.{◌≡◌}
 use Rattle.layout.specs.Number.{byte_at}
-use Rattle.node.proofs.SortedLaws.{place_row}
 use Prim.Native.Nat.{ℕ, ◌+◌, ◌-◌, ◌<◌, ◌≤◌}
-use native.Mathlib.Omega.{arith}
-use borrow.Author.Rules.{rules}
 use Rattle.node.proofs.sorted.scan.Given as goal
 
 abbrev pub invariant-loop-i : goal.invariant-loop-i

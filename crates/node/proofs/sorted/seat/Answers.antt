@@ -4,7 +4,6 @@ use native.Mathlib.Omega.{arith}
 use mathlib.Core.Path.{◌≡◌, ◌∙◌}
 use lib.ListN.{length}
 use Rattle.node.proofs.SortedLaws.{sorted_row, seat_in, seat_out}
-use borrow.Author.Rules.{rules}
 use Rattle.node.proofs.sorted.seat.Goals as goal
 
 pub returns-then-n-i : goal.returns-then-n-i

@@ -1,7 +1,6 @@
 -- The lowest mark is that of the first byte. Assumes nothing.
 use native.Mathlib.Omega.{arith}
 use lib.Count.{trailing_le}
-use borrow.Author.Rules.{rules}
 use Rattle.layout.specs.Number.{Bytes}
 use Rattle.node.proofs.WordLaws.{marked_first}
 use Rattle.node.proofs.word.first.Goals as goal

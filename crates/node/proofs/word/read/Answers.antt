@@ -1,6 +1,5 @@
 -- The lower four bytes, and the upper. Assumes nothing.
 use native.Mathlib.Omega.{arith}
-use borrow.Author.Rules.{rules}
 use Rattle.node.proofs.WordLaws.{le_halves}
 use Rattle.node.proofs.word.read.Goals as goal
 

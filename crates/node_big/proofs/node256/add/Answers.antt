@@ -3,7 +3,6 @@ use Prim.Native.Nat.{ℕ, ◌+◌}
 use native.Mathlib.Omega.{arith}
 use mathlib.Core.Path.{ap}
 use Rattle.node_big.proofs.Laws256.{insert256}
-use borrow.Author.Rules.{rules}
 use Rattle.node_big.proofs.node256.add.Goals as goal
 
 pub returns : goal.returns

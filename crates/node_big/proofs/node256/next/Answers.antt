@@ -1,12 +1,8 @@
 -- No child passed is a slot. Assumes nothing.
 use mathlib.Core.Path.{◌∙◌, sym, ◌≡◌}
 use borrow.Author.Count.{below_more}
-use Rattle.layout.specs.Number.{le}
-use Rattle.layout.specs.Place.{node256_children}
 use Rattle.node_big.proofs.Laws256.{next256_in, next256_out}
-use Prim.Native.Nat.{ℕ, ◌+◌, ◌-◌, ◌*◌, ◌<◌, ◌≤◌}
 use native.Mathlib.Omega.{arith}
-use borrow.Author.Rules.{rules}
 use Rattle.node_big.proofs.node256.next.Goals as goal
 
 pub loop-b-init : goal.loop-b-init

@@ -2,7 +2,6 @@
 use native.Mathlib.Omega.{arith}
 use Rattle.node.proofs.KidsLaws.{length_remove}
 use Rattle.node_big.proofs.Laws256.{remove256, has256}
-use borrow.Author.Rules.{rules}
 use Rattle.node_big.proofs.node256.remove.Goals as goal
 
 pub overflow_sub-n : goal.overflow_sub-n

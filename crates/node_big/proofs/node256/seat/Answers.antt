@@ -2,7 +2,6 @@
 use native.Mathlib.Omega.{arith}
 use mathlib.Core.Path.{refl}
 use Rattle.node_big.proofs.Laws256.{seat256}
-use borrow.Author.Rules.{rules}
 use Rattle.node_big.proofs.node256.seat.Goals as goal
 
 pub returns : goal.returns

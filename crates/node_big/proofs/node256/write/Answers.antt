@@ -2,7 +2,6 @@
 use native.Mathlib.Omega.{arith}
 use Rattle.moves.proofs.MoveLaws.{only_none}
 use Rattle.node_big.proofs.Laws256.{wrote256}
-use borrow.Author.Rules.{rules}
 use Rattle.node_big.proofs.node256.write.Goals as goal
 
 pub returns : goal.returns

@@ -3,7 +3,6 @@ use Prim.Native.Nat.{ℕ, ◌+◌}
 use native.Mathlib.Omega.{arith}
 use mathlib.Core.Path.{ap}
 use Rattle.node_big.proofs.Laws48.{insert48, room48}
-use borrow.Author.Rules.{rules}
 use Rattle.node_big.proofs.node48.add.Goals as goal
 
 pub write-requires : goal.write-requires

@@ -1,5 +1,4 @@
 -- One entry and one child written. Assumes nothing.
-use borrow.Author.Rules.{rules}
 use Rattle.node_big.proofs.node48.append.Goals as goal
 
 pub returns : goal.returns

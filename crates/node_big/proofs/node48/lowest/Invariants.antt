@@ -1,13 +1,9 @@
 -- Every place passed is named by an entry; no entry passed names the place that is tried. Assumes nothing.
-use mathlib.Core.Path.{◌≡◌, ◌∙◌, sym}
-use mathlib.Core.Logic.{⊎_elim}
-use borrow.Author.Count.{below_more}
+use mathlib.Core.Path.{◌≡◌}
 use Rattle.layout.specs.Number.{byte_at}
 use Rattle.layout.specs.Place.{node48_index}
 use Rattle.model.specs.Body.{Named}
 use Prim.Native.Nat.{ℕ, ◌+◌, ◌-◌, ◌<◌, ◌≤◌}
-use native.Mathlib.Omega.{arith}
-use borrow.Author.Rules.{rules}
 use Rattle.node_big.proofs.node48.lowest.Given as goal
 
 abbrev pub invariant-loop-b : goal.invariant-loop-b

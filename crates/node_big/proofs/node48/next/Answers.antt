@@ -1,12 +1,8 @@
 -- No entry passed names a place. Assumes nothing.
 use mathlib.Core.Path.{◌∙◌, sym, ◌≡◌}
 use borrow.Author.Count.{below_more}
-use Rattle.layout.specs.Number.{byte_at}
-use Rattle.layout.specs.Place.{node48_index}
 use Rattle.node_big.proofs.Laws48.{next48_in, next48_out, place48}
-use Prim.Native.Nat.{ℕ, ◌+◌, ◌-◌, ◌<◌, ◌≤◌}
 use native.Mathlib.Omega.{arith}
-use borrow.Author.Rules.{rules}
 use Rattle.node_big.proofs.node48.next.Goals as goal
 
 pub loop-b-init : goal.loop-b-init

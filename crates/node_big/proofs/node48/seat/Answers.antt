@@ -1,7 +1,6 @@
 -- The entry of the byte says whether there is a child, and where. Assumes nothing.
 use native.Mathlib.Omega.{arith}
 use Rattle.node_big.proofs.Laws48.{seat48_in, seat48_out, place48}
-use borrow.Author.Rules.{rules}
 use Rattle.node_big.proofs.node48.seat.Goals as goal
 
 pub returns-then-p-eq0 : goal.returns-then-p-eq0

@@ -2,7 +2,6 @@
 use native.Mathlib.Omega.{arith}
 use Rattle.moves.proofs.MoveLaws.{only_none}
 use Rattle.node_big.proofs.Laws48.{wrote48}
-use borrow.Author.Rules.{rules}
 use Rattle.node_big.proofs.node48.write.Goals as goal
 
 pub returns : goal.returns

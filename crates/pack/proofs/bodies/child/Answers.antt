@@ -1,7 +1,6 @@
 -- One law (BodiesLaws). Assumes nothing.
 use native.Mathlib.Omega.{arith}
 use Rattle.pack.proofs.BodiesLaws.{child_laid}
-use borrow.Author.Rules.{rules}
 use Rattle.pack.proofs.bodies.child.Goals as goal
 
 pub returns : goal.returns

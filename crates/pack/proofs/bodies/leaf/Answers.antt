@@ -2,7 +2,6 @@
 use mathlib.Core.Path.{refl}
 use native.Mathlib.Omega.{arith}
 use Rattle.pack.proofs.BodiesLaws.{leaf_lent, leaf_end, leaf_laid}
-use borrow.Author.Rules.{rules}
 use Rattle.pack.proofs.bodies.leaf.Goals as goal
 
 pub copy-used-requires : goal.copy-used-requires

@@ -2,7 +2,6 @@
 use Prim.Native.Nat.{ℕ, ◌+◌}
 use mathlib.Core.Path.{refl, ap}
 use Rattle.pack.proofs.BodiesLaws.{node_lent, node_laid}
-use borrow.Author.Rules.{rules}
 use Rattle.pack.proofs.bodies.node.Goals as goal
 
 pub start-requires : goal.start-requires

@@ -1,7 +1,6 @@
 -- One law for each end (BodiesLaws). Assumes nothing.
 use mathlib.Core.Path.{refl}
 use Rattle.pack.proofs.BodiesLaws.{prefix_lent, prefix_laid}
-use borrow.Author.Rules.{rules}
 use Rattle.pack.proofs.bodies.prefix.Goals as goal
 
 pub copy-requires : goal.copy-requires

@@ -2,7 +2,6 @@
 use mathlib.Core.Path.{refl}
 use native.Mathlib.Omega.{arith}
 use Rattle.pack.proofs.ImageLaws.{known_limits, image_start, head_zero, end_some, image_made}
-use borrow.Author.Rules.{rules}
 use Rattle.pack.proofs.image.of_tree.Goals as goal
 
 pub data_start_of-requires : goal.data_start_of-requires

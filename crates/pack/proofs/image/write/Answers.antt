@@ -1,6 +1,5 @@
 -- One law for each step (ImageLaws). Assumes nothing.
 use Rattle.pack.proofs.ImageLaws.{known_limits, image_empty}
-use borrow.Author.Rules.{rules}
 use Rattle.pack.proofs.image.write.Goals as goal
 
 pub lay_out-requires : goal.lay_out-requires

@@ -1,6 +1,5 @@
 -- All fields written over zeros. Assumes nothing.
 use Rattle.pack_body.proofs.WriterLaws.{header_written}
-use borrow.Author.Rules.{rules}
 use Rattle.pack_body.proofs.header.write.Goals as goal
 
 pub returns : goal.returns

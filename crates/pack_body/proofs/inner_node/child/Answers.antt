@@ -1,7 +1,6 @@
 -- One child more. Assumes nothing.
 use native.Mathlib.Omega.{arith}
 use Rattle.pack_body.proofs.NodeLaws.{child_written}
-use borrow.Author.Rules.{rules}
 use Rattle.pack_body.proofs.inner_node.child.Goals as goal
 
 pub returns : goal.returns

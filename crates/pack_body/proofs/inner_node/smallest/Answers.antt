@@ -1,7 +1,6 @@
 -- The tests in turn. Assumes nothing.
 use native.Mathlib.Omega.{arith}
 use Rattle.pack_body.proofs.NodeLaws.{smallest_4, smallest_16, smallest_48, smallest_256}
-use borrow.Author.Rules.{rules}
 use Rattle.pack_body.proofs.inner_node.smallest.Goals as goal
 
 pub returns-then-n-most_children : goal.returns-then-n-most_children

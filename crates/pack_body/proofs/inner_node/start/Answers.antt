@@ -2,7 +2,6 @@
 use native.Mathlib.Omega.{arith}
 use Rattle.layout.proofs.KindLaws.{size_least}
 use Rattle.pack_body.proofs.NodeLaws.{node_started}
-use borrow.Author.Rules.{rules}
 use Rattle.pack_body.proofs.inner_node.start.Goals as goal
 
 pub set_count-requires : goal.set_count-requires

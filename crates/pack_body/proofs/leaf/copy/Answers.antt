@@ -1,6 +1,5 @@
 -- Fields read, the body written, the extent pasted in the part behind it. Assumes nothing.
 use Rattle.pack_body.proofs.WriterLaws.{leaf_copied}
-use borrow.Author.Rules.{rules}
 use Rattle.pack_body.proofs.leaf.copy.Goals as goal
 
 pub returns : goal.returns

@@ -1,6 +1,5 @@
 -- The body pasted, its child written. Assumes nothing.
 use Rattle.pack_body.proofs.WriterLaws.{prefix_copied}
-use borrow.Author.Rules.{rules}
 use Rattle.pack_body.proofs.prefix.copy.Goals as goal
 
 pub returns : goal.returns

@@ -5,7 +5,6 @@ use mathlib.Core.List.{[]}
 use native.Mathlib.Omega.{arith}
 use Rattle.room.proofs.FitLaws.{asks_small}
 use Rattle.plan.proofs.EraseLaws.{mark_small, down_kind, node_fits, plan_keeps, plan_falls, pair_from}
-use borrow.Author.Rules.{rules}
 use Rattle.plan.proofs.erase.erase_needs.Goals as goal
 
 pub count-requires : goal.count-requires

@@ -4,7 +4,6 @@ use mathlib.Core.List.{[]}
 use native.Mathlib.Omega.{arith}
 use Rattle.room.proofs.FitLaws.{asks_small}
 use Rattle.plan.proofs.EraseLaws.{plan_above, plan_under, couple, other_entry, plan_leaf, plan_run, plan_room, plan_more}
-use borrow.Author.Rules.{rules}
 use Rattle.plan.proofs.erase.joining.Goals as goal
 
 pub spare-requires : goal.spare-requires

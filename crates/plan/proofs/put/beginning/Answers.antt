@@ -1,7 +1,6 @@
 -- `beginning` measures what is below a full Prefix. Assumes nothing.
 use native.Mathlib.Omega.{arith}
 use Rattle.plan.proofs.RunLaws.{begun_short, begun_full, begun_below, begun_fits}
-use borrow.Author.Rules.{rules}
 use Rattle.plan.proofs.put.beginning.Goals as goal
 
 pub returns-then-n-lt-MOST : goal.returns-then-n-lt-MOST

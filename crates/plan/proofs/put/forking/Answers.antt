@@ -4,7 +4,6 @@ use mathlib.Core.List.{[]}
 use native.Mathlib.Omega.{arith}
 use Rattle.room.proofs.FitLaws.{asks_small}
 use Rattle.plan.proofs.PutLaws.{fork_many}
-use borrow.Author.Rules.{rules}
 use Rattle.plan.proofs.put.forking.Goals as goal
 
 pub with-next-requires : goal.with-next-requires

@@ -3,7 +3,6 @@ use mathlib.Core.List.{[]}
 use native.Mathlib.Omega.{arith}
 use Rattle.room.proofs.FitLaws.{asks_small}
 use Rattle.plan.proofs.PutLaws.{up_kind, grow_stays, grow_up}
-use borrow.Author.Rules.{rules}
 use Rattle.plan.proofs.put.growing.Goals as goal
 
 pub returns-then-count-most_children : goal.returns-then-count-most_children

@@ -8,7 +8,6 @@ use Rattle.model.specs.Tree.{up8}
 use Rattle.room.proofs.FitLaws.{asks_small}
 use Rattle.plan.specs.Plan.{fork_takes, grow_takes}
 use Rattle.plan.proofs.PutLaws.{sized, sized_if, small_found, small_new, fork_few, grow_few, asks_empty, asks_found, asks_other, asks_missing, asks_parted, size_fits, extent_fits, leaf_room, node_room, other_short, beginning_at, cut_fits, cut_few, last_end}
-use borrow.Author.Rules.{rules}
 use Rattle.plan.proofs.put.put_needs.Goals as goal
 
 pub rounded-extent-requires : goal.rounded-extent-requires

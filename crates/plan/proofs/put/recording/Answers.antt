@@ -1,6 +1,5 @@
 -- `recording` adds a Leaf and the extent. Assumes nothing.
 use mathlib.Core.List.{◌∷◌}
-use borrow.Author.Rules.{rules}
 use Rattle.plan.proofs.put.recording.Goals as goal
 
 pub returns : goal.returns

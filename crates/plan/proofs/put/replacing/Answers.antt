@@ -1,7 +1,6 @@
 -- `replacing` needs the extent where the lengths differ. Assumes nothing.
 use mathlib.Core.List.{[]}
 use Rattle.plan.proofs.PutLaws.{same_length, other_length}
-use borrow.Author.Rules.{rules}
 use Rattle.plan.proofs.put.replacing.Goals as goal
 
 pub returns-then-new-old : goal.returns-then-new-old

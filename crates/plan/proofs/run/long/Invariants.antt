@@ -1,8 +1,6 @@
 -- `long` opens a Prefix at each turn, until another kind stands there. Assumes nothing.
 use Prim.Native.Nat.{◌-◌, ◌<◌}
-use native.Mathlib.Omega.{arith}
 use Rattle.plan.specs.Run.{Sinks}
-use Rattle.plan.proofs.RunLaws.{run_start, run_end, run_step, run_slot, run_place, run_more}
 use Rattle.plan.proofs.run.long.Given as goal
 
 abbrev pub invariant-loop-e : goal.invariant-loop-e

@@ -1,7 +1,6 @@
 -- `drop_first` looks whether other bytes stand in the Prefix, and whether another Prefix stands below. Assumes nothing.
 use mathlib.Core.Path.{◌∙◌}
 use Rattle.put_cut.proofs.DropLaws.{drop_room, drop_entry, drop_longer, drop_all_of, drop_one_of}
-use borrow.Author.Rules.{rules}
 use Rattle.put_cut.proofs.after.drop_first.Goals as goal
 
 pub child-child-requires : goal.child-child-requires

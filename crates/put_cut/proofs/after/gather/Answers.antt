@@ -1,7 +1,6 @@
 -- `gather` pastes the bytes of the Prefix, and reads the chain below it after them. Assumes nothing.
 use native.Mathlib.Omega.{arith}
 use Rattle.put_cut.proofs.GatherLaws.{gather_reads, gather_done}
-use borrow.Author.Rules.{rules}
 use Rattle.put_cut.proofs.after.gather.Goals as goal
 
 pub read_row-requires : goal.read_row-requires

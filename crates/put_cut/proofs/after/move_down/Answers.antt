@@ -3,7 +3,6 @@ use mathlib.Core.Path.{refl, sym}
 use native.Mathlib.Omega.{arith}
 use lib.Seq.{length-take-le}
 use Rattle.put_cut.proofs.DownLaws.{down_gathers, down_counts, down_takes, down_writes, down_done}
-use borrow.Author.Rules.{rules}
 use Rattle.put_cut.proofs.after.move_down.Goals as goal
 
 pub gather-run-requires : goal.gather-run-requires

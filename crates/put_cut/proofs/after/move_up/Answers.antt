@@ -3,7 +3,6 @@ use mathlib.Core.Path.{refl, sym}
 use native.Mathlib.Omega.{arith}
 use lib.Seq.{length-take-le}
 use Rattle.put_cut.proofs.UpLaws.{up_gathers, up_counts, up_writes, up_done}
-use borrow.Author.Rules.{rules}
 use Rattle.put_cut.proofs.after.move_up.Goals as goal
 
 pub gather-run-requires : goal.gather-run-requires

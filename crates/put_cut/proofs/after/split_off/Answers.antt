@@ -1,7 +1,6 @@
 -- `split_off` looks whether other bytes stand in the Prefix, and whether another Prefix stands below. Assumes nothing.
 use mathlib.Core.Path.{◌∙◌}
 use Rattle.put_cut.proofs.SplitLaws.{split_room, split_entry, split_none, split_takes, split_read, split_tails, split_done}
-use borrow.Author.Rules.{rules}
 use Rattle.put_cut.proofs.after.split_off.Goals as goal
 
 pub child-child-requires : goal.child-child-requires

@@ -1,6 +1,5 @@
 -- `fork` makes the Leaf and writes the Node4. Assumes nothing.
 use Rattle.put_split.proofs.PartLaws.{fork_makes, fork_entry, fork_room, leaf_slot, forked}
-use borrow.Author.Rules.{rules}
 use Rattle.put_split.proofs.parts.fork.Goals as goal
 
 pub new_leaf-leaf-requires : goal.new_leaf-leaf-requires

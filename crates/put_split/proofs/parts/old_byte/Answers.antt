@@ -2,7 +2,6 @@
 use Prim.Native.Nat.{◌+◌, ◌-◌}
 use native.Mathlib.Omega.{arith}
 use Rattle.put_split.proofs.PartLaws.{byte_of}
-use borrow.Author.Rules.{rules}
 use Rattle.put_split.proofs.parts.old_byte.Goals as goal
 
 pub returns : goal.returns

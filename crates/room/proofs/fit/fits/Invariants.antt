@@ -1,12 +1,9 @@
 -- `fits` answers whether needs fit the room. The invariant: the sums are those of the kinds below k, and small. Assumes nothing.
-use Prim.Native.Nat.{◌-◌, ◌*◌, ◌<◌, ◌≤◌}
-use mathlib.Core.Path.{◌≡◌, refl}
-use mathlib.Core.Bool.{false≢true}
-use native.Mathlib.Omega.{arith}
-use borrow.Author.Rules.{rules}
+use Prim.Native.Nat.{◌-◌, ◌*◌, ◌≤◌}
+use mathlib.Core.Path.{◌≡◌}
 use Rattle.layout.specs.Kind.{body_size}
-use Rattle.room.specs.Fit.{lacking, slots_needed, bytes_needed}
-use Rattle.room.proofs.FitLaws.{up_to, up_to_none, up_to_more, all_slots, all_bytes, few_bytes}
+use Rattle.room.specs.Fit.{lacking}
+use Rattle.room.proofs.FitLaws.{up_to}
 use Rattle.room.proofs.fit.fits.Given as goal
 
 abbrev pub invariant-loop-k : goal.invariant-loop-k

@@ -1,6 +1,5 @@
 -- `extend` writes key and value at B and moves B by the rounded size. Assumes nothing.
 use Rattle.room.proofs.CodeLaws.{extend_law}
-use borrow.Author.Rules.{rules}
 use Rattle.room.proofs.heap.extend.Goals as goal
 
 pub returns : goal.returns

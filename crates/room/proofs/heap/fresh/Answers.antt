@@ -1,6 +1,5 @@
 -- `fresh` gives out slot U + 1 and the bytes at B. Assumes nothing.
 use Rattle.room.proofs.CodeLaws.{fresh_writes}
-use borrow.Author.Rules.{rules}
 use Rattle.room.proofs.heap.fresh.Goals as goal
 
 pub returns : goal.returns

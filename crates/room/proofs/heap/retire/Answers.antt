@@ -1,7 +1,6 @@
 -- `retire` writes zero over an extent and adds to X. Assumes nothing.
 use native.Mathlib.Omega.{arith}
 use Rattle.room.proofs.CodeLaws.{retire_ok, retire_same, retire_law}
-use borrow.Author.Rules.{rules}
 use Rattle.room.proofs.heap.retire.Goals as goal
 
 pub clear-requires : goal.clear-requires

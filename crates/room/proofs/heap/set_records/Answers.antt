@@ -1,6 +1,5 @@
 -- `set_records` sets R. Assumes nothing.
 use Rattle.room.proofs.CodeLaws.{records_law}
-use borrow.Author.Rules.{rules}
 use Rattle.room.proofs.heap.set_records.Goals as goal
 
 pub returns : goal.returns

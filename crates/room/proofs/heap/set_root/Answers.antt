@@ -1,6 +1,5 @@
 -- `set_root` sets the root slot. Assumes nothing.
 use Rattle.room.proofs.CodeLaws.{root_law}
-use borrow.Author.Rules.{rules}
 use Rattle.room.proofs.heap.set_root.Goals as goal
 
 pub returns : goal.returns

@@ -1,7 +1,6 @@
 -- `take` gives a body as the heap says: from its list, else a fresh one. Assumes nothing.
 use native.Mathlib.Omega.{arith}
 use Rattle.room.proofs.CodeLaws.{fresh_ok, pop_ok, take_fresh, take_pop}
-use borrow.Author.Rules.{rules}
 use Rattle.room.proofs.heap.take.Goals as goal
 
 pub fresh-requires : goal.fresh-requires

@@ -1,9 +1,7 @@
 -- Nothing is asked for; or going along the list, for every heap that the frame has. Assumes nothing.
 use Prim.Native.Nat.{◌-◌, ◌≤◌}
-use native.Mathlib.Omega.{arith}
 use Rattle.model.specs.Frame.{View, Heap}
-use Rattle.room.proofs.LeftLaws.{Along, along_start, along_end, along_most, along_next, along_in, heap_fits}
-use borrow.Author.Rules.{rules}
+use Rattle.room.proofs.LeftLaws.{Along}
 use Rattle.room.proofs.left.listed.Given as goal
 
 abbrev pub invariant-loop-n : goal.invariant-loop-n

@@ -1,10 +1,8 @@
 -- The lists of the kinds below `kind` are read; then the three numbers are those of the state. Assumes nothing.
 use Prim.Native.Nat.{◌-◌, ◌≤◌}
-use mathlib.Core.Path.{◌≡◌, refl, ◌∙◌}
-use native.Mathlib.Omega.{arith}
-use lib.ListN.{length, length-set}
-use Rattle.room.proofs.LeftLaws.{heap_fits, Counted, counted_none, counted_more, room_is}
-use borrow.Author.Rules.{rules as needed}
+use mathlib.Core.Path.{◌≡◌}
+use lib.ListN.{length}
+use Rattle.room.proofs.LeftLaws.{Counted}
 use Rattle.room.proofs.left.room_for.Given as goal
 
 abbrev pub invariant-loop-kind : goal.invariant-loop-kind

@@ -1,6 +1,5 @@
 -- `relink` writes the root slot field or a child. Assumes nothing.
 use native.Mathlib.Omega.{arith}
-use borrow.Author.Rules.{rules}
 use Rattle.room.proofs.link.relink.Goals as goal
 
 pub returns-then-at-eq-AT_ROOT : goal.returns-then-at-eq-AT_ROOT

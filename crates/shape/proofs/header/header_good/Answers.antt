@@ -1,9 +1,8 @@
 -- `header_good` tells a good header, with HeaderLaws at each exit. Assumes nothing.
 use mathlib.Core.Path.{sym, ◌∙◌}
 use native.Mathlib.Omega.{arith}
-use Rattle.shape.proofs.HeaderLaws.{HeaderRead, header_denied, header_edition, header_numbers, header_end}
+use Rattle.shape.proofs.HeaderLaws.{header_denied, header_edition, header_numbers, header_end}
 use Rattle.pieces.proofs.DecideLaws.{refuted, passed}
-use borrow.Author.Rules.{rules}
 use Rattle.shape.proofs.header.header_good.Goals as goal
 
 pub returns-then-edition-number_of : goal.returns-then-edition-number_of

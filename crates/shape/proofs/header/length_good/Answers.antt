@@ -1,6 +1,5 @@
 -- `length_good` decides refusal 1. Assumes nothing.
 use native.Mathlib.Omega.{arith}
-use borrow.Author.Rules.{rules}
 use lib.ListN.{length}
 use Rattle.pieces.proofs.DecideLaws.{denied, by_eq}
 use Rattle.shape.proofs.header.length_good.Goals as goal

@@ -1,6 +1,5 @@
 -- `numbers_fit` decides the limits of N, D, B and U. Assumes nothing.
 use native.Mathlib.Omega.{arith}
-use borrow.Author.Rules.{rules}
 use Rattle.pieces.proofs.DecideLaws.{denied, by_le}
 use Rattle.shape.proofs.header.numbers_fit.Goals as goal
 

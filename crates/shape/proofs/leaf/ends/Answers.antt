@@ -1,6 +1,5 @@
 -- `ends` decides `Ends`. Assumes nothing.
 use native.Mathlib.Omega.{arith}
-use borrow.Author.Rules.{rules}
 use Rattle.pieces.proofs.DecideLaws.{granted, denied, by_eq}
 use Rattle.shape.proofs.leaf.ends.Goals as goal
 

@@ -2,7 +2,6 @@
 use mathlib.Core.Path.{sym, ◌∙◌}
 use Rattle.shape.proofs.LeafLaws.{fault_two, under_legal}
 use Rattle.pieces.proofs.DecideLaws.{denied}
-use borrow.Author.Rules.{rules}
 use Rattle.shape.proofs.leaf.escaped_good.Goals as goal
 
 pub returns-then-fault-ne0 : goal.returns-then-fault-ne0

@@ -2,7 +2,6 @@
 use Prim.Native.Nat.{◌+◌}
 use native.Mathlib.Omega.{arith}
 use Rattle.pieces.proofs.DecideLaws.{denied, by_le}
-use borrow.Author.Rules.{rules}
 use Rattle.shape.proofs.leaf.extent_fits.Goals as goal
 
 pub returns-then-e-ne0 : goal.returns-then-e-ne0

@@ -1,6 +1,5 @@
 -- `key_good` is the test of the edition. Assumes nothing.
 use Rattle.shape.proofs.LeafLaws.{under_two, under_other, under_part}
-use borrow.Author.Rules.{rules}
 use Rattle.shape.proofs.leaf.key_good.Goals as goal
 
 pub returns-then-edition-eq-SECOND : goal.returns-then-edition-eq-SECOND

@@ -1,8 +1,7 @@
 -- `leaf_good` tells a good Leaf and its extent, with LeafLaws at each exit. Assumes nothing.
 use lib.ListN.{take}
-use Rattle.shape.proofs.LeafLaws.{LeafRead, leaf_denied, leaf_room, leaf_extent_lem, leaf_stamp_lem, leaf_key_lem, leaf_end}
+use Rattle.shape.proofs.LeafLaws.{leaf_denied, leaf_room, leaf_extent_lem, leaf_stamp_lem, leaf_key_lem, leaf_end}
 use Rattle.pieces.proofs.DecideLaws.{refuted, passed}
-use borrow.Author.Rules.{rules}
 use Rattle.shape.proofs.leaf.leaf_good.Goals as goal
 
 pub returns-then-not-extent_fits : goal.returns-then-not-extent_fits

@@ -3,9 +3,8 @@ use mathlib.Core.Path.{sym, ◌∙◌}
 use mathlib.Core.List.{[]}
 use native.Mathlib.Omega.{arith}
 use Rattle.model.specs.Edition.{edition_of}
-use Rattle.shape.proofs.LeafLaws.{LeafRead, leaf_denied, leaf_room, leaf_extent_lem, leaf_stamp_lem, leaf_key_lem, leaf_end, under_lone, part_is}
+use Rattle.shape.proofs.LeafLaws.{leaf_denied, leaf_room, leaf_extent_lem, leaf_stamp_lem, leaf_key_lem, leaf_end, under_lone, part_is}
 use Rattle.pieces.proofs.DecideLaws.{refuted, passed}
-use borrow.Author.Rules.{rules}
 use Rattle.shape.proofs.leaf.lone_good.Goals as goal
 
 pub returns-then-not-extent_fits : goal.returns-then-not-extent_fits

@@ -2,7 +2,6 @@
 use native.Mathlib.Omega.{arith}
 use Rattle.shape.proofs.LeafLaws.{plain_end, plain_follows, plain_of, plain_by}
 use Rattle.pieces.proofs.DecideLaws.{denied, refuted, passed}
-use borrow.Author.Rules.{rules}
 use Rattle.shape.proofs.leaf.plain_good.Goals as goal
 
 pub returns-then-k-lt1 : goal.returns-then-k-lt1

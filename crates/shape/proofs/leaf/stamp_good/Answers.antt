@@ -2,7 +2,6 @@
 use native.Mathlib.Omega.{arith}
 use Rattle.pieces.proofs.DecideLaws.{granted}
 use Rattle.shape.proofs.LeafLaws.{stamp_second, stamp_other}
-use borrow.Author.Rules.{rules}
 use Rattle.shape.proofs.leaf.stamp_good.Goals as goal
 
 pub returns-then-edition-eq-SECOND : goal.returns-then-edition-eq-SECOND

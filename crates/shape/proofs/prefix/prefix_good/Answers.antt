@@ -1,6 +1,5 @@
 -- `prefix_good` decides that a Prefix stands there, with PrefixLaws at each exit. Assumes nothing.
 use native.Mathlib.Omega.{arith}
-use borrow.Author.Rules.{rules}
 use Rattle.shape.proofs.PrefixLaws.{prefix_long, prefix_blank, prefix_end}
 use Rattle.pieces.proofs.DecideLaws.{denied, refuted, passed}
 use Rattle.shape.proofs.prefix.prefix_good.Goals as goal

@@ -1,7 +1,6 @@
 -- Each way out is one of erase's ends. Assumes nothing.
 use native.Mathlib.Omega.{arith}
 use Rattle.store.proofs.EraseCallLaws.{erase_one, erase_two, erase_three, erase_four, erase_asked, erase_made}
-use borrow.Author.Rules.{rules}
 use Rattle.store.proofs.erase.erase.Goals as goal
 
 pub returns-then-n-eq-BAD_LENGTH : goal.returns-then-n-eq-BAD_LENGTH

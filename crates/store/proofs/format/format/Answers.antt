@@ -6,7 +6,6 @@ use Rattle.model.specs.Edition.{edition_of}
 use Rattle.model.proofs.Edition2.{lawful_of}
 use Rattle.pieces.proofs.DecideLaws.{passed, refuted}
 use Rattle.store.proofs.FormatLaws.{refused, formatted}
-use borrow.Author.Rules.{rules}
 use Rattle.store.proofs.format.format.Goals as goal
 
 pub returns-then-frame-length : goal.returns-then-frame-length

@@ -1,7 +1,6 @@
 -- Each test refuses what is against the limits, and what passes them all is within. Assumes nothing.
 use native.Mathlib.Omega.{arith}
 use Rattle.pieces.proofs.DecideLaws.{granted, denied}
-use borrow.Author.Rules.{rules}
 use Rattle.store.proofs.format.limits_hold.Goals as goal
 
 pub returns-then-length-ne0 : goal.returns-then-length-ne0

@@ -1,6 +1,5 @@
 -- The numbers are read one by one, and the lists at once. Assumes nothing.
 use Rattle.store.proofs.InfoLaws.{counts_are}
-use borrow.Author.Rules.{rules}
 use Rattle.store.proofs.info.counts.Goals as goal
 
 pub returns : goal.returns

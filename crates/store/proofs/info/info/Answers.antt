@@ -3,7 +3,6 @@ use mathlib.Core.List.{[]}
 use native.Mathlib.Omega.{arith}
 use Rattle.store.proofs.LookLaws.{standing}
 use Rattle.store.proofs.InfoLaws.{info_one, info_two, info_told}
-use borrow.Author.Rules.{rules}
 use Rattle.store.proofs.info.info.Goals as goal
 
 pub returns-then-n-eq-BAD_LENGTH : goal.returns-then-n-eq-BAD_LENGTH

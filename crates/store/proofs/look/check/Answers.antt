@@ -1,7 +1,6 @@
 -- Each way out has the check's number. Assumes nothing.
 use mathlib.Core.Path.{◌≡◌}
 use native.Mathlib.Omega.{arith}
-use borrow.Author.Rules.{rules}
 use Rattle.store.proofs.LookLaws.{check_two}
 use Rattle.store.proofs.look.check.Goals as goal
 

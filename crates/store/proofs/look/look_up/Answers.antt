@@ -2,7 +2,6 @@
 use mathlib.Core.List.{[]}
 use native.Mathlib.Omega.{arith}
 use Rattle.store.proofs.LookLaws.{end_one, end_two, end_three, end_four, end_found, end_absent, standing, legal_key}
-use borrow.Author.Rules.{rules}
 use Rattle.store.proofs.look.look_up.Goals as goal
 
 pub returns-then-n-eq-BAD_LENGTH : goal.returns-then-n-eq-BAD_LENGTH

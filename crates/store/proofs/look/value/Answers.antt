@@ -2,7 +2,6 @@
 use mathlib.Core.List.{[]}
 use native.Mathlib.Omega.{arith}
 use Rattle.store.proofs.LookLaws.{standing, legal_key, value_refused, value_illegal, value_told}
-use borrow.Author.Rules.{rules}
 use Rattle.store.proofs.look.value.Goals as goal
 
 pub returns-then-n-ne-GOOD : goal.returns-then-n-ne-GOOD

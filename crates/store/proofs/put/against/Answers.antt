@@ -1,7 +1,6 @@
 -- Each way out is one of the tests' ends. Assumes nothing.
 use native.Mathlib.Omega.{arith}
 use Rattle.store.proofs.PutCallLaws.{bar_one, bar_two, bar_three, bar_four, bar_five, bar_none}
-use borrow.Author.Rules.{rules}
 use Rattle.store.proofs.put.against.Goals as goal
 
 pub returns-then-n-eq-BAD_LENGTH : goal.returns-then-n-eq-BAD_LENGTH

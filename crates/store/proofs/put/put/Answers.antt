@@ -1,7 +1,6 @@
 -- A put is barred, or made on a good frame. Assumes nothing.
 use Rattle.model.specs.State.{new}
 use Rattle.store.proofs.PutCallLaws.{made, made_for, nothing_barred, barred_by}
-use borrow.Author.Rules.{rules}
 use Rattle.store.proofs.put.put.Goals as goal
 
 pub put_new-requires : goal.put_new-requires

@@ -1,7 +1,6 @@
 -- Either is barred, or made on a good frame. Assumes nothing.
 use Rattle.model.specs.State.{either}
 use Rattle.store.proofs.PutCallLaws.{made, made_for, nothing_barred, barred_by}
-use borrow.Author.Rules.{rules}
 use Rattle.store.proofs.put.put_or_replace.Goals as goal
 
 pub put_or_replace-requires : goal.put_or_replace-requires

@@ -1,7 +1,6 @@
 -- A replacement is barred, or made on a good frame. Assumes nothing.
 use Rattle.model.specs.State.{replacing}
 use Rattle.store.proofs.PutCallLaws.{made, made_for, nothing_barred, barred_by}
-use borrow.Author.Rules.{rules}
 use Rattle.store.proofs.put.replace.Goals as goal
 
 pub replace-requires : goal.replace-requires

@@ -1,5 +1,4 @@
 -- `below_node` makes the spot at a child of an inner node. Assumes nothing.
-use borrow.Author.Rules.{rules}
 use Rattle.descent.proofs.spot.Spot.below_node.Goals as goal
 
 pub returns : goal.returns

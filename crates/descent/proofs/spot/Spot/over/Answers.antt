@@ -1,7 +1,6 @@
 -- `over`: the Prefix just above is kept only where no node stands between. Assumes nothing.
 use mathlib.Core.Path.{refl}
 use borrow.Author.Tests.{eq-eqb, ne_eqb}
-use borrow.Author.Rules.{rules}
 use Rattle.descent.proofs.spot.Spot.over.Goals as goal
 
 pub returns-then-node-eq0 : goal.returns-then-node-eq0

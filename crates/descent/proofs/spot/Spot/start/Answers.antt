@@ -1,5 +1,4 @@
 -- `start` makes the spot at the root. Assumes nothing.
-use borrow.Author.Rules.{rules}
 use Rattle.descent.proofs.spot.Spot.start.Goals as goal
 
 pub returns : goal.returns

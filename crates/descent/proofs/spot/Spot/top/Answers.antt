@@ -3,7 +3,6 @@ use mathlib.Core.Path.{◌≡◌, refl, sym, ap, ◌∙◌}
 use borrow.Author.Tests.{eq-eqb, ne_eqb}
 use Rattle.descent.specs.declared.spot.Body.{Body}
 use Rattle.descent.specs.Spot.{over_of}
-use borrow.Author.Rules.{rules}
 use Rattle.descent.proofs.spot.Spot.top.Goals as goal
 
 pub returns-then-over-eq0 : goal.returns-then-over-eq0

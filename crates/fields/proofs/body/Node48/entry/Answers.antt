@@ -1,7 +1,6 @@
 -- `entry` is the byte at the entry's place. Assumes nothing.
 use mathlib.Core.Path.{◌∙◌}
 use Rattle.layout.proofs.NumberLaws.{le1}
-use borrow.Author.Rules.{rules}
 use Rattle.fields.proofs.body.Node48.entry.Goals as goal
 
 pub returns : goal.returns

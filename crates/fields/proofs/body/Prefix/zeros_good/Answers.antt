@@ -1,6 +1,5 @@
 -- Ten zeros are two and eight. Assumes nothing.
 use native.Mathlib.Omega.{arith}
-use borrow.Author.Rules.{rules}
 use Rattle.pieces.proofs.DecideLaws.{denied}
 use Rattle.fields.proofs.BodyLaws.{ten_two, ten_eight}
 use Rattle.fields.proofs.body.Prefix.zeros_good.Goals as goal

@@ -1,7 +1,6 @@
 -- `byte` is the byte at its place. Assumes nothing.
 use mathlib.Core.Path.{◌∙◌}
 use Rattle.layout.proofs.NumberLaws.{le1}
-use borrow.Author.Rules.{rules}
 use Rattle.fields.proofs.body.Rows.byte.Goals as goal
 
 pub returns : goal.returns

@@ -1,7 +1,6 @@
 -- `with` adds one body of a kind to the needs. Assumes nothing.
 use mathlib.Core.Path.{refl}
 use native.Mathlib.Omega.{arith}
-use borrow.Author.Rules.{rules}
 use Rattle.room.proofs.FitLaws.{asks_with}
 use Rattle.room.proofs.fit.Needs.with.Goals as goal
 
