@@ -19,7 +19,7 @@ abbrev pub value_in : List ℕ → Option Part → Option Value
 value_in f none = none
 value_in f (some p) = some (record { bytes = take p.long (drop p.at f); stamp = p.stamp })
 
--- n bytes on from a place in memory, which is a block and an offset in it (`ptr` of a reference)
+-- n bytes on from a place in memory, which is a block and an offset in it (`ref_ptr` of a reference)
 abbrev pub shifted : ℕ × ℕ → ℕ → ℕ × ℕ
 shifted p n = (p.0, n + p.1)
 

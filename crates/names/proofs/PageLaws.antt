@@ -44,8 +44,8 @@ module _ {E : Edition} (N : Naming E) {f : List ℕ} {root : ℕ} (p : List ℕ)
     asc = (tree_records N.lawful f S.path S.lay S.bytes S.tree).0
 
     -- of the tree itself
-    first_leaf : {r : Entry} → Next E f p d rs (after_start (some s) (names d p rs)) r → FirstEntry E f root p (start_of given s) d r
-    first_leaf {r} X = rw e (of_sub S (λ (l : Lay). Next E f p d (records (art l)) (after_start (some s) (names d p (records (art l)))) r) X)
+    first_of_tree : {r : Entry} → Next E f p d rs (after_start (some s) (names d p rs)) r → FirstEntry E f root p (start_of given s) d r
+    first_of_tree {r} X = rw e (of_sub S (λ (l : Lay). Next E f p d (records (art l)) (after_start (some s) (names d p (records (art l)))) r) X)
 
     next_as : (z : Option (List ℕ)) {r : Entry} → after_start z (names d p rs) ≡ after_start (some s) (names d p rs) → Next E f p d rs (after_start z (names d p rs)) r → Next E f p d rs (after_start (some s) (names d p rs)) r
     next_as z {r} q X = subst (λ (x : List (List ℕ)). Next E f p d rs x r) q X
@@ -57,7 +57,7 @@ module _ {E : Edition} (N : Naming E) {f : List ℕ} {root : ℕ} (p : List ℕ)
         let F = tree_records N.lawful f S.path S.lay S.bytes S.tree in
         let W : names d p (above x c.tail rs) ≡ after_start (some s) (names d p rs) = rw (ex, z.0, z.1) (above_start E d p s rs b F.0 F.1) in
         let B : begins p x ≡ true = rw (ex, z.0) (entry_twice d p s b).0 in
-        first_leaf (H S.path S.lay S.tree S.slot_is B (some s) W)
+        first_of_tree (H S.path S.lay S.tree S.slot_is B (some s) W)
 
     module _ (b : begins p s ≡ false) {w : ℕ} (ew : w ≡ weigh (drop 0 p) 0 (take (length s) (drop 0 s))) where
       weighs : w ≡ weigh p 0 s
@@ -65,13 +65,13 @@ module _ {E : Edition} (N : Naming E) {f : List ℕ} {root : ℕ} (p : List ℕ)
 
       -- it stands above all that begins with the prefix
       pub first_above : {r : Entry} → w ≡ 2 → r.there ≡ false → FirstEntry E f root p (start_of given s) d r
-      first_above {r} q n = first_leaf (record { gone = λ _. start_none d p s (λ k m. above_none d p s b (sym weighs ∙ q) k m) rs asc; there = λ y. clash (cc) })
+      first_above {r} q n = first_of_tree (record { gone = λ _. start_none d p s (λ k m. above_none d p s b (sym weighs ∙ q) k m) rs asc; there = λ y. clash (cc) })
 
       -- or below
       pub first_below : {r : Entry} → (w ≡ 2 → ⊥) → EntryFrom E f root p d p 0 r → FirstEntry E f root p (start_of given s) d r
       first_below {r} q H =
           let W = start_all d p s (λ k m. below_prefix d p s b (λ y. q (weighs ∙ y)) k m) rs asc in
-          first_leaf (next_as none (sym W) (H S.path S.lay S.tree S.slot_is (begins_self p) none (above_prefix d p rs)))
+          first_of_tree (next_as none (sym W) (H S.path S.lay S.tree S.slot_is (begins_self p) none (above_prefix d p rs)))
 
 -- a start key that is given is short
 pub start_short : {E : Edition} → Naming E → (given : Bool) (s : List ℕ) → given ≡ true → StartGood E (start_of given s) → length s ≤ 255

@@ -38,6 +38,6 @@ paste-requires-2 c = omega arith
 
 pub returns : goal.returns
 returns c =
-    let f = c.args.frame.now in let g = c.args.second.now in let b = c.args.batch.now in let lent = c.args.answers.now in let e = c.if-second-frame.false in let p = pasted_all g _ f c.paste.ensures e in
+    let f = c.args.frame.now in let g = c.args.second.now in let b = c.args.batch.now in let lent = c.args.answers.now in let e = c.if-second-frame.false in let p = pasted_all g _ f c.paste.ensures e in  -- with the second frame
     let out = c.carry_out.ensures in let trial = c.trial-end in let q = pasted_all _ _ _ c.paste-2.ensures (omega arith) in
     carried _ f g b lent (standing _ f [] _ c.check-n.ensures c.if-n-ne-GOOD.false) e (is_laid _ b _ c.well_laid.ensures c.if-not-well_laid.false-raw) trial.result _ (tried_as p trial.ensures) c.if-end-ne0.false out.numbers _ out.all _ _ out.tells q
