@@ -14,13 +14,6 @@ use store_bench::measure::alternate;
 use store_bench::random::Random;
 use store_bench::workload::{sought, sought_text, Record, SOUGHT};
 
-/// A slice as the module passes it, by its address.
-#[repr(C)]
-struct Slice {
-    at: *const u8,
-    length: usize,
-}
-
 /// What a look-up gives: whether it found the key stands first, then place, length,
 /// slots and stamp.
 #[repr(C)]
@@ -29,11 +22,26 @@ struct Held {
     numbers: [usize; 4],
 }
 
-type Find = unsafe extern "C" fn(*mut Held, *const Slice, *const Slice, usize);
+/// The module passes a slice as an address and a length: the frame, the key, the edition.
+type Find = unsafe extern "C" fn(*mut Held, *const u8, usize, *const u8, usize, usize);
 
 extern "C" {
-    fn linear_find(held: *mut Held, frame: *const Slice, key: *const Slice, edition: usize);
-    fn halving_find(held: *mut Held, frame: *const Slice, key: *const Slice, edition: usize);
+    fn linear_find(
+        held: *mut Held,
+        frame: *const u8,
+        frame_length: usize,
+        key: *const u8,
+        key_length: usize,
+        edition: usize,
+    );
+    fn halving_find(
+        held: *mut Held,
+        frame: *const u8,
+        frame_length: usize,
+        key: *const u8,
+        key_length: usize,
+        edition: usize,
+    );
 }
 
 /// Of the frames that are searched.
@@ -43,21 +51,16 @@ const EDITION: usize = 1;
 /// that no row of jumps is met again.
 const LOOK_UPS: usize = 4_096;
 
-fn slice(bytes: &[u8]) -> Slice {
-    Slice { at: bytes.as_ptr(), length: bytes.len() }
-}
-
 /// Nanoseconds a look-up.
 fn look_ups(find: Find, frame: &[u8], records: &[Record], random: &mut Random) -> f64 {
-    let frame = slice(frame);
-    let keys: Vec<Slice> =
-        (0..LOOK_UPS).map(|_| slice(&records[random.below(records.len())].key)).collect();
+    let keys: Vec<&[u8]> =
+        (0..LOOK_UPS).map(|_| &records[random.below(records.len())].key[..]).collect();
     let mut held = Held { found: false, numbers: [0; 4] };
     let mut found = 0;
     let start = Instant::now();
     for key in &keys {
         // SAFETY: the frame is a good one, and both slices live through the call.
-        unsafe { find(&mut held, &frame, key, EDITION) };
+        unsafe { find(&mut held, frame.as_ptr(), frame.len(), key.as_ptr(), key.len(), EDITION) };
         found += usize::from(black_box(&held).found);
     }
     let time = start.elapsed();
