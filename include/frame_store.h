@@ -377,7 +377,8 @@ uint32_t frame2_replace(uint8_t *frame, frame_length frame_len, const uint8_t *k
 
 uint32_t frame2_erase(uint8_t *frame, frame_length frame_len, const uint8_t *key, frame_length key_len);
 
-/* The one call that takes much stack: 73 KB on the deepest tree that a frame of edition 2 can hold (edition 1: 16 KB); every other takes at most 14 KB. */
+/* The one call that takes much stack: 33 to 66 KB, by the machine, on the deepest tree that a frame of edition 2 can hold (edition 1: 10 to 15 KB); every other takes at
+   most 14 KB. */
 uint32_t frame2_pack(const uint8_t *frame, frame_length frame_len, uint8_t *out, frame_length out_len);
 
 uint32_t frame2_info(const uint8_t *frame, frame_length frame_len, uint64_t *counts, frame_length fourteen);
