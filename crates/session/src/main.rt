@@ -1,6 +1,6 @@
 // The session over all its lines, run on document 01's example. What is written for what is read is said of slices (`part`). Here the
 // system's calls read and write, and no contract can say what they do: that what `part` gives is written once, in order, is seen by
-// reading the four functions.
+// reading the five functions.
 #![tactic(auto)]
 
 mod part;
