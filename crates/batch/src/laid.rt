@@ -27,7 +27,7 @@ pub fn count(b: &[u8]) -> usize
     requires { count_size ≤ length b.now }
     ensures { (result ≡ count_in b.now) × (result < 4294967296) }
 {
-    number::read4(b, 0)
+    number::read::<4>(b, 0)
 }
 
 // The offset of change i.
@@ -35,28 +35,28 @@ pub fn offset(b: &[u8], i: usize) -> usize
     requires { (i < 4294967296) × (offset_at i + 4 ≤ length b.now) }
     ensures { (result ≡ offset_of b.now i) × (result < 4294967296) }
 {
-    number::read4(b, COUNT_SIZE + OFFSET_SIZE * i)
+    number::read::<4>(b, COUNT_SIZE + OFFSET_SIZE * i)
 }
 
 pub fn kind(b: &[u8], o: usize) -> usize
     requires { (o < 4294967296) × (o + at_stamp ≤ length b.now) }
     ensures { (result ≡ kind_at b.now o) × (result < 65536) }
 {
-    number::read2(b, o)
+    number::read::<2>(b, o)
 }
 
 pub fn key_length(b: &[u8], o: usize) -> usize
     requires { (o < 4294967296) × (o + at_stamp ≤ length b.now) }
     ensures { (result ≡ key_long b.now o) × (result < 65536) }
 {
-    number::read2(b, o + AT_KEY_LENGTH)
+    number::read::<2>(b, o + AT_KEY_LENGTH)
 }
 
 pub fn value_length(b: &[u8], o: usize) -> usize
     requires { (o < 4294967296) × (o + at_stamp ≤ length b.now) }
     ensures { (result ≡ value_long b.now o) × (result < 4294967296) }
 {
-    number::read4(b, o + AT_VALUE_LENGTH)
+    number::read::<4>(b, o + AT_VALUE_LENGTH)
 }
 
 // Where the key of a change stands, counted from its start: edition 2 has a stamp before it.
@@ -75,7 +75,7 @@ pub fn stamp(b: &[u8], o: usize, edition: usize) -> usize
     ensures { (result ≡ stamp_at (edition_of edition) b.now o) × (result < (edition_of edition).stamps) }
 {
     if edition == keys::SECOND {
-        return number::read8(b, o + AT_STAMP);
+        return number::read::<8>(b, o + AT_STAMP);
     }
     0
 }

@@ -63,7 +63,7 @@ fn sought_ending(key: &[u8], from: usize, delimiter: usize) -> Cut
 {
     let mut i = from;
     while i < key.len() {
-        if number::read1(key, i) == delimiter {
+        if number::read::<1>(key, i) == delimiter {
             return Cut {
                 long: i + 1,
                 tail: PAST_GROUP,
@@ -171,6 +171,6 @@ pub fn write(buffer: &mut [u8], at: usize, entry: &[u8])
     requires { (at + (2 + length entry.now) ≤ length buffer.old) × (length entry.now < 65536) }
     ensures { buffer.new ≡ take at buffer.old ++ ((digits 2 (length entry.now) ++ entry.now) ++ drop (at + (2 + length entry.now)) buffer.old) }
 {
-    number::write2(buffer, at, entry.len());
+    number::write::<2>(buffer, at, entry.len());
     moves::fill::paste(buffer, at + LENGTH_SIZE, entry);
 }

@@ -25,8 +25,8 @@ fn read(f: &[u8], at: usize) -> u64
     requires { at + 8 ≤ length f.now }
     ensures { result ≡ le 8 f.now at }
 {
-    let lower = number::read4(f, at);
-    let upper = number::read4(f, at + 4);
+    let lower = number::read::<4>(f, at);
+    let upper = number::read::<4>(f, at + 4);
     (lower as u64) + UPPER * (upper as u64)
 }
 

@@ -65,10 +65,10 @@ fn copy(f: &mut [u8], src: usize, dst: usize, n: usize)
     ensures { Moved f.old f.new src dst n }
 {
     if dst <= src {
-        moves::slide_down(f, src, dst, n);
+        moves::slide(f, src, dst, n);
         return;
     }
-    moves::slide_up(f, src, dst, n);
+    moves::slide(f, src, dst, n);
 }
 
 // The first k bytes of the Prefix at `low` join at the end.
@@ -104,7 +104,7 @@ pub fn drop_front(f: &mut [u8], o: usize, q: usize)
     let n = Prefix::length(f, o);
     let left = n - q;
     let at = o + Prefix::BYTES;
-    moves::slide_down(f, at + q, at, left);
+    moves::slide(f, at + q, at, left);
     moves::clear(f, at + left, q);
     Prefix::set_length(f, o, left);
 }
