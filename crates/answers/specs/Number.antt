@@ -1,28 +1,15 @@
 -- "Numbers a call can give": the number of each answer, and what look-up, info and a listing tell besides.
-use Rattle.std.specs.Prelude.{ℕ, List, [], ◌∷◌, Bool, true, false}
+use Rattle.std.specs.Prelude.{ℕ, Result, Ok, Err, List, [], ◌∷◌, Bool, true, false}
 use Rattle.answers.specs.declared.Refusal.{Refusal}
 use Rattle.answers.specs.declared.Refusal.TheVariants as refusal
-use Rattle.answers.specs.declared.Format.{Format}
-use Rattle.answers.specs.declared.Format.TheVariants as format
-use Rattle.answers.specs.declared.Check.{Check}
-use Rattle.answers.specs.declared.Check.TheVariants as check
+use Rattle.answers.specs.declared.Written.{Written}
+use Rattle.answers.specs.declared.Written.TheVariants as written
+use Rattle.answers.specs.declared.Erased.{Erased}
+use Rattle.answers.specs.declared.Erased.TheVariants as erased
 use Rattle.answers.specs.declared.LookUp.{LookUp}
 use Rattle.answers.specs.declared.LookUp.TheVariants as look
-use Rattle.answers.specs.declared.Put.{Put}
-use Rattle.answers.specs.declared.Put.TheVariants as put
-use Rattle.answers.specs.declared.Replace.{Replace}
-use Rattle.answers.specs.declared.Replace.TheVariants as replace
-use Rattle.answers.specs.declared.PutOrReplace.{PutOrReplace}
-use Rattle.answers.specs.declared.PutOrReplace.TheVariants as either
-use Rattle.answers.specs.declared.Erase.{Erase}
-use Rattle.answers.specs.declared.Erase.TheVariants as erase
-use Rattle.answers.specs.declared.Pack.{Pack}
-use Rattle.answers.specs.declared.Pack.TheVariants as pack
+use Rattle.answers.specs.declared.Page.{Page}
 use Rattle.answers.specs.declared.Counts.{Counts}
-use Rattle.answers.specs.declared.Info.{Info}
-use Rattle.answers.specs.declared.Info.TheVariants as info
-use Rattle.answers.specs.declared.List.{List as Listing}
-use Rattle.answers.specs.declared.List.TheVariants as list
 
 abbrev pub refusal_number : Refusal → ℕ
 refusal_number refusal.Length = 1
@@ -33,70 +20,54 @@ refusal_number refusal.ValueLength = 5
 refusal_number refusal.Output = 7
 refusal_number refusal.Room = 6
 refusal_number refusal.Buffer = 10
+refusal_number refusal.Batch = 12
 
-abbrev pub format_number : Format → ℕ
-format_number format.Done = 0
-format_number (format.Refused r) = refusal_number r
+-- of a call: the number of what it did, or the refusal's
+abbrev pub number_of : {A : Type 0} → (A → ℕ) → Result A Refusal → ℕ
+number_of done (Ok x) = done x
+number_of done (Err r) = refusal_number r
 
-abbrev pub check_number : Check → ℕ
-check_number check.Good = 0
-check_number (check.Refused r) = refusal_number r
+-- of what is done, or refused: 0, or the refusal's number
+abbrev pub done_number : {A : Type 0} → Result A Refusal → ℕ
+done_number (Ok x) = 0
+done_number (Err r) = refusal_number r
 
-abbrev pub look_up_number : LookUp → ℕ
-look_up_number (look.Found p n v t) = 0
-look_up_number (look.Absent v) = 8
-look_up_number (look.Refused r) = refusal_number r
+abbrev pub written_number : Written → ℕ
+written_number written.New = 0
+written_number written.Replaced = 9
+written_number written.Present = 11
+written_number written.Absent = 8
+
+abbrev pub erased_number : Erased → ℕ
+erased_number erased.Done = 0
+erased_number erased.Absent = 8
+
+abbrev pub looked_number : LookUp → ℕ
+looked_number (look.Found x) = 0
+looked_number (look.Absent v) = 8
 
 -- "both 0 with any number but 0"
-abbrev pub look_up_place : LookUp → ℕ
-look_up_place (look.Found p n v t) = p
-look_up_place (look.Absent v) = 0
-look_up_place (look.Refused r) = 0
+abbrev pub look_up_place : Result LookUp Refusal → ℕ
+look_up_place (Ok (look.Found x)) = x.place
+look_up_place (Ok (look.Absent v)) = 0
+look_up_place (Err r) = 0
 
-abbrev pub look_up_long : LookUp → ℕ
-look_up_long (look.Found p n v t) = n
-look_up_long (look.Absent v) = 0
-look_up_long (look.Refused r) = 0
+abbrev pub look_up_long : Result LookUp Refusal → ℕ
+look_up_long (Ok (look.Found x)) = x.length
+look_up_long (Ok (look.Absent v)) = 0
+look_up_long (Err r) = 0
 
 -- "Refused look-ups report 0."
-abbrev pub look_up_slots : LookUp → ℕ
-look_up_slots (look.Found p n v t) = v
-look_up_slots (look.Absent v) = v
-look_up_slots (look.Refused r) = 0
+abbrev pub look_up_slots : Result LookUp Refusal → ℕ
+look_up_slots (Ok (look.Found x)) = x.slots
+look_up_slots (Ok (look.Absent v)) = v
+look_up_slots (Err r) = 0
 
 -- (02) "look-up gives it back": 0 with any number but 0
-abbrev pub look_up_stamp : LookUp → ℕ
-look_up_stamp (look.Found p n v t) = t
-look_up_stamp (look.Absent v) = 0
-look_up_stamp (look.Refused r) = 0
-
-abbrev pub put_number : Put → ℕ
-put_number put.New = 0
-put_number put.Present = 11
-put_number (put.Refused r) = refusal_number r
-
-abbrev pub replace_number : Replace → ℕ
-replace_number replace.Done = 9
-replace_number replace.Absent = 8
-replace_number (replace.Refused r) = refusal_number r
-
-abbrev pub put_or_replace_number : PutOrReplace → ℕ
-put_or_replace_number either.New = 0
-put_or_replace_number either.Replaced = 9
-put_or_replace_number (either.Refused r) = refusal_number r
-
-abbrev pub erase_number : Erase → ℕ
-erase_number erase.Done = 0
-erase_number erase.Absent = 8
-erase_number (erase.Refused r) = refusal_number r
-
-abbrev pub pack_number : Pack → ℕ
-pack_number pack.Done = 0
-pack_number (pack.Refused r) = refusal_number r
-
-abbrev pub info_number : Info → ℕ
-info_number (info.Told c) = 0
-info_number (info.Refused r) = refusal_number r
+abbrev pub look_up_stamp : Result LookUp Refusal → ℕ
+look_up_stamp (Ok (look.Found x)) = x.stamp
+look_up_stamp (Ok (look.Absent v)) = 0
+look_up_stamp (Err r) = 0
 
 -- F, N, U, B, R, X, and how many bodies the lists 1 to 8 have
 abbrev pub counted : Counts → List ℕ
@@ -105,23 +76,19 @@ counted c =
     ∷ c.leaf ∷ c.prefix ∷ c.crossing ∷ c.node4 ∷ c.node16 ∷ c.node48 ∷ c.node256 ∷ c.empty_root ∷ []
 
 -- a refusal tells none
-abbrev pub info_told : Info → List ℕ
-info_told (info.Told c) = counted c
-info_told (info.Refused r) = []
-
-abbrev pub list_number : Listing → ℕ
-list_number (list.Done n m) = 0
-list_number (list.Refused r) = refusal_number r
-
--- "how many and whether more remain": 0 with a refusal
-abbrev pub list_count : Listing → ℕ
-list_count (list.Done n m) = n
-list_count (list.Refused r) = 0
+abbrev pub info_told : Result Counts Refusal → List ℕ
+info_told (Ok c) = counted c
+info_told (Err r) = []
 
 abbrev pub one_if : Bool → ℕ
 one_if true = 1
 one_if false = 0
 
-abbrev pub list_more : Listing → ℕ
-list_more (list.Done n m) = one_if m
-list_more (list.Refused r) = 0
+-- "how many and whether more remain": 0 with a refusal
+abbrev pub list_count : Result Page Refusal → ℕ
+list_count (Ok p) = p.count
+list_count (Err r) = 0
+
+abbrev pub list_more : Result Page Refusal → ℕ
+list_more (Ok p) = one_if p.more
+list_more (Err r) = 0

@@ -1,11 +1,11 @@
-// The answers of the public calls as enums by value, and document 01's number for each.
+// What the public calls answer: a refusal, or what they did; and document 01's number for each.
 #![tactic(auto)]
 
-ghost use Rattle.std.specs.Prelude.{◌≡◌};
-ghost use Rattle.answers.specs.Number.{refusal_number, format_number, check_number, look_up_number, put_number, replace_number, put_or_replace_number, erase_number, pack_number, info_number, list_number};
+ghost use Rattle.std.specs.Prelude.{◌≡◌, ℕ};
+ghost use Rattle.answers.specs.Number.{refusal_number, number_of, written_number, erased_number, looked_number};
 
 // "1 to 7 are refusals"
-#[derive(Clone, Copy)]
+#[derive(Clone, Copy, Debug, PartialEq, Eq)]
 pub enum Refusal {
     // 1: F or N against the limits, or the slice length
     Length,
@@ -23,67 +23,57 @@ pub enum Refusal {
     Room,
     // 10: listing: the buffer is too small for the first key
     Buffer,
+    // 12: a batch that is not laid out as one
+    Batch,
 }
 
-#[derive(Clone, Copy)]
-pub enum Format {
-    Done,
-    Refused(Refusal),
-}
-
-#[derive(Clone, Copy)]
-pub enum Check {
-    Good,
-    Refused(Refusal),
-}
-
-#[derive(Clone, Copy)]
-pub enum LookUp {
-    // place, counted from the frame's start, and length of the value; the slots visited; the stamp
-    Found(usize, usize, usize, usize),
-    // the slots visited
-    Absent(usize),
-    Refused(Refusal),
-}
-
-#[derive(Clone, Copy)]
-pub enum Put {
-    New,
-    // the key is there, and nothing was changed
-    Present,
-    Refused(Refusal),
-}
-
-#[derive(Clone, Copy)]
-pub enum Replace {
-    Done,
-    Absent,
-    Refused(Refusal),
-}
-
-// Of those who ask for a new record as well as for replacement.
-#[derive(Clone, Copy)]
-pub enum PutOrReplace {
+// Of a call that puts a new record, replaces one, or does whichever it is.
+#[derive(Clone, Copy, Debug, PartialEq, Eq)]
+pub enum Written {
     New,
     Replaced,
-    Refused(Refusal),
+    // the key is there, and nothing was changed
+    Present,
+    // the key is not there, and nothing was changed
+    Absent,
 }
 
-#[derive(Clone, Copy)]
-pub enum Erase {
+#[derive(Clone, Copy, Debug, PartialEq, Eq)]
+pub enum Erased {
     Done,
     Absent,
-    Refused(Refusal),
 }
 
-#[derive(Clone, Copy)]
-pub enum Pack {
-    Done,
-    Refused(Refusal),
+// Where the value of a key stands.
+#[derive(Clone, Copy, Debug, PartialEq, Eq)]
+pub struct Found {
+    // counted from the frame's start
+    pub place: usize,
+    // of the value
+    pub length: usize,
+    // the slots visited
+    pub slots: usize,
+    pub stamp: usize,
+}
+
+#[derive(Clone, Copy, Debug, PartialEq, Eq)]
+pub enum LookUp {
+    Found(Found),
+    // the slots visited
+    Absent { slots: usize },
+}
+
+// Of a listing.
+#[derive(Clone, Copy, Debug, PartialEq, Eq)]
+pub struct Page {
+    // the entries
+    pub count: usize,
+    // more remain
+    pub more: bool,
 }
 
 // How full a frame is: the numbers of its header, and how many freed bodies of each kind its lists hold.
-#[derive(Clone, Copy)]
+#[derive(Clone, Copy, Debug, PartialEq, Eq)]
 pub struct Counts {
     // F
     pub frame_length: usize,
@@ -108,125 +98,99 @@ pub struct Counts {
     pub empty_root: usize,
 }
 
-#[derive(Clone, Copy)]
-pub enum Info {
-    Told(Counts),
-    Refused(Refusal),
-}
+// ---- numbers
 
-#[derive(Clone, Copy)]
-pub enum List {
-    // how many entries, and whether more remain
-    Done(usize, bool),
-    Refused(Refusal),
-}
-
-pub fn refusal_number(r: Refusal) -> u32
-    ensures { result ≡ refusal_number r }
-{
-    match r {
-        Refusal::Length => 1,
-        Refusal::Frame => 2,
-        Refusal::KeyLength => 3,
-        Refusal::KeyZero => 4,
-        Refusal::ValueLength => 5,
-        Refusal::Output => 7,
-        Refusal::Room => 6,
-        Refusal::Buffer => 10,
+impl Refusal {
+    pub fn number(self) -> u32
+        ensures { result ≡ refusal_number self }
+    {
+        match self {
+            Refusal::Length => 1,
+            Refusal::Frame => 2,
+            Refusal::KeyLength => 3,
+            Refusal::KeyZero => 4,
+            Refusal::ValueLength => 5,
+            Refusal::Output => 7,
+            Refusal::Room => 6,
+            Refusal::Buffer => 10,
+            Refusal::Batch => 12,
+        }
     }
 }
 
-pub fn format_number(a: Format) -> u32
-    ensures { result ≡ format_number a }
-{
-    match a {
-        Format::Done => 0,
-        Format::Refused(r) => refusal_number(r),
+// What a call answers that is not refused.
+pub trait Numbered: Copy {
+    ghost number: { Self → ℕ };
+
+    fn number(self) -> u32
+        ensures { result ≡ number self };
+}
+
+impl Numbered for () {
+    ghost number = { λ _. 0 };
+
+    fn number(self) -> u32 {
+        0
     }
 }
 
-pub fn check_number(a: Check) -> u32
-    ensures { result ≡ check_number a }
-{
-    match a {
-        Check::Good => 0,
-        Check::Refused(r) => refusal_number(r),
+impl Numbered for Written {
+    ghost number = { written_number };
+
+    fn number(self) -> u32 {
+        match self {
+            Written::New => 0,
+            Written::Replaced => 9,
+            Written::Present => 11,
+            Written::Absent => 8,
+        }
     }
 }
 
-pub fn look_up_number(a: LookUp) -> u32
-    ensures { result ≡ look_up_number a }
-{
-    match a {
-        LookUp::Found(_, _, _, _) => 0,
-        LookUp::Absent(_) => 8,
-        LookUp::Refused(r) => refusal_number(r),
+impl Numbered for Erased {
+    ghost number = { erased_number };
+
+    fn number(self) -> u32 {
+        match self {
+            Erased::Done => 0,
+            Erased::Absent => 8,
+        }
     }
 }
 
-pub fn put_number(a: Put) -> u32
-    ensures { result ≡ put_number a }
-{
-    match a {
-        Put::New => 0,
-        Put::Present => 11,
-        Put::Refused(r) => refusal_number(r),
+impl Numbered for LookUp {
+    ghost number = { looked_number };
+
+    fn number(self) -> u32 {
+        match self {
+            LookUp::Found(_) => 0,
+            LookUp::Absent { .. } => 8,
+        }
     }
 }
 
-pub fn replace_number(a: Replace) -> u32
-    ensures { result ≡ replace_number a }
-{
-    match a {
-        Replace::Done => 9,
-        Replace::Absent => 8,
-        Replace::Refused(r) => refusal_number(r),
+impl Numbered for Page {
+    ghost number = { λ _. 0 };
+
+    fn number(self) -> u32 {
+        0
     }
 }
 
-pub fn put_or_replace_number(a: PutOrReplace) -> u32
-    ensures { result ≡ put_or_replace_number a }
-{
-    match a {
-        PutOrReplace::New => 0,
-        PutOrReplace::Replaced => 9,
-        PutOrReplace::Refused(r) => refusal_number(r),
+impl Numbered for Counts {
+    ghost number = { λ _. 0 };
+
+    fn number(self) -> u32 {
+        0
     }
 }
 
-pub fn erase_number(a: Erase) -> u32
-    ensures { result ≡ erase_number a }
+// Of any call, refused or not.
+pub fn number<T: Numbered>(answer: Result<T, Refusal>) -> u32
+    ensures { result ≡ number_of T.number answer }
 {
-    match a {
-        Erase::Done => 0,
-        Erase::Absent => 8,
-        Erase::Refused(r) => refusal_number(r),
-    }
-}
-
-pub fn pack_number(a: Pack) -> u32
-    ensures { result ≡ pack_number a }
-{
-    match a {
-        Pack::Done => 0,
-        Pack::Refused(r) => refusal_number(r),
-    }
-}
-
-pub fn info_number(a: Info) -> u32
-    ensures { result ≡ info_number a }
-{
-    match a {
-        Info::Told(_) => 0,
-        Info::Refused(r) => refusal_number(r),
-    }
-}
-
-pub fn list_number(a: List) -> u32
-    ensures { result ≡ list_number a }
-{
-    match a {
-        List::Done(_, _) => 0,
-        List::Refused(r) => refusal_number(r),
+    match answer {
+        Ok(done) => done.number(),
+        Err(refusal) => refusal.number(),
     }
 }

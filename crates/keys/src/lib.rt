@@ -5,27 +5,18 @@
 ghost use Rattle.std.specs.Prelude.{◌≡◌, [], ◌+◌, ◌-◌, ◌≤◌, ◌<◌, length, get_or, take, drop};
 ghost use Rattle.pieces.specs.Decides.{Decides};
 ghost use Rattle.model.specs.Strings.{has_zero, shared};
-ghost use Rattle.model.specs.Edition.{edition_of, escaped};
+ghost use Rattle.answers.specs.Number.{done_number};
+ghost use Rattle.model.specs.Edition.{escaped};
+ghost use Rattle.editions.specs.Rules.{rules_of};
 ghost use Rattle.model.specs.Frame.{Begins};
 ghost use Rattle.keys.specs.Word.{Spelt, ended, weight_of, ByteFits};
 
+use answers::Refusal;
+use editions::Edition;
 use moves::fill;
-
-// the number of edition 2
-pub const SECOND: usize = 2;
-
-// the most bytes of a key
-const LONGEST: usize = 112;
-
-const LONGEST_SECOND: usize = 255;
 
 // the most bytes of a walked string
 pub const LONGEST_WORD: usize = 512;
-
-// the refusals of a key, by document 01's numbers
-pub const BAD_KEY_LENGTH: usize = 3;
-
-const HOLDS_ZERO: usize = 4;
 
 // what follows a byte 0 of a key in the walked strings of edition 2
 const ESCAPE: u8 = 255;
@@ -39,26 +30,17 @@ fn has_zero(key: &[u8]) -> bool
     !pieces::no_zero(key, 0, key.len())
 }
 
-// The refusal that a key gets, and 0 if it is legal.
-pub fn fault(key: &[u8], edition: usize) -> usize
-    ensures { result ≡ (edition_of edition).key_fault key.now }
+// What refuses a key, if anything does.
+pub fn fault(key: &[u8], edition: Edition) -> Result<(), Refusal>
+    ensures { done_number result ≡ (rules_of edition).key_fault key.now }
 {
-    if key.len() == 0 {
-        return BAD_KEY_LENGTH;
+    if key.is_empty() || key.len() > edition.longest_key() {
+        return Err(Refusal::KeyLength);
     }
-    if edition == SECOND {
-        if key.len() > LONGEST_SECOND {
-            return BAD_KEY_LENGTH;
-        }
-        return 0;
+    if edition == Edition::First && has_zero(key) {
+        return Err(Refusal::KeyZero);
     }
-    if key.len() > LONGEST {
-        return BAD_KEY_LENGTH;
-    }
-    if has_zero(key) {
-        return HOLDS_ZERO;
-    }
-    0
+    Ok(())
 }
 
 // The key is the n bytes of f from a place on.
@@ -78,10 +60,7 @@ pub fn stands_at(key: &[u8], f: &[u8], from: usize, n: usize) -> bool
 fn weight(b: u8) -> usize
     ensures { (result ≡ weight_of b) × (1 ≤ result) × (result ≤ 2) }
 {
-    if b == 0 {
-        return 2;
-    }
-    1
+    1 + usize::from(b == 0)
 }
 
 // Each byte is followed by what follows a byte 0; the next byte takes that place if it was another.
@@ -89,14 +68,11 @@ fn escape(key: &[u8], word: &mut [u8]) -> usize
     requires { (length (escaped key.now) ≤ length word.old) × (length word.old < 65536) }
     ensures { Spelt (escaped key.now) word.new result }
 {
-    let mut i = 0;
     let mut n = 0;
-    while i < key.len() {
-        let b = key[i];
+    for &b in key {
         word[n] = b;
         word[n + 1] = ESCAPE;
         n += weight(b);
-        i += 1;
     }
     word[n] = 0;
     word[n + 1] = 0;
@@ -123,10 +99,7 @@ pub fn spell(key: &[u8], word: &mut [u8]) -> usize
 pub fn at(word: &[u8], d: usize) -> u8
     ensures { result ≡ get_or word.now d 0 }
 {
-    if d < word.len() {
-        return word[d];
-    }
-    0
+    word.get(d).copied().unwrap_or(0)
 }
 
 // How many bytes of p a walked string has from depth d on: all, if they stand there, and else they are counted one by one.
@@ -139,17 +112,15 @@ pub fn matched(p: &[u8], word: &[u8], d: usize) -> usize
             return p.len();
         }
     }
-    let mut q = 0;
-    while q < p.len() {
+    for q in 0..p.len() {
         if d + q >= word.len() {
             return q;
         }
         if p[q] != word[d + q] {
             return q;
         }
-        q += 1;
     }
-    q
+    p.len()
 }
 
 // ---- a path, in edition 2
@@ -283,24 +254,22 @@ fn shared_plain(key: &[u8], other: &[u8], d: usize) -> usize
 }
 
 // How many walked bytes two keys share from depth d on, up to which they share all.
-pub fn shared_from(key: &[u8], other: &[u8], d: usize, edition: usize) -> usize
-    requires { (length key.now < 65536) × (length other.now < 65536) × (d ≤ shared ((edition_of edition).walked key.now) ((edition_of edition).walked other.now)) }
-    ensures { result ≡ shared (drop d ((edition_of edition).walked key.now)) (drop d ((edition_of edition).walked other.now)) }
+pub fn shared_from(key: &[u8], other: &[u8], d: usize, edition: Edition) -> usize
+    requires { (length key.now < 65536) × (length other.now < 65536) × (d ≤ shared ((rules_of edition).walked key.now) ((rules_of edition).walked other.now)) }
+    ensures { result ≡ shared (drop d ((rules_of edition).walked key.now)) (drop d ((rules_of edition).walked other.now)) }
 {
-    if edition == SECOND {
-        return shared_escaped(key, other) - d;
+    match edition {
+        Edition::First => shared_plain(key, other, d),
+        Edition::Second => shared_escaped(key, other) - d,
     }
-    shared_plain(key, other, d)
 }
 
 fn byte_escaped(key: &[u8], d: usize) -> u8
     requires { length key.now < 65536 }
     ensures { result ≡ get_or (escaped key.now) d 0 }
 {
-    let mut i = 0;
     let mut n = 0;
-    while i < key.len() {
-        let b = key[i];
+    for &b in key {
         if d == n {
             return b;
         }
@@ -309,18 +278,17 @@ fn byte_escaped(key: &[u8], d: usize) -> u8
             return ESCAPE;
         }
         n = m;
-        i += 1;
     }
     0
 }
 
 // The walked byte of a key at a depth, 0 past the end.
-pub fn byte_at(key: &[u8], d: usize, edition: usize) -> u8
+pub fn byte_at(key: &[u8], d: usize, edition: Edition) -> u8
     requires { length key.now < 65536 }
-    ensures { result ≡ get_or ((edition_of edition).walked key.now) d 0 }
+    ensures { result ≡ get_or ((rules_of edition).walked key.now) d 0 }
 {
-    if edition == SECOND {
-        return byte_escaped(key, d);
+    match edition {
+        Edition::First => at(key, d),
+        Edition::Second => byte_escaped(key, d),
     }
-    at(key, d)
 }
