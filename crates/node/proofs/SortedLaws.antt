@@ -12,7 +12,7 @@ use Rattle.layout.specs.Number.{byte_at, le, put}
 use Rattle.layout.specs.Place.{node_count}
 use Rattle.layout.proofs.NumberLaws.{le_moved, le_put, le_zero}
 use Rattle.model.specs.Body.{byte_in, child_in, Asc, look_kid, SortedAt}
-use Rattle.node.specs.Kids.{or_zero, insert_kid, remove_kid, set_kid, place_of, rank_of, next_kid}
+use Rattle.node.specs.Kids.{insert_kid, remove_kid, set_kid, place_of, rank_of, next_kid}
 use Rattle.moves.specs.Moved.{Only, Keeps, Opened, Closed}
 use Rattle.node.specs.Sorted.{Row, Half, SortedHas}
 use Rattle.node.specs.Word.{First}
@@ -97,23 +97,27 @@ has_place {b = b} H en P =
     let c = H.node.count in
     omega arith
 
-pub seat_in : {f : List ℕ} {o cap bytes r : ℕ} (b i : ℕ) (ks : List (ℕ × ℕ)) → SortedAt f o cap bytes ks → i ≡ place_of b ks → i < length ks → r ≡ le 4 f (o + bytes + cap + 4 * i) → r ≡ or_zero (look_kid b ks)
-seat_in {r = r} b i ks N e h q =
+-- a child at place i, its place reckoned by where the children start
+pub child_of : {f : List ℕ} {o cap bytes children at r : ℕ} (i : ℕ) (ks : List (ℕ × ℕ)) → SortedAt f o cap bytes ks → children ≡ bytes + cap → i < cap → at ≡ o + children + 4 * i → r ≡ le 4 f at → r ≡ child_in ks i
+child_of {f} {o} {cap} {bytes} i ks N k h ea q = q ∙ ap (le 4 f) (omega arith) ∙ N.children i h
+
+pub seat_in : {f : List ℕ} {o cap bytes children at r : ℕ} (b i : ℕ) (ks : List (ℕ × ℕ)) → SortedAt f o cap bytes ks → children ≡ bytes + cap → i ≡ place_of b ks → i < length ks → at ≡ o + children + 4 * i → r ≡ le 4 f at → some r ≡ look_kid b ks
+seat_in {r = r} b i ks N k e h ea q =
     let few = N.few in
     let look : look_kid b ks ≡ some (child_in ks i) = rw e (look_in b ks (omega arith)) in
-    rw look (q ∙ N.children i (omega arith))
+    ap some (child_of i ks N k (omega arith) ea q) ∙ sym look
 
-pub seat_out : (b i : ℕ) (ks : List (ℕ × ℕ)) → i ≡ place_of b ks → length ks ≤ i → 0 ≡ or_zero (look_kid b ks)
-seat_out b i ks e h = rw (look_out b ks (omega arith)) refl
+pub seat_out : (b i : ℕ) (ks : List (ℕ × ℕ)) → i ≡ place_of b ks → length ks ≤ i → none ≡ look_kid b ks
+seat_out b i ks e h = sym (look_out b ks (omega arith))
 
 module _ {f : List ℕ} {o cap bytes : ℕ} {from : ℕ} (i : ℕ) (ks : List (ℕ × ℕ)) (N : SortedAt f o cap bytes ks) where
-  pub next_in : {x y : ℕ} → i < length ks → ((k : ℕ) → k < i → byte_at f (o + bytes + k) < from) → from ≤ x → x ≡ byte_at f (o + bytes + i) → y ≡ le 4 f (o + bytes + cap + 4 * i)
+  pub next_in : {x y children at : ℕ} → children ≡ bytes + cap → i < length ks → ((k : ℕ) → k < i → byte_at f (o + bytes + k) < from) → from ≤ x → x ≡ byte_at f (o + bytes + i) → at ≡ o + children + 4 * i → y ≡ le 4 f at
       → (x ≡ (next_kid from ks).0) × (y ≡ (next_kid from ks).1)
-  next_in {x} {y} h below l ex ey =
+  next_in {x} {y} k h below l ex ea ey =
       let few = N.few in
       let eb : x ≡ byte_in ks i = ex ∙ N.bytes_are i (omega arith) in
       let e = next_is from ks i h (λ k u. omega (arith, below k u, N.bytes_are k (omega arith))) (omega arith) in
-      rw e (eb, ey ∙ N.children i (omega arith))
+      rw e (eb, child_of i ks N k (omega arith) ea ey)
 
   pub next_out : i ≡ length ks → ((k : ℕ) → k < i → byte_at f (o + bytes + k) < from) → (256 ≡ (next_kid from ks).0) × (0 ≡ (next_kid from ks).1)
   next_out e below =

@@ -4,7 +4,6 @@ use mathlib.Core.Path.{◌≡◌, refl, ◌∙◌, ap}
 use mathlib.Core.List.{List}
 use native.Mathlib.Omega.{arith}
 use native.Mathlib.Decide.{dec_lt, ℕ_discrete}
-use native.Mathlib.Nat.{add_assoc}
 use lib.Bits.{bit_and, bit_or, bit_xor, and_block, or_block, xor_block, and_mask, and_high, or_shr, and_le_l, and_le_r, or_lt, xor_lt, xor_self, xor_add_and}
 use lib.Count.{count_trailing_zeros}
 use lib.Dec.{eqb}
@@ -175,7 +174,3 @@ marked_first (suc w) f at b B =
     ]
 
 -- ---- a word read, as two numbers of four bytes
-
-pub le_halves : (f : List ℕ) (at : ℕ) → le 8 f at ≡ le 4 f at + 4294967296 * le 4 f (at + 4)
-unfolding le
-le_halves f at = simp add_assoc (omega arith)

@@ -10,9 +10,6 @@ pub const BYTES: usize = 8;
 
 const BITS_OF_BYTE: u32 = 8;
 
-// What the upper four bytes of a word count.
-const UPPER: u64 = 0x1_0000_0000;
-
 // In each byte of a word: 1; every bit but the highest; the highest.
 const ONES: u64 = 0x0101_0101_0101_0101;
 
@@ -25,16 +22,14 @@ fn read(f: &[u8], at: usize) -> u64
     requires { at + 8 ≤ length f.now }
     ensures { result ≡ le 8 f.now at }
 {
-    let lower = number::read::<4>(f, at);
-    let upper = number::read::<4>(f, at + 4);
-    (lower as u64) + UPPER * (upper as u64)
+    number::read::<BYTES>(f, at) as u64
 }
 
 // The highest bit of every byte that is b. A byte that differs from b has a bit set: its highest, or one that carries over into it.
 fn marks(x: u64, b: u8) -> u64
     ensures { result ≡ marked 8 x b }
 {
-    let other = x ^ (ONES * (b as u64));
+    let other = x ^ (ONES * u64::from(b));
     let carried = (other & LOW_BITS) + LOW_BITS;
     ((carried | other) & HIGH_BITS) ^ HIGH_BITS
 }
