@@ -31,5 +31,5 @@ pub fn lay_out(frame: &mut [u8], capacity: usize, number: usize)
         root: 1,
     };
     header.write(frame);
-    Entry::write(frame, 1, Kind::EMPTY_ROOT, start);
+    Entry::write(frame, 1, Kind::EmptyRoot.number(), start);
 }
