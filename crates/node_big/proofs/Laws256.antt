@@ -12,7 +12,7 @@ use Rattle.layout.specs.Number.{byte_at, le, put}
 use Rattle.layout.specs.Place.{node_count, node256_children}
 use Rattle.layout.proofs.NumberLaws.{le_put, le_zero}
 use Rattle.model.specs.Body.{Asc, look_kid, slot_or_none, Node256At}
-use Rattle.node.specs.Kids.{or_zero, insert_kid, remove_kid, set_kid, next_kid}
+use Rattle.node.specs.Kids.{insert_kid, remove_kid, set_kid, next_kid}
 use Rattle.moves.specs.Moved.{Only, Keeps}
 use Rattle.moves.proofs.MoveLaws.{only_put, only_sym, only_then, only_widen, le_only, le_keeps, other_child}
 use Rattle.node.proofs.KidsLaws.{asc_insert, asc_remove, asc_set, look_insert, look_remove, look_set, length_insert, length_remove, length_set_kid, next_look, next_look_none, look_ext}
@@ -30,13 +30,12 @@ unfolding slot_or_none
 slot_zero zero e = refl
 slot_zero (suc s) e = absurd (omega arith)
 
-slot_number : (s : ℕ) → or_zero (slot_or_none s) ≡ s
-unfolding slot_or_none
-slot_number zero = refl
-slot_number (suc s) = refl
+module _ {f : List ℕ} {o r : ℕ} (b : ℕ) (ks : List (ℕ × ℕ)) (N : Node256At f o ks) (b8 : b < 256) (e : r ≡ le 4 f (o + node256_children + 4 * b)) where
+  pub seat256_in : 1 ≤ r → some r ≡ look_kid b ks
+  seat256_in h = sym (slot_pos r h) ∙ ap slot_or_none e ∙ N.look b b8
 
-pub seat256 : {f : List ℕ} {o r : ℕ} (b : ℕ) (ks : List (ℕ × ℕ)) → Node256At f o ks → b < 256 → r ≡ le 4 f (o + node256_children + 4 * b) → r ≡ or_zero (look_kid b ks)
-seat256 {f} {o} b ks N b8 e = e ∙ sym (slot_number (le 4 f (o + node256_children + 4 * b))) ∙ ap or_zero (N.look b b8)
+  pub seat256_out : r ≡ 0 → none ≡ look_kid b ks
+  seat256_out z = sym (slot_zero r z) ∙ ap slot_or_none e ∙ N.look b b8
 
 -- what one list has, every list of the body has
 pub has256 : {f : List ℕ} {o s : ℕ} (b : ℕ) (ks ls : List (ℕ × ℕ)) → b < 256 → Node256At f o ks → Node256At f o ls → look_kid b ks ≡ some s → look_kid b ls ≡ some s

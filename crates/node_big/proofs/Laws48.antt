@@ -13,7 +13,7 @@ use Rattle.layout.specs.Number.{byte_at, le, put}
 use Rattle.layout.specs.Place.{node_count, node48_index, node48_children}
 use Rattle.layout.proofs.NumberLaws.{le_put, le_zero}
 use Rattle.model.specs.Body.{byte_in, Asc, look_kid, Named, named_child, Node48At}
-use Rattle.node.specs.Kids.{or_zero, insert_kid, remove_kid, set_kid, place_of, next_kid}
+use Rattle.node.specs.Kids.{insert_kid, remove_kid, set_kid, place_of, next_kid}
 use Rattle.moves.specs.Moved.{Only, Keeps}
 use Rattle.moves.proofs.MoveLaws.{only_set, only_put, only_sym, only_then, only_widen, le_only, le_keeps, other_child}
 use Rattle.node.proofs.KidsLaws.{place_byte, place_lt, asc_insert, asc_remove, asc_set, look_insert, look_remove, look_set, length_insert, length_remove, length_set_kid, next_look, next_look_none, asc_byte, asc_lt, look_ext}
@@ -57,14 +57,14 @@ module _ {f : List ℕ} {o : ℕ} (b : ℕ) (ks : List (ℕ × ℕ)) (N : Node48
   pub look48_out : byte_at f (o + node48_index + b) ≡ 0 → look_kid b ks ≡ none
   look48_out e = sym (N.look b b8) ∙ named_zero f o (byte_at f (o + node48_index + b)) e
 
-  pub seat48_in : {p r : ℕ} → p ≡ byte_at f (o + node48_index + b) → (p ≡ 0 → ⊥) → r ≡ le 4 f (o + node48_children + 4 * (p - 1)) → r ≡ or_zero (look_kid b ks)
+  pub seat48_in : {p r : ℕ} → p ≡ byte_at f (o + node48_index + b) → (p ≡ 0 → ⊥) → r ≡ le 4 f (o + node48_children + 4 * (p - 1)) → some r ≡ look_kid b ks
   seat48_in {p} e h q =
       let e' : byte_at f (o + node48_index + b) ≡ p = sym e in
       let l : look_kid b ks ≡ some (le 4 f (o + node48_children + 4 * (p - 1))) = rw e' at (look48_in (omega arith)) in
-      rw l q
+      ap some q ∙ sym l
 
-  pub seat48_out : {p : ℕ} → p ≡ byte_at f (o + node48_index + b) → p ≡ 0 → 0 ≡ or_zero (look_kid b ks)
-  seat48_out e h = rw (look48_out (sym e ∙ h)) refl
+  pub seat48_out : {p : ℕ} → p ≡ byte_at f (o + node48_index + b) → p ≡ 0 → none ≡ look_kid b ks
+  seat48_out e h = sym (look48_out (sym e ∙ h))
 
   pub place48 : {p : ℕ} → p ≡ byte_at f (o + node48_index + b) → p ≤ 48
   place48 e = omega (arith, N.place b b8)

@@ -4,7 +4,7 @@ ghost use Rattle.std.proofs.Math.Option.{none};
 ghost use Rattle.layout.specs.Number.{byte_at, put};
 ghost use Rattle.layout.specs.Place.{node48_index, node48_children};
 ghost use Rattle.model.specs.Body.{Node48At, look_kid};
-ghost use Rattle.node.specs.Kids.{or_zero, insert_kid, remove_kid, next_kid};
+ghost use Rattle.node.specs.Kids.{slot_in, insert_kid, remove_kid, Next};
 ghost use Rattle.moves.specs.Moved.{Only};
 ghost use Rattle.node_big.specs.Indexed.{Lowest, In48, Open48, Has48, Wrote48};
 
@@ -14,46 +14,40 @@ use node::{Child, Seat};
 // The number after the last place, which is 48.
 const PAST: u8 = Node48::PLACES as u8 + 1;
 
-// The child of byte b, 0 where there is none, and where it stands.
+// The child of byte b, and where it stands.
 pub fn seat(f: &[u8], o: usize, b: u8) -> Seat
     requires { In48 f.now o }
-    ensures { ((ks : List (ℕ × ℕ)) → Node48At f.now o ks → result.slot ≡ or_zero (look_kid b ks))
+    ensures { ((ks : List (ℕ × ℕ)) → Node48At f.now o ks → slot_in result.slot ≡ look_kid b ks)
         × (result.link ≡ o + node48_children + 4 * (byte_at f.now (o + node48_index + b) - 1)) }
 {
-    let p = Node48::entry(f, o, b as usize);
+    let p = Node48::entry(f, o, usize::from(b));
     let children = o + Node48::CHILDREN;
     if p == 0 {
         return Seat {
-            slot: 0,
+            slot: None,
             link: children,
         };
     }
     let link = children + Node::CHILD_SIZE * (p - 1);
-    let s = Node::child(f, link);
     Seat {
-        slot: s,
-        link: link,
+        slot: Some(Node::child(f, link)),
+        link,
     }
 }
 
 // The first child whose byte is `from` or more.
-pub fn next(f: &[u8], o: usize, from: usize) -> Child
+pub fn next(f: &[u8], o: usize, from: usize) -> Option<Child>
     requires { In48 f.now o × (from ≤ 256) }
-    ensures { (ks : List (ℕ × ℕ)) → Node48At f.now o ks → (result.byte ≡ (next_kid from ks).0) × (result.slot ≡ (next_kid from ks).1) }
+    ensures { (ks : List (ℕ × ℕ)) → Node48At f.now o ks → Next from ks result }
 {
-    let mut b = from;
-    while b < Node::BYTE_VALUES {
-        let p = Node48::entry(f, o, b);
-        if 0 < p {
-            let s = Node48::child(f, o, p - 1);
-            return Child { byte: b, slot: s };
+    for byte in from..Node::BYTE_VALUES {
+        let p = Node48::entry(f, o, byte);
+        if p != 0 {
+            let slot = Node48::child(f, o, p - 1);
+            return Some(Child { byte, slot });
         }
-        b += 1;
     }
-    Child {
-        byte: Node::BYTE_VALUES,
-        slot: 0,
-    }
+    None
 }
 
 // The lowest place from 1 that no entry names, or 49.
@@ -82,7 +76,7 @@ fn write(f: &mut [u8], o: usize, b: u8, x: u8, p: usize, slot: usize, n: usize)
     requires { (o + 456 ≤ length f.old) × (1 ≤ p) × (p ≤ 48) × (slot < 4294967296) × (n < 65536) }
     ensures { Wrote48 f.old f.new o b x p slot n }
 {
-    Node48::set_entry(f, o, b as usize, x);
+    Node48::set_entry(f, o, usize::from(b), x);
     Node48::set_child(f, o, p - 1, slot);
     Node::set_count(f, o, n);
 }
@@ -108,7 +102,7 @@ pub fn remove(f: &mut [u8], o: usize, b: u8)
         × ((d : ℕ) → d < 256 → (d ≡ b → ⊥) → byte_at f.new (o + node48_index + d) ≡ byte_at f.old (o + node48_index + d)) }
 {
     let n = Node::count(f, o);
-    let p = Node48::entry(f, o, b as usize);
+    let p = Node48::entry(f, o, usize::from(b));
     write(f, o, b, 0, p, 0, n - 1);
 }
 
@@ -117,6 +111,6 @@ pub fn append(f: &mut [u8], o: usize, i: usize, b: u8, slot: usize)
     requires { (o + 456 ≤ length f.old) × (i < 48) }
     ensures { f.new ≡ put 4 (set f.old (o + node48_index + b) (i + 1)) (o + node48_children + 4 * i) slot }
 {
-    Node48::set_entry(f, o, b as usize, (i + 1) as u8);
+    Node48::set_entry(f, o, usize::from(b), (i + 1) as u8);
     Node48::set_child(f, o, i, slot);
 }

@@ -11,11 +11,11 @@ overflow_sub-n c =
 
 pub write-requires : goal.write-requires
 write-requires c =
-    let q = some48 c.args.b c.requires.kids c.requires.node (omega arith) c.entry-p.ensures.0 c.requires.has in
+    let q = some48 c.args.b c.requires.kids c.requires.node (omega arith) (rw c.from.ensures at c.entry-p.ensures.0) c.requires.has in
     (omega arith, q.0, q.1, omega arith, omega arith)
 
 pub returns : goal.returns
 returns c =
-    let W = c.write.ensures in let q = some48 c.args.b c.requires.kids c.requires.node (omega arith) c.entry-p.ensures.0 c.requires.has in
+    let W = c.write.ensures in let q = some48 c.args.b c.requires.kids c.requires.node (omega arith) (rw c.from.ensures at c.entry-p.ensures.0) c.requires.has in
     let l = length_remove c.args.b c.requires.kids c.requires.has in
-    (W.only, λ ks N. remove48 ks N (omega arith) W c.entry-p.ensures.0 q.0 (omega (arith, c.requires.node.count)), W.other)
+    (W.only, λ ks N. remove48 ks N (omega arith) W (rw c.from.ensures at c.entry-p.ensures.0) q.0 (omega (arith, c.requires.node.count)), W.other)
