@@ -1,5 +1,5 @@
 -- Each operation by kind: what its parts ask, and what they give back. Assumes nothing.
-use Prim.Native.Nat.{ℕ, ◌+◌, ◌*◌, ◌-◌, ◌<◌, ◌≤◌}
+use Prim.Native.Nat.{ℕ, ◌+◌, ◌*◌, ◌<◌, ◌≤◌}
 use mathlib.Core.Path.{◌≡◌, refl, ◌∙◌, ap, sym}
 use mathlib.Core.List.{List}
 use mathlib.Core.Option.{none}
@@ -12,7 +12,9 @@ use Rattle.layout.specs.Place.{node48_index, node48_children, node256_children}
 use Rattle.layout.specs.Kind.{node48_kind, body_size, most}
 use Rattle.model.specs.Strings.{pick}
 use Rattle.model.specs.Body.{byte_in, child_in, look_kid, SortedAt, Node48At, Node256At, InnerAt}
-use Rattle.node.specs.Kids.{insert_kid, remove_kid, next_kid, Reached}
+use Rattle.std.specs.Prelude.{Option, Some, None, IsSome}
+use Rattle.node.specs.declared.Child.{Child}
+use Rattle.node.specs.Kids.{insert_kid, remove_kid, Next, Reached}
 use Rattle.moves.specs.Moved.{Only}
 use Rattle.node.specs.Sorted.{Sorted, SortedOpen, SortedHas}
 use Rattle.moves.proofs.MoveLaws.{only_widen}
@@ -21,39 +23,25 @@ use Rattle.node_big.specs.Indexed.{Lowest, Open48, Has48, Open256, Has256}
 use Rattle.inner.specs.Inner.{sorted_bytes, place_at, appended, NodeSome, NodeOpen, NodeHas, Visit, Added, Removed}
 use Rattle.inner.proofs.InnerLaws.{size_sorted, most_sorted, as_sorted, of_sorted, of_48, of_256, inner_count, inner_asc}
 
--- ---- Node4 and Node16, at the numbers that the tables gave
+-- ---- Node4 and Node16
 
-pub places_sorted : {bytes children : ℕ} (kind : ℕ) → bytes ≡ sorted_bytes kind → children ≡ sorted_bytes kind + most kind → children - bytes ≡ most kind
-places_sorted kind eb ek = omega arith
+few_sorted : (o kind : ℕ) → kind ≤ 5 → 4 ≤ kind → (most kind ≤ 256) × (o + sorted_bytes kind + 5 * most kind ≡ o + body_size kind)
+few_sorted o kind h a = let m = most_sorted kind a h in let s = size_sorted kind a h in (omega arith, omega arith)
 
-pub children_sorted : {children : ℕ} (o kind i : ℕ) → children ≡ sorted_bytes kind + most kind → o + children + 4 * i ≡ o + sorted_bytes kind + most kind + 4 * i
-children_sorted o kind i ek = omega arith
+module _ {f : List ℕ} {o kind : ℕ} (h : kind ≤ 5) where
+  pub some_sorted : NodeSome f o kind → Sorted f o (most kind) (sorted_bytes kind)
+  some_sorted P = record { kids = P.kids; node = as_sorted P.node h; caps = (few_sorted o kind h P.node.range.0).0 }
 
-few_sorted : {cap bytes : ℕ} (o kind : ℕ) → kind ≤ 5 → cap ≡ most kind → bytes ≡ sorted_bytes kind → 4 ≤ kind → (cap ≤ 256) × (o + bytes + 5 * cap ≡ o + body_size kind)
-few_sorted o kind h ec eb a = let m = most_sorted kind a h in let s = size_sorted kind a h in (omega arith, omega arith)
+  pub open_sorted : NodeOpen f o kind → SortedOpen f o (most kind) (sorted_bytes kind)
+  open_sorted P = record { kids = P.kids; node = as_sorted P.node h; caps = (few_sorted o kind h P.node.range.0).0; few = P.few }
 
-module _ {f : List ℕ} {o kind cap bytes : ℕ} (h : kind ≤ 5) (ec : cap ≡ most kind) (eb : bytes ≡ sorted_bytes kind) where
-  pub at_sorted : {ks : List (ℕ × ℕ)} → InnerAt f o kind ks → SortedAt f o cap bytes ks
-  at_sorted N = rw (ec, eb) (as_sorted N h)
+  pub has_sorted : {b : ℕ} → NodeHas f o kind b → SortedHas f o (most kind) (sorted_bytes kind) b
+  has_sorted P = record { kids = P.kids; node = as_sorted P.node h; caps = (few_sorted o kind h P.node.range.0).0; child = P.child; has = P.has }
 
-  pub from_sorted : {ks : List (ℕ × ℕ)} → 4 ≤ kind → SortedAt f o cap bytes ks → InnerAt f o kind ks
-  from_sorted a S = of_sorted a h (rw (ec, eb) at S)
-
-  pub some_sorted : NodeSome f o kind → Sorted f o cap bytes
-  some_sorted P = record { kids = P.kids; node = at_sorted P.node; caps = (few_sorted o kind h ec eb P.node.range.0).0 }
-
-  pub open_sorted : NodeOpen f o kind → SortedOpen f o cap bytes
-  open_sorted P = record { kids = P.kids; node = at_sorted P.node; caps = (few_sorted o kind h ec eb P.node.range.0).0; few = omega (arith, P.few) }
-
-  pub has_sorted : {b : ℕ} → NodeHas f o kind b → SortedHas f o cap bytes b
-  has_sorted P = record { kids = P.kids; node = at_sorted P.node; caps = (few_sorted o kind h ec eb P.node.range.0).0; child = P.child; has = P.has }
-
--- at a kind that is known
-pub visit_sorted : {f : List ℕ} {o kind i from : ℕ} (k : ℕ) → k ≤ 5 → kind ≡ k → Visit f o kind i from → NodeSome f o k × (k ≤ 5) × (i < most k)
-visit_sorted k h e W =
-    let N = rw e at W.node in
-    let l = W.inside in
-    (record { kids = W.kids; node = N }, h, omega (arith, (as_sorted N h).few))
+  pub visit_sorted : {i from : ℕ} → Visit f o kind i from → Sorted f o (most kind) (sorted_bytes kind) × (i < most kind)
+  visit_sorted W =
+      let l = W.inside in
+      (some_sorted (record { kids = W.kids; node = W.node }), omega (arith, (as_sorted W.node h).few))
 
 -- ---- Node48 and Node256
 
@@ -81,13 +69,13 @@ same_place f g o kind d e = ap (λ (x : ℕ). pick (eqb kind node48_kind) x 0) e
 -- ---- a child more
 
 module _ {f g : List ℕ} {o kind b slot : ℕ} where
-  pub added_sorted : {cap bytes : ℕ} → kind ≤ 5 → cap ≡ most kind → bytes ≡ sorted_bytes kind → 4 ≤ kind → Only f g o (o + bytes + 5 * cap)
-      → ((ks : List (ℕ × ℕ)) → SortedAt f o cap bytes ks → look_kid b ks ≡ none → SortedAt g o cap bytes (insert_kid b slot ks)) → Added f g o kind b slot
-  added_sorted h ec eb a O I =
-      let s = (few_sorted o kind h ec eb a).1 in
+  pub added_sorted : kind ≤ 5 → 4 ≤ kind → Only f g o (o + sorted_bytes kind + 5 * most kind)
+      → ((ks : List (ℕ × ℕ)) → SortedAt f o (most kind) (sorted_bytes kind) ks → look_kid b ks ≡ none → SortedAt g o (most kind) (sorted_bytes kind) (insert_kid b slot ks)) → Added f g o kind b slot
+  added_sorted h a O I =
+      let s = (few_sorted o kind h a).1 in
       record {
         only = only_widen o (o + body_size kind) O (omega arith) (omega arith);
-        inner = λ ks N n. from_sorted h ec eb a (I ks (at_sorted h ec eb N) n);
+        inner = λ ks N n. of_sorted a h (I ks (as_sorted N h) n);
         lowest = λ e. absurd (omega arith);
         others = λ d d8 ne. no_places f g o kind d (λ e. omega arith);
       }
@@ -114,13 +102,13 @@ module _ {f g : List ℕ} {o kind b slot : ℕ} where
 -- ---- a child less
 
 module _ {f g : List ℕ} {o kind b : ℕ} where
-  pub removed_sorted : {cap bytes : ℕ} → kind ≤ 5 → cap ≡ most kind → bytes ≡ sorted_bytes kind → 4 ≤ kind → Only f g o (o + bytes + 5 * cap)
-      → ((ks : List (ℕ × ℕ)) → SortedAt f o cap bytes ks → SortedAt g o cap bytes (remove_kid b ks)) → Removed f g o kind b
-  removed_sorted h ec eb a O I =
-      let s = (few_sorted o kind h ec eb a).1 in
+  pub removed_sorted : kind ≤ 5 → 4 ≤ kind → Only f g o (o + sorted_bytes kind + 5 * most kind)
+      → ((ks : List (ℕ × ℕ)) → SortedAt f o (most kind) (sorted_bytes kind) ks → SortedAt g o (most kind) (sorted_bytes kind) (remove_kid b ks)) → Removed f g o kind b
+  removed_sorted h a O I =
+      let s = (few_sorted o kind h a).1 in
       record {
         only = only_widen o (o + body_size kind) O (omega arith) (omega arith);
-        inner = λ ks N. from_sorted h ec eb a (I ks (at_sorted h ec eb N));
+        inner = λ ks N. of_sorted a h (I ks (as_sorted N h));
         others = λ d d8 ne. no_places f g o kind d (λ e. omega arith);
       }
 
@@ -136,12 +124,20 @@ module _ {f g : List ℕ} {o kind b : ℕ} where
 pub inside_one : {f : List ℕ} {o kind i at : ℕ} (W : Visit f o kind i at) (ks : List (ℕ × ℕ)) → InnerAt f o kind ks → i < length ks
 inside_one W ks N = let l = W.inside in omega (arith, inner_count ks N, inner_count W.kids W.node)
 
-pub visited : {f : List ℕ} {o kind i at x y : ℕ} (W : Visit f o kind i at) → ((ks : List (ℕ × ℕ)) → InnerAt f o kind ks → (x ≡ (next_kid at ks).0) × (y ≡ (next_kid at ks).1))
-    → (x < 256) × ((ks : List (ℕ × ℕ)) → InnerAt f o kind ks → Reached ks i at → (x ≡ byte_in ks i) × (y ≡ child_in ks i))
-visited {f} {o} {kind} {i} {at} {x} {y} W I =
-    let Q : (ks : List (ℕ × ℕ)) → InnerAt f o kind ks → Reached ks i at → (x ≡ byte_in ks i) × (y ≡ child_in ks i) = λ ks N R. rw (next_reached R (inside_one W ks N)) at (I ks N) in
-    let e = (Q W.kids W.node W.reached).0 in
-    (omega (arith, asc_byte 0 W.kids i (inner_asc W.kids W.node) W.inside), Q)
+-- the next child of a walk is there, and it is the one that the walk is at
+module _ {f : List ℕ} {o kind i at : ℕ} (W : Visit f o kind i at) where
+  pub is_next : (r : Option Child) → ((ks : List (ℕ × ℕ)) → InnerAt f o kind ks → Next at ks r) → IsSome r
+  is_next None I =
+      let e = next_reached W.reached W.inside in
+      absurd (omega (arith, rw e at (I W.kids W.node).0, asc_byte 0 W.kids i (inner_asc W.kids W.node) W.inside))
+  is_next (Some x) I = refl
+
+  pub visited : {x : Child} → ((ks : List (ℕ × ℕ)) → InnerAt f o kind ks → Next at ks (Some x))
+      → (x.byte < 256) × ((ks : List (ℕ × ℕ)) → InnerAt f o kind ks → Reached ks i at → (x.byte ≡ byte_in ks i) × (x.slot ≡ child_in ks i))
+  visited I = (
+    (I W.kids W.node).0,
+    λ ks N R. let e = next_reached R (inside_one W ks N) in let n = I ks N in (rw e at n.1, rw e at n.2),
+  )
 
 -- ---- a child behind the others
 
@@ -157,9 +153,8 @@ pub is_256 : (f : List ℕ) (o kind i b s : ℕ) → kind ≡ 7 → appended f o
 unfolding appended
 is_256 f o kind i b s e = rw e refl
 
--- with the numbers that the tables gave
-pub append_sorted : (f : List ℕ) {g : List ℕ} {bytes children : ℕ} (o kind i b s : ℕ) → kind ≤ 5 → bytes ≡ sorted_bytes kind → children ≡ sorted_bytes kind + most kind → g ≡ put 4 (set f (o + bytes + i) b) (o + children + 4 * i) s → g ≡ appended f o kind i b s
-append_sorted f o kind i b s h eb ek E = (rw (children_sorted o kind i ek, eb) at E) ∙ sym (is_sorted f o kind i b s h)
+pub append_sorted : (f : List ℕ) {g : List ℕ} (o kind i b s : ℕ) → kind ≤ 5 → g ≡ put 4 (set f (o + sorted_bytes kind + i) b) (o + (sorted_bytes kind + most kind) + 4 * i) s → g ≡ appended f o kind i b s
+append_sorted f o kind i b s h E = E ∙ ap (λ at. put 4 (set f (o + sorted_bytes kind + i) b) at s) (omega arith) ∙ sym (is_sorted f o kind i b s h)
 
 pub append_48 : (f : List ℕ) {g : List ℕ} (o kind i b s : ℕ) → kind ≡ 6 → g ≡ put 4 (set f (o + node48_index + b) (i + 1)) (o + node48_children + 4 * i) s → g ≡ appended f o kind i b s
 append_48 f o kind i b s e E = E ∙ sym (is_48 f o kind i b s e)

@@ -1,32 +1,32 @@
 -- By kind. Assumes nothing.
+use mathlib.Core.Path.{refl}
 use native.Mathlib.Omega.{arith}
-use mathlib.Core.Path.{◌≡◌}
-use Rattle.inner.proofs.InnerLaws.{size_sorted}
-use Rattle.inner.proofs.DispatchLaws.{places_sorted, append_sorted, append_48, append_256}
+use Rattle.layout.proofs.KindLaws.{last_inner}
+use Rattle.inner.proofs.DispatchLaws.{append_sorted, append_48, append_256}
 use Rattle.inner.proofs.carry.append.Goals as goal
 
 pub append-requires : goal.append-requires
-append-requires c =
-    let P = c.requires in let eb = c.sorted_bytes.ensures in let ec = places_sorted c.args.kind eb c.sorted_children.ensures in
-    let e = size_sorted c.args.kind P.0 c.if-kind-le-NODE16.true in
-    (omega arith, omega arith)
+append-requires c = let P = rw c.in-Node4.is at c.requires in (omega (arith, P.2), omega (arith, P.3))
 
-pub returns-then-kind-le-NODE16 : goal.returns-then-kind-le-NODE16
-returns-then-kind-le-NODE16 c =
-    let a = c.args in append_sorted _ a.o a.kind a.i a.b a.slot c.if-kind-le-NODE16.true c.sorted_bytes.ensures c.sorted_children.ensures c.append.ensures
+pub returns-in-Node4 : goal.returns-in-Node4
+returns-in-Node4 c = let a = c.args in rw c.in-Node4.is (append_sorted _ a.o 4 a.i a.b a.slot (omega arith) c.append.ensures)
 
-pub append-requires-then-kind-eq-NODE48 : goal.append-requires-then-kind-eq-NODE48
-append-requires-then-kind-eq-NODE48 c = let P = c.requires in let e = c.if-kind-eq-NODE48.true in (rw e at P.2, rw e at P.3)
+pub append-requires-in-Node16 : goal.append-requires-in-Node16
+append-requires-in-Node16 c = let P = rw c.in-Node16.is at c.requires in (omega (arith, P.2), omega (arith, P.3))
 
-pub returns-then-kind-eq-NODE48 : goal.returns-then-kind-eq-NODE48
-returns-then-kind-eq-NODE48 c = let a = c.args in append_48 _ a.o a.kind a.i a.b a.slot c.if-kind-eq-NODE48.true c.append-then-kind-eq-NODE48.ensures
+pub returns-in-Node16 : goal.returns-in-Node16
+returns-in-Node16 c = let a = c.args in rw c.in-Node16.is (append_sorted _ a.o 5 a.i a.b a.slot (omega arith) c.append-in-Node16.ensures)
 
-pub append-requires-2 : goal.append-requires-2
-append-requires-2 c =
-    let P = c.requires in let e : c.args.kind ≡ 7 = omega (arith, c.if-kind-le-NODE16.false, c.if-kind-eq-NODE48.false) in
-    rw e at P.2
+pub append-requires-in-Node48 : goal.append-requires-in-Node48
+append-requires-in-Node48 c = let P = rw c.in-Node48.is at c.requires in (P.2, P.3)
 
-pub returns : goal.returns
-returns c =
-    let a = c.args in let P = c.requires in let e : a.kind ≡ 7 = omega (arith, c.if-kind-le-NODE16.false, c.if-kind-eq-NODE48.false) in
-    append_256 _ a.o a.kind a.i a.b a.slot e c.append-2.ensures
+pub returns-in-Node48 : goal.returns-in-Node48
+returns-in-Node48 c = let a = c.args in rw c.in-Node48.is (append_48 _ a.o 6 a.i a.b a.slot refl c.append-in-Node48.ensures)
+
+pub append-requires-in_default : goal.append-requires-in_default
+append-requires-in_default c =
+    let P = rw (last_inner c.args.kind (c.requires.0, c.requires.1) c.in_default.not-Node4 c.in_default.not-Node16 c.in_default.not-Node48) at c.requires in P.2
+
+pub returns-in_default : goal.returns-in_default
+returns-in_default c =
+    let a = c.args in rw (last_inner c.args.kind (c.requires.0, c.requires.1) c.in_default.not-Node4 c.in_default.not-Node16 c.in_default.not-Node48) (append_256 _ a.o 7 a.i a.b a.slot refl c.append-in_default.ensures)

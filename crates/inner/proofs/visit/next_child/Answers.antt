@@ -1,24 +1,33 @@
 -- By kind. Assumes nothing.
-use Rattle.inner.proofs.InnerLaws.{last_kind}
-use Rattle.inner.proofs.DispatchLaws.{places_sorted, at_sorted, some_sorted}
+use mathlib.Core.Path.{refl}
+use native.Mathlib.Omega.{arith}
+use Rattle.layout.proofs.KindLaws.{last_inner}
+use Rattle.inner.proofs.InnerLaws.{as_sorted}
+use Rattle.inner.proofs.DispatchLaws.{some_sorted}
 use Rattle.inner.proofs.visit.next_child.Goals as goal
 
 pub next-requires : goal.next-requires
-next-requires c =
-    let eb = c.sorted_bytes.ensures in some_sorted c.if-kind-le-NODE16.true (places_sorted c.args.kind eb c.sorted_children.ensures) eb c.requires.0
+next-requires c = some_sorted (omega arith) (rw c.in-Node4.is at c.requires.0)
 
-pub returns-then-kind-le-NODE16 : goal.returns-then-kind-le-NODE16
-returns-then-kind-le-NODE16 c =
-    let eb = c.sorted_bytes.ensures in λ ks N. c.next.ensures ks (at_sorted c.if-kind-le-NODE16.true (places_sorted c.args.kind eb c.sorted_children.ensures) eb N)
+pub returns-in-Node4 : goal.returns-in-Node4
+returns-in-Node4 c = rw c.in-Node4.is (λ ks N. c.next.ensures ks (as_sorted N (omega arith)))
 
-pub next-requires-then-kind-eq-NODE48 : goal.next-requires-then-kind-eq-NODE48
-next-requires-then-kind-eq-NODE48 c = (record { kids = c.requires.0.kids; node = c.requires.0.node.six c.if-kind-eq-NODE48.true }, c.requires.1)
+pub next-requires-in-Node16 : goal.next-requires-in-Node16
+next-requires-in-Node16 c = some_sorted (omega arith) (rw c.in-Node16.is at c.requires.0)
 
-pub returns-then-kind-eq-NODE48 : goal.returns-then-kind-eq-NODE48
-returns-then-kind-eq-NODE48 c = λ ks N. c.next-then-kind-eq-NODE48.ensures ks (N.six c.if-kind-eq-NODE48.true)
+pub returns-in-Node16 : goal.returns-in-Node16
+returns-in-Node16 c = rw c.in-Node16.is (λ ks N. c.next-in-Node16.ensures ks (as_sorted N (omega arith)))
 
-pub next-requires-2 : goal.next-requires-2
-next-requires-2 c = (record { kids = c.requires.0.kids; node = c.requires.0.node.seven (last_kind c.requires.0.node c.if-kind-le-NODE16.false c.if-kind-eq-NODE48.false) }, c.requires.1)
+pub next-requires-in-Node48 : goal.next-requires-in-Node48
+next-requires-in-Node48 c = let P = rw c.in-Node48.is at c.requires.0 in (record { kids = P.kids; node = P.node.six refl }, c.requires.1)
 
-pub returns : goal.returns
-returns c = λ ks N. c.next-2.ensures ks (N.seven (last_kind N c.if-kind-le-NODE16.false c.if-kind-eq-NODE48.false))
+pub returns-in-Node48 : goal.returns-in-Node48
+returns-in-Node48 c = rw c.in-Node48.is (λ ks N. c.next-in-Node48.ensures ks (N.six refl))
+
+pub next-requires-in_default : goal.next-requires-in_default
+next-requires-in_default c =
+    let P = rw (last_inner c.args.kind c.requires.0.node.range c.in_default.not-Node4 c.in_default.not-Node16 c.in_default.not-Node48) at c.requires.0 in (record { kids = P.kids; node = P.node.seven refl }, c.requires.1)
+
+pub returns-in_default : goal.returns-in_default
+returns-in_default c =
+    rw (last_inner c.args.kind c.requires.0.node.range c.in_default.not-Node4 c.in_default.not-Node16 c.in_default.not-Node48) (λ ks N. c.next-in_default.ensures ks (N.seven refl))
