@@ -6,13 +6,13 @@ use mathlib.Core.List.{List, [], ◌∷◌}
 use mathlib.Core.Bool.{true, false}
 use mathlib.Core.Logic.{inl, inr}
 use lib.ListN.{length, take, drop, length-append, get_or-append}
-use lib.Dec.{leb, ltb, eqb, lit≤}
+use lib.Dec.{leb, ltb, eqb}
 use borrow.Author.Tests.{le-leb}
 use Rattle.layout.specs.Number.{le}
 use Rattle.layout.specs.Place.{leaf_extent, leaf_key}
 use Rattle.model.specs.Edition.{Value, text_of}
 use Rattle.model.specs.Body.{Text, LeafAt}
-use Rattle.model.proofs.StringLaws.{bool_cases, eqb_cases}
+use Rattle.model.proofs.StringLaws.{bool_cases, eqb_cases, leb_cases}
 use Rattle.keys.proofs.KeyLaws.{text_part}
 use Rattle.listing.specs.Seek.{weigh, reach}
 use Rattle.seek.specs.Seek.{Tail, behind_text}
@@ -25,11 +25,6 @@ key_text : {f : List ℕ} {o e : ℕ} {k : List ℕ} {v : Value} → LeafAt f o 
 key_text {f} {o} {e} {k} {v} A = let r = A.room in text_part f e k (omega arith) (key_there A)
 
 -- ---- weighed
-
-pub weigh_most : (g : List ℕ) (t : ℕ) (p : List ℕ) → weigh g t p ≤ 2
-weigh_most g t [] = lit≤ tt
-weigh_most [] t (x ∷ p) = bool_cases (leb t x) (λ e. rw e (lit≤ tt)) (λ e. rw e (lit≤ tt))
-weigh_most (b ∷ g) t (x ∷ p) = let on = weigh_most g t p in bool_cases (ltb b x) (λ e. rw e (lit≤ tt)) (λ e. bool_cases (eqb b x) (λ u. rw (e, u) on) (λ u. rw (e, u) (lit≤ tt)))
 
 -- what stands behind the text, without a test
 pub behind_is : (t : ℕ) → Tail t → t / 256 * 256 ≡ behind_text t
@@ -71,16 +66,27 @@ key_same [] t (y ∷ k) w h = bool_cases (leb (behind_text t) y)
 key_same (x ∷ g) t [] w h = absurd (omega arith)
 key_same (x ∷ g) t (y ∷ k) w h = key_open x y g (behind_text t) k w (λ e u v. rw (e, u) (key_same g t k v (omega arith)))
 
-module _ {f : List ℕ} {o e : ℕ} {k : List ℕ} {v : Value} (A : LeafAt f o e k v) (text : List ℕ) (tail w n from : ℕ) {b : ℕ} (eb : b ≡ behind_text tail)
-    (ef : from ≡ le 4 f (o + leaf_extent)) (en : n ≡ le 2 f (o + leaf_key)) (ew : w ≡ weigh (drop 0 text) b (take n (drop from f))) where
-  whole : w ≡ weigh text (behind_text tail) k
-  whole = ew ∙ rw (eb, ef ∙ A.extent, en ∙ A.key_length, key_text A)
+module _ {f : List ℕ} {o e : ℕ} {k : List ℕ} {v : Value} (A : LeafAt f o e k v) (text : List ℕ) (tail n from : ℕ) {b : ℕ} (eb : b ≡ behind_text tail)
+    (ef : from ≡ le 4 f (o + leaf_extent)) (en : n ≡ le 2 f (o + leaf_key)) where
+  abbrev here : ℕ
+  here = weigh (drop 0 text) b (take n (drop from f))
 
-  pub leaf_decided : (w ≡ 1 → ⊥) → eqb w 2 ≡ reach text tail k
-  leaf_decided h = ap (λ (x : ℕ). eqb x 2) whole ∙ key_decided text tail k (λ z. h (whole ∙ z))
+  whole : here ≡ weigh text (behind_text tail) k
+  whole = rw (eb, ef ∙ A.extent, en ∙ A.key_length, key_text A)
 
-  pub leaf_less : w ≡ 1 → n < length text → false ≡ reach text tail k
-  leaf_less q h = let m : n ≡ length k = en ∙ A.key_length in key_less text tail k (sym whole ∙ q) (omega arith)
+  decided : (w : ℕ) → w ≡ here → (w ≡ 1 → ⊥) → eqb w 2 ≡ reach text tail k
+  decided w h x = ap (λ (x : ℕ). eqb x 2) (h ∙ whole) ∙ key_decided text tail k (λ z. x (h ∙ whole ∙ z))
 
-  pub leaf_same : w ≡ 1 → length text ≤ n → eqb tail 0 ≡ reach text tail k
-  leaf_same q h = let m : n ≡ length k = en ∙ A.key_length in key_same text tail k (sym whole ∙ q) (omega arith)
+  pub leaf_above : 2 ≡ here → true ≡ reach text tail k
+  leaf_above h = decided 2 h (λ z. omega arith)
+
+  pub leaf_below : 0 ≡ here → false ≡ reach text tail k
+  leaf_below h = decided 0 h (λ z. omega arith)
+
+  pub leaf_less : 1 ≡ here → n < length text → leb (length text) n ≡ reach text tail k
+  leaf_less q h =
+      let m : n ≡ length k = en ∙ A.key_length in
+      leb_cases (length text) n (λ t p. absurd (omega arith)) (λ t p. t ∙ key_less text tail k (sym (q ∙ whole)) (omega arith))
+
+  pub leaf_same : 1 ≡ here → length text ≤ n → eqb tail 0 ≡ reach text tail k
+  leaf_same q h = let m : n ≡ length k = en ∙ A.key_length in key_same text tail k (sym (q ∙ whole)) (omega arith)

@@ -18,22 +18,22 @@ use Rattle.model.specs.Edition.{Edition, Value}
 use Rattle.model.specs.Body.{InnerAt, Asc, look_kid, LeafAt, PrefixAt}
 use Rattle.model.specs.Frame.{Lay, LayKids, slot_of, pairs, Tree, Trees}
 use Rattle.model.specs.Frame.Lay.{leaf, prefix, node}
-use Rattle.model.proofs.StringLaws.{bool_cases, clash}
+use Rattle.model.proofs.StringLaws.{bool_cases}
 use Rattle.model.proofs.StandsGood.{bytes_text}
 use Rattle.model.proofs.UniqueLaws.{tree_unique}
 use Rattle.node.specs.Kids.{next_kid, or_zero}
 use Rattle.keys.proofs.KeyLaws.{text_part}
 use Rattle.listing.specs.Seek.{Leafy, leaves, leaves_all, weigh, reach, first_from, first_leaf, or_else, kids_from, leaves_at, Kept}
 use Rattle.listing.proofs.SeekLaws.{weigh_append, weigh_byte, seek_above, seek_below, node_tail, node_byte}
+use Rattle.std.specs.Prelude.{Option as Optional, Some, None}
 use Rattle.seek.specs.declared.Spare.{Spare}
-use Rattle.seek.specs.declared.Sought.{Sought}
 use Rattle.inside.specs.Inside.{Inside, InsideAll}
 use Rattle.inside.proofs.InsideLaws.{entry_at_lem}
 use Rattle.audit.proofs.TreeLaws.{below_short, node_short}
 use Rattle.seek.specs.Sub.{Sub}
 use Rattle.seek.specs.Seek.{Fallback, Falls, Is, SoughtAt, Guided, Seeking, Nearer, LeafSome}
-use Rattle.seek.proofs.DownLaws.{Full, tree_full, sub_slot}
-use Rattle.seek.proofs.LeafLaws.{key_there, weigh_most}
+use Rattle.seek.proofs.DownLaws.{Full, tree_full}
+use Rattle.seek.proofs.LeafLaws.{key_there}
 use Rattle.seek.proofs.SeekLaws.{tree_under, trees_kept, kids_none, kids_some, kid_gone, kid_there}
 
 -- ---- choices
@@ -57,7 +57,7 @@ open_short (b ∷ g) t (x ∷ p) e = bool_cases (ltb b x)
     (λ u. let z : ◌≡◌ {A = ℕ} 2 1 = rw u at e in absurd (omega arith))
     (λ u. bool_cases (eqb b x) (λ v. let n = open_short g t p (rw (u, v) at e) in omega arith) (λ v. let z : ◌≡◌ {A = ℕ} 0 1 = rw (u, v) at e in absurd (omega arith)))
 
-pub start : {E : Edition} {f : List ℕ} (g w : List ℕ) (t : ℕ) {s : ℕ} → Guided E f g w t s → Seeking E f g w t s s 0 (record { slot = 0; depth = 0 })
+pub start : {E : Edition} {f : List ℕ} (g w : List ℕ) (t : ℕ) {s : ℕ} → Guided E f g w t s → Seeking E f g w t s s 0 None
 start {E} {f} g w t {s} P =
     let S = P.sub in
     let e : S.path ≡ [] = empty S.path S.deep in
@@ -66,7 +66,7 @@ start {E} {f} g w t {s} P =
       guides = P.guides;
       undecided = rw e;
       spare = none;
-      falls = record { without = λ h. refl; sub = λ h. absurd (omega arith); first = λ h. absurd (omega arith) };
+      falls = record { to = refl };
       whole = λ path l T q. ap (λ (x : Lay). first_from g t (leaves x)) (tree_unique E f path S.path l S.lay T S.tree (q ∙ sym S.slot_is)) ∙ sym (or_none (first_from g t (leaves S.lay)));
     }
   where
@@ -74,24 +74,22 @@ start {E} {f} g w t {s} P =
     empty [] h = refl
     empty (x ∷ p) h = absurd (omega arith)
 
-module _ {E : Edition} {f g w : List ℕ} {t s s' d : ℕ} {p : Spare} (K : Seeking E f g w t s s' d p) where
+module _ {E : Edition} {f g w : List ℕ} {t s s' d : ℕ} {p : Optional Spare} (K : Seeking E f g w t s s' d p) where
   pub spare_falls : Falls E f p
   spare_falls = record { leafy = K.spare; fallback = K.falls }
 
-  as_is : (x y : Option Leafy) {r : Sought} → x ≡ y → Is y r → Is x r
+  as_is : (x y : Option Leafy) {r : Optional ℕ} → x ≡ y → Is y r → Is x r
   as_is x y e h = rw e h
 
   -- nothing in this tree
-  pub fell : {r : Sought} → first_from g t (leaves K.sub.lay) ≡ none → Is K.spare r → SoughtAt E f g t s r
+  pub fell : {r : Optional ℕ} → first_from g t (leaves K.sub.lay) ≡ none → Is K.spare r → SoughtAt E f g t s r
   fell e h path l T q = as_is (first_from g t (leaves l)) K.spare (K.whole path l T q ∙ rw e) h
 
   -- all of this tree
-  pub this_falls : Fallback E f (record { slot = s'; depth = d }) (first_leaf (leaves K.sub.lay))
-  this_falls =
-      let n = (sub_slot K.sub).0 in
-      record { without = λ h. absurd (omega arith); sub = λ h. K.sub; first = λ h. refl }
+  pub this_falls : Fallback E f (Some (record { slot = s'; depth = d })) (first_leaf (leaves K.sub.lay))
+  this_falls = record { to = record { sub = K.sub; first = refl } }
 
-  pub stood : {r : Sought} → first_from g t (leaves K.sub.lay) ≡ first_leaf (leaves K.sub.lay) → Is (first_leaf (leaves K.sub.lay)) r → SoughtAt E f g t s r
+  pub stood : {r : Optional ℕ} → first_from g t (leaves K.sub.lay) ≡ first_leaf (leaves K.sub.lay) → Is (first_leaf (leaves K.sub.lay)) r → SoughtAt E f g t s r
   stood e h path l T q =
       as_is (first_from g t (leaves l)) (first_leaf (leaves K.sub.lay))
       (K.whole path l T q ∙ rw e (or_full (leaves K.sub.lay) K.spare (tree_full E f K.sub.path K.sub.lay K.sub.tree))) h
@@ -113,13 +111,13 @@ module _ {E : Edition} {f g w : List ℕ} {t s s' d : ℕ} {p : Spare} (K : Seek
     pub leaf_some : LeafSome E f o
     leaf_some = leaf_is.0
 
-    pub leaf_hit : ((e : ℕ) (k : List ℕ) (v : Value) → LeafAt f o e k v → true ≡ reach g t k) → SoughtAt E f g t s (record { found = true; place = o })
+    pub leaf_hit : ((e : ℕ) (k : List ℕ) (v : Value) → LeafAt f o e k v → true ≡ reach g t k) → SoughtAt E f g t s (Some o)
     leaf_hit H =
         let L = leaf_is.0 in
         let r = H L.extent L.key L.value L.at in
-        stood (rw (leaf_is.1, ← r)) (record { there = λ _. record { leaf = record { place = o; key = L.key }; is = rw leaf_is.1; place = refl }; gone = λ z. clash (cc) })
+        stood (rw (leaf_is.1, ← r)) (record { at = record { leaf = record { place = o; key = L.key }; is = rw leaf_is.1; place = refl } })
 
-    pub leaf_miss : {r : Sought} → ((e : ℕ) (k : List ℕ) (v : Value) → LeafAt f o e k v → false ≡ reach g t k) → Is K.spare r → SoughtAt E f g t s r
+    pub leaf_miss : {r : Optional ℕ} → ((e : ℕ) (k : List ℕ) (v : Value) → LeafAt f o e k v → false ≡ reach g t k) → Is K.spare r → SoughtAt E f g t s r
     leaf_miss H i =
         let L = leaf_is.0 in
         let r = H L.extent L.key L.value L.at in
@@ -173,46 +171,46 @@ module _ {E : Edition} {f g w : List ℕ} {t s s' d : ℕ} {p : Spare} (K : Seek
       pub prefix_some : 1 ≤ n
       prefix_some = let m = at_prefix.at.some in let l = long in omega arith
 
-      module _ {v : ℕ} (ev : v ≡ weigh (drop d w) t (take n (drop (o + prefix_bytes) f))) where
-        text_is : take n (drop (o + prefix_bytes) f) ≡ at_prefix.bytes
-        text_is =
-            let r = at_prefix.at.room in let m = at_prefix.at.most in
-            rw long (text_part f (o + prefix_bytes) at_prefix.bytes (omega arith) at_prefix.at.text)
+      text_is : take n (drop (o + prefix_bytes) f) ≡ at_prefix.bytes
+      text_is =
+          let r = at_prefix.at.room in let m = at_prefix.at.most in
+          rw long (text_part f (o + prefix_bytes) at_prefix.bytes (omega arith) at_prefix.at.text)
 
-        weighs : weigh w t (K.sub.path ++ at_prefix.bytes) ≡ v
-        weighs = weigh_append w t K.sub.path at_prefix.bytes ∙ rw (K.undecided, K.sub.deep, ← text_is, ← ev)
+      abbrev here : ℕ
+      here = weigh (drop d w) t (take n (drop (o + prefix_bytes) f))
 
-        pub prefix_above : {r : Sought} → v ≡ 2 → Is (first_leaf (leaves K.sub.lay)) r → SoughtAt E f g t s r
-        prefix_above e i =
-            stood (rw at_prefix.leaves_are (seek_above K.guides (K.sub.path ++ at_prefix.bytes) at_prefix.below (weighs ∙ e) (tree_under E f (K.sub.path ++ at_prefix.bytes) at_prefix.below at_prefix.tree))) i
+      weighs : weigh w t (K.sub.path ++ at_prefix.bytes) ≡ here
+      weighs = weigh_append w t K.sub.path at_prefix.bytes ∙ rw (K.undecided, K.sub.deep, ← text_is)
 
-        pub prefix_below : {r : Sought} → v ≡ 0 → Is K.spare r → SoughtAt E f g t s r
-        prefix_below e i =
-            fell (rw at_prefix.leaves_are (seek_below K.guides (K.sub.path ++ at_prefix.bytes) at_prefix.below (weighs ∙ e) (tree_under E f (K.sub.path ++ at_prefix.bytes) at_prefix.below at_prefix.tree))) i
+      pub prefix_above : {r : Optional ℕ} → 2 ≡ here → Is (first_leaf (leaves K.sub.lay)) r → SoughtAt E f g t s r
+      prefix_above e i =
+          stood (rw at_prefix.leaves_are (seek_above K.guides (K.sub.path ++ at_prefix.bytes) at_prefix.below (weighs ∙ sym e) (tree_under E f (K.sub.path ++ at_prefix.bytes) at_prefix.below at_prefix.tree))) i
 
-        pub prefix_on : {c : ℕ} → c ≡ le 4 f (o + prefix_child) → (v ≡ 2 → ⊥) → (v ≡ 0 → ⊥) → Seeking E f g w t s c (d + n) p
-        prefix_on {c} ec no2 no0 =
-            let most : v ≤ 2 = rw (← ev) at (weigh_most (drop d w) t (take n (drop (o + prefix_bytes) f))) in
-            let e : v ≡ 1 = omega arith in
-            let a = at_prefix.short in let l = long in let z = K.sub.deep in
-            record {
-              sub = record {
-                lawful = K.sub.lawful;
-                lay = at_prefix.below;
-                path = K.sub.path ++ at_prefix.bytes;
-                tree = at_prefix.tree;
-                slot_is = sym (ec ∙ at_prefix.at.child);
-                inside = at_prefix.inside;
-                bytes = K.sub.bytes;
-                deep = omega (arith, length-append K.sub.path at_prefix.bytes);
-                short = omega (arith, length-append K.sub.path at_prefix.bytes);
-              };
-              guides = K.guides;
-              undecided = weighs ∙ e;
-              spare = K.spare;
-              falls = K.falls;
-              whole = λ path l T i. K.whole path l T i ∙ rw at_prefix.leaves_are;
-            }
+      pub prefix_below : {r : Optional ℕ} → 0 ≡ here → Is K.spare r → SoughtAt E f g t s r
+      prefix_below e i =
+          fell (rw at_prefix.leaves_are (seek_below K.guides (K.sub.path ++ at_prefix.bytes) at_prefix.below (weighs ∙ sym e) (tree_under E f (K.sub.path ++ at_prefix.bytes) at_prefix.below at_prefix.tree))) i
+
+      pub prefix_on : {c : ℕ} → c ≡ le 4 f (o + prefix_child) → 1 ≡ here → Seeking E f g w t s c (d + n) p
+      prefix_on {c} ec e =
+          let a = at_prefix.short in let l = long in let z = K.sub.deep in
+          record {
+            sub = record {
+              lawful = K.sub.lawful;
+              lay = at_prefix.below;
+              path = K.sub.path ++ at_prefix.bytes;
+              tree = at_prefix.tree;
+              slot_is = sym (ec ∙ at_prefix.at.child);
+              inside = at_prefix.inside;
+              bytes = K.sub.bytes;
+              deep = omega (arith, length-append K.sub.path at_prefix.bytes);
+              short = omega (arith, length-append K.sub.path at_prefix.bytes);
+            };
+            guides = K.guides;
+            undecided = weighs ∙ sym e;
+            spare = K.spare;
+            falls = K.falls;
+            whole = λ path l T i. K.whole path l T i ∙ rw at_prefix.leaves_are;
+          }
 
   -- ---- an inner node
 
@@ -256,7 +254,7 @@ module _ {E : Edition} {f g w : List ℕ} {t s s' d : ℕ} {p : Spare} (K : Seek
     kept = trees_kept E f K.sub.path 0 at_node.kids at_node.asc at_node.trees
 
     -- the first child from a byte on, or what there was
-    pub nearer_falls : {r : Spare} (lo : ℕ) → Nearer f o kind lo d p r → Fallback E f r (or_else (first_leaf (leaves_all (kids_from lo at_node.kids))) K.spare)
+    pub nearer_falls : {r : Optional Spare} (lo : ℕ) → Nearer f o kind lo d p r → Fallback E f r (or_else (first_leaf (leaves_all (kids_from lo at_node.kids))) K.spare)
     nearer_falls {r} lo N = elim (ℕ_discrete (next_kid lo (pairs at_node.kids)).0 256) [
       | yes e ↦
           let z = N.lacking (pairs at_node.kids) at_node.inner e in
@@ -264,20 +262,11 @@ module _ {E : Edition} {f g w : List ℕ} {t s s' d : ℕ} {p : Spare} (K : Seek
       | no e ↦
           let z = N.having (pairs at_node.kids) at_node.inner e in
           let S = kids_some E K.sub.lawful f K.sub.path d K.sub.bytes K.sub.deep at_node.short 0 lo at_node.kids at_node.asc at_node.trees at_node.inside e in
-          let n = (sub_slot S.0).0 in
-          let m = at_node.short in
-          let a = z.0 in let b = z.1 in
-          let S' : Sub E f r.slot r.depth = rw (a, b) S.0 in
-          let F : first_leaf (leaves S.0.lay) ≡ first_leaf (leaves S'.lay) = ap (λ (y : Lay). first_leaf (leaves y)) (tree_unique E f S.0.path S'.path S.0.lay S'.lay S.0.tree S'.tree (S.0.slot_is ∙ sym a ∙ sym S'.slot_is)) in
-          record {
-            without = λ h. absurd (omega arith);
-            sub = λ h. S';
-            first = λ h. rw S.1 (or_full (leaves S.0.lay) K.spare (tree_full E f S.0.path S.0.lay S.0.tree) ∙ F);
-          }
+          rw z (record { to = record { sub = S.0; first = rw S.1 (or_full (leaves S.0.lay) K.spare (tree_full E f S.0.path S.0.lay S.0.tree)) } })
     ]
 
     -- the bound ends here
-    pub node_end : {r : Sought} → length w ≤ d → Is (or_else (first_leaf (leaves_all (kids_from t at_node.kids))) K.spare) r → SoughtAt E f g t s r
+    pub node_end : {r : Optional ℕ} → length w ≤ d → Is (or_else (first_leaf (leaves_all (kids_from t at_node.kids))) K.spare) r → SoughtAt E f g t s r
     node_end {r} e i path l T j =
         let z = drop_of_length-le w {i = length K.sub.path} (let y = K.sub.deep in omega arith) in
         as_is (first_from g t (leaves l)) (or_else (first_leaf (leaves_all (kids_from t at_node.kids))) K.spare)
@@ -294,14 +283,14 @@ module _ {E : Edition} {f g w : List ℕ} {t s s' d : ℕ} {p : Spare} (K : Seek
           ∙ rw (at_node.leaves_are, node_byte K.guides K.sub.path K.undecided 0 at_node.kids (get_or w d 0) (drop (suc d) w) kept next_byte) (or_assoc (first_from g t (leaves_at (get_or w d 0) at_node.kids)) (first_leaf (leaves_all (kids_from (suc (get_or w d 0)) at_node.kids))) K.spare)
 
       -- no child has the byte
-      pub node_miss : {r : Sought} {c : ℕ} → ((ks : List (ℕ × ℕ)) → InnerAt f o kind ks → c ≡ or_zero (look_kid (get_or w d 0) ks)) → c ≡ 0
+      pub node_miss : {r : Optional ℕ} {c : ℕ} → ((ks : List (ℕ × ℕ)) → InnerAt f o kind ks → c ≡ or_zero (look_kid (get_or w d 0) ks)) → c ≡ 0
           → Is (or_else (first_leaf (leaves_all (kids_from (suc (get_or w d 0)) at_node.kids))) K.spare) r → SoughtAt E f g t s r
       node_miss {r} {c} C z i path l T j =
           as_is (first_from g t (leaves l)) (or_else (first_leaf (leaves_all (kids_from (suc (get_or w d 0)) at_node.kids))) K.spare)
           (split path l T j ∙ rw (kid_gone E K.sub.lawful f K.sub.path d K.sub.bytes K.sub.deep at_node.short (get_or w d 0) at_node.kids at_node.trees at_node.inside (sym (C (pairs at_node.kids) at_node.inner) ∙ z))) i
 
       -- one has
-      pub node_on : {p' : Spare} {c : ℕ} → Nearer f o kind (suc (get_or w d 0)) d p p' → ((ks : List (ℕ × ℕ)) → InnerAt f o kind ks → c ≡ or_zero (look_kid (get_or w d 0) ks)) → (c ≡ 0 → ⊥) → Seeking E f g w t s c (d + 1) p'
+      pub node_on : {p' : Optional Spare} {c : ℕ} → Nearer f o kind (suc (get_or w d 0)) d p p' → ((ks : List (ℕ × ℕ)) → InnerAt f o kind ks → c ≡ or_zero (look_kid (get_or w d 0) ks)) → (c ≡ 0 → ⊥) → Seeking E f g w t s c (d + 1) p'
       node_on {p'} {c} N C n =
           let u = C (pairs at_node.kids) at_node.inner in
           let S = kid_there E K.sub.lawful f K.sub.path d K.sub.bytes K.sub.deep at_node.short (get_or w d 0) at_node.kids at_node.trees at_node.inside (omega arith) in

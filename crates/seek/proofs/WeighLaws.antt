@@ -7,9 +7,13 @@ use mathlib.Core.List.{List, ◌∷◌}
 use mathlib.Core.Bool.{false}
 use lib.ListN.{length, take, drop, get_or, drop_of_length-le}
 use lib.Seq.{drop-cons}
-use lib.Dec.{leb}
+use lib.Dec.{leb, ltb, eqb}
 use borrow.Author.Tests.{le-leb, lt-ltb, le-ltb, eq-eqb, ne_eqb}
+use Rattle.std.proofs.Common.{Ordering, Less, Equal, Greater}
+use Rattle.std.specs.Ordering.{ordering_index, nat_cmp, MatchOrdering}
+use Rattle.std.proofs.lemmas.Cmp.{ranked}
 use Rattle.pieces.specs.Range.{Alike}
+use Rattle.model.specs.Strings.{pick}
 use Rattle.model.proofs.StringLaws.{leb_cases}
 use Rattle.listing.specs.Seek.{weigh}
 
@@ -41,12 +45,16 @@ module _ {f : List ℕ} {at n : ℕ} {text : List ℕ} {d tail i : ℕ} (I : Wei
         short = leb_cases tail (get_or f (at + i) 0) (λ t p. absurd (o p)) (λ t p. t)
 
     module _ (e : d + i < length text) where
-      pub byte_above : get_or text (d + i) 0 < get_or f (at + i) 0 → 2 ≡ weigh (drop d text) tail (take n (drop at f))
-      byte_above o = sym (I.is ∙ rw (drop-cons text (d + i) 0 e, row_cons f at n i h w, lt-ltb (get_or text (d + i) 0) (get_or f (at + i) 0) o))
-
-      pub byte_below : get_or f (at + i) 0 < get_or text (d + i) 0 → 0 ≡ weigh (drop d text) tail (take n (drop at f))
-      byte_below o =
-          sym (I.is ∙ rw (drop-cons text (d + i) 0 e, row_cons f at n i h w, le-ltb (get_or text (d + i) 0) (get_or f (at + i) 0) (omega arith), ne_eqb (get_or text (d + i) 0) (get_or f (at + i) 0) (λ q. omega arith)))
+      -- a byte that is not the text's decides
+      pub byte_decides : (o : Ordering) → o ≡ nat_cmp (get_or f (at + i) 0) (get_or text (d + i) 0) → (get_or f (at + i) 0 ≡ get_or text (d + i) 0 → ⊥) → ordering_index o ≡ weigh (drop d text) tail (take n (drop at f))
+      byte_decides o q x =
+          sym (I.is ∙ rw (drop-cons text (d + i) 0 e, row_cons f at n i h w) (by_order o (ranked (get_or f (at + i) 0) (get_or text (d + i) 0) o q)))
+        where
+          by_order : (o : Ordering) → MatchOrdering o (get_or f (at + i) 0 < get_or text (d + i) 0) (get_or f (at + i) 0 ≡ get_or text (d + i) 0) (get_or text (d + i) 0 < get_or f (at + i) 0)
+              → pick (ltb (get_or text (d + i) 0) (get_or f (at + i) 0)) 2 (pick (eqb (get_or text (d + i) 0) (get_or f (at + i) 0)) (weigh (drop (suc (d + i)) text) tail (take (n - (i + 1)) (drop (at + (i + 1)) f))) 0) ≡ ordering_index o
+          by_order Less r = rw (le-ltb (get_or text (d + i) 0) (get_or f (at + i) 0) (omega arith), ne_eqb (get_or text (d + i) 0) (get_or f (at + i) 0) (λ z. omega arith))
+          by_order Equal r = absurd (x r)
+          by_order Greater r = rw (lt-ltb (get_or text (d + i) 0) (get_or f (at + i) 0) r)
 
       pub byte_same : get_or text (d + i) 0 ≡ get_or f (at + i) 0 → Weighed f at n text d tail (i + 1)
       byte_same q =

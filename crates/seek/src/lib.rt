@@ -3,39 +3,26 @@
 #![tactic(auto)]
 
 ghost use Rattle.std.specs.Prelude.{◌≡◌, ℕ, ◌+◌, ◌≤◌, ◌<◌, length, take, drop, List};
+ghost use Rattle.std.specs.Ordering.{ordering_index};
 ghost use Rattle.inner.specs.Inner.{NodeSome};
 ghost use Rattle.seek.specs.Sub.{Sub, FirstAt};
-ghost use Rattle.std.proofs.Math.Option.{Option};
 ghost use Rattle.model.specs.Edition.{Edition, SomeEdition, Value};
 ghost use Rattle.model.specs.Body.{LeafAt};
-ghost use Rattle.listing.specs.Seek.{Leafy, weigh, reach};
-ghost use Rattle.seek.specs.Seek.{SoughtAt, Guided, Nearer, Fallback, Falls, LeafSome, Is, Tail, behind_text};
+ghost use Rattle.listing.specs.Seek.{weigh, reach};
+ghost use Rattle.seek.specs.Seek.{SoughtAt, Guided, Nearer, Falls, FallenBack, LeafSome, Tail, behind_text};
 
 use fields::body::{Leaf, Prefix};
 use inner::{look, visit};
 use layout::entry::Entry;
 use layout::kind::Kind;
+use std::cmp::Ordering;
 
-// A tree that lies above the bound, and how many bytes lead to it; slot 0 where there is none.
-#[derive(Clone, Copy)]
+// A tree that lies above the bound, and how many bytes lead to it.
+#[derive(Clone, Copy, Debug, PartialEq, Eq)]
 pub struct Spare {
     pub slot: usize,
     pub depth: usize,
 }
-
-#[derive(Clone, Copy)]
-pub struct Sought {
-    pub found: bool,
-    // of the Leaf's body
-    pub place: usize,
-}
-
-// where bytes stand to a bound: all that begins with them lies below it, they do not decide yet, all lies above
-const BELOW: usize = 0;
-
-const OPEN: usize = 1;
-
-pub const ABOVE: usize = 2;
 
 // the tail of a bound past all keys that begin with its text
 const PAST_ALL: usize = 256;
@@ -66,47 +53,43 @@ pub fn first(f: &[u8], slot: usize, depth: usize) -> usize
     }
 }
 
-// Where the n bytes of f from `at` stand to what is left of the bound behind its first d bytes: one byte after the other.
-fn weigh_each(f: &[u8], at: usize, n: usize, text: &[u8], d: usize, tail: usize) -> usize
+// Where all that begins with the n bytes of f from `at` stands to what is left of the bound behind its first d bytes, and `Equal` where these do not
+// decide yet: one byte after the other.
+fn weigh_each(f: &[u8], at: usize, n: usize, text: &[u8], d: usize, tail: usize) -> Ordering
     requires { (at + n ≤ length f.now) × (d ≤ length text.now) × (n < 65536) × (d < 65536) }
-    ensures { result ≡ weigh (drop d text.now) tail (take n (drop at f.now)) }
+    ensures { ordering_index result ≡ weigh (drop d text.now) tail (take n (drop at f.now)) }
 {
-    let mut i = 0;
-    while i < n {
-        let x = f[at + i] as usize;
+    for i in 0..n {
+        let x = f[at + i];
         if text.len() <= d + i {
-            if tail <= x {
-                return ABOVE;
+            if tail <= usize::from(x) {
+                return Ordering::Greater;
             }
-            return BELOW;
+            return Ordering::Less;
         }
-        let b = text[d + i] as usize;
-        if b < x {
-            return ABOVE;
+        let b = text[d + i];
+        if x != b {
+            return x.cmp(&b);
         }
-        if b != x {
-            return BELOW;
-        }
-        i += 1;
     }
-    OPEN
+    Ordering::Equal
 }
 
 // The same. Bytes that the text has do not decide, and are seen to be the same several at a time.
-pub fn weigh_bytes(f: &[u8], at: usize, n: usize, text: &[u8], d: usize, tail: usize) -> usize
+pub fn weigh_bytes(f: &[u8], at: usize, n: usize, text: &[u8], d: usize, tail: usize) -> Ordering
     requires { (at + n ≤ length f.now) × (d ≤ length text.now) × (n < 65536) × (d < 65536) }
-    ensures { result ≡ weigh (drop d text.now) tail (take n (drop at f.now)) }
+    ensures { ordering_index result ≡ weigh (drop d text.now) tail (take n (drop at f.now)) }
 {
     if d + n <= text.len() {
         if pieces::same(f, at, text, d, n) {
-            return OPEN;
+            return Ordering::Equal;
         }
     }
     weigh_each(f, at, n, text, d, tail)
 }
 
 // The first child of a node from byte b on, as what a seek falls back on.
-fn nearer(f: &[u8], o: usize, kind: usize, b: usize, d: usize, old: Spare) -> Spare
+fn nearer(f: &[u8], o: usize, kind: usize, b: usize, d: usize, old: Option<Spare>) -> Option<Spare>
     requires { NodeSome f.now o kind × (b ≤ 256) × (d ≤ 512) }
     ensures { Nearer f.now o kind b d old result }
 {
@@ -114,25 +97,19 @@ fn nearer(f: &[u8], o: usize, kind: usize, b: usize, d: usize, old: Spare) -> Sp
     if k.byte == NO_BYTE {
         return old;
     }
-    Spare {
+    Some(Spare {
         slot: k.slot,
         depth: d + 1,
-    }
+    })
 }
 
 // The first Leaf of what the seek falls back on.
-fn fall_back(f: &[u8], spare: Spare) -> Sought
+fn fall_back(f: &[u8], spare: Option<Spare>) -> Option<usize>
     requires { SomeEdition (λ E. Falls E f.now spare) }
-    ensures { (E : Edition) (o : Option Leafy) → Fallback E f.now spare o → Is o result }
+    ensures { (E : Edition) → FallenBack E f.now spare result }
 {
-    if spare.slot == 0 {
-        return Sought {
-            found: false,
-            place: 0,
-        };
-    }
-    let place = first(f, spare.slot, spare.depth);
-    Sought { found: true, place }
+    let spare = spare?;
+    Some(first(f, spare.slot, spare.depth))
 }
 
 // What stands behind the text for the byte that a longer key has there: past the key that is the text every byte reaches.
@@ -150,54 +127,47 @@ fn leaf_reaches(f: &[u8], place: usize, text: &[u8], tail: usize) -> bool
 {
     let from = Leaf::extent(f, place);
     let n = Leaf::key_length(f, place);
-    let w = weigh_bytes(f, from, n, text, 0, behind(tail));
-    if w != OPEN {
-        return w == ABOVE;
+    match weigh_bytes(f, from, n, text, 0, behind(tail)) {
+        Ordering::Greater => true,
+        Ordering::Less => false,
+        Ordering::Equal => text.len() <= n && tail == 0,
     }
-    if n < text.len() {
-        return false;
-    }
-    tail == 0
 }
 
-// The first Leaf, in byte order, whose key is at or above the bound of `text` and `tail`, of the tree at slot `root`. The way down is weighed against
+// The place of the body of the first Leaf, in byte order, whose key is at or above the bound of `text` and `tail`, of the tree at slot `root`. The way down is weighed against
 // `word`, which guides to that bound in the bytes of walked strings.
-pub fn seek(f: &[u8], root: usize, text: &[u8], word: &[u8], tail: usize) -> Sought
+pub fn seek(f: &[u8], root: usize, text: &[u8], word: &[u8], tail: usize) -> Option<usize>
     requires { SomeEdition (λ E. Guided E f.now text.now word.now tail root) × Tail tail }
     ensures { (E : Edition) → Guided E f.now text.now word.now tail root → SoughtAt E f.now text.now tail root result }
 {
     let mut s = root;
     let mut d = 0;
-    let mut spare = Spare { slot: 0, depth: 0 };
+    let mut spare = None;
     loop {
         let e = Entry::read(f, s);
         if e.high == Kind::LEAF {
             if leaf_reaches(f, e.place, text, tail) {
-                return Sought {
-                    found: true,
-                    place: e.place,
-                };
+                return Some(e.place);
             }
             return fall_back(f, spare);
         }
         if e.high == Kind::PREFIX {
             let n = Prefix::length(f, e.place);
-            let w = weigh_bytes(f, e.place + Prefix::BYTES, n, word, d, tail);
-            if w == ABOVE {
-                return fall_back(f, Spare { slot: s, depth: d });
+            match weigh_bytes(f, e.place + Prefix::BYTES, n, word, d, tail) {
+                Ordering::Greater => return fall_back(f, Some(Spare { slot: s, depth: d })),
+                Ordering::Less => return fall_back(f, spare),
+                Ordering::Equal => {
+                    s = Prefix::child(f, e.place);
+                    d += n;
+                    continue;
+                }
             }
-            if w == BELOW {
-                return fall_back(f, spare);
-            }
-            s = Prefix::child(f, e.place);
-            d += n;
-            continue;
         }
         if word.len() <= d {
             return fall_back(f, nearer(f, e.place, e.high, tail, d, spare));
         }
         let b = word[d];
-        spare = nearer(f, e.place, e.high, (b as usize) + 1, d, spare);
+        spare = nearer(f, e.place, e.high, usize::from(b) + 1, d, spare);
         let k = look::seat(f, e.place, e.high, b);
         if k.slot == 0 {
             return fall_back(f, spare);

@@ -8,7 +8,7 @@ use Rattle.model.specs.Frame.{pairs}
 use Rattle.seek.specs.Seek.{Nearer}
 use Rattle.seek.proofs.DownLaws.{sub_slot}
 use Rattle.seek.proofs.LeafLaws.{tail_most}
-use Rattle.seek.proofs.WayLaws.{start, spare_falls, this_falls, leaf_some, leaf_hit, leaf_miss, prefix_room, prefix_fits, prefix_some, prefix_above, prefix_below, prefix_on, at_node, nearer_falls, node_end, node_miss, node_on}
+use Rattle.seek.proofs.WayLaws.{start, this_falls, leaf_some, leaf_hit, leaf_miss, prefix_room, prefix_fits, prefix_some, prefix_above, prefix_below, prefix_on, at_node, nearer_falls, node_end, node_miss, node_on}
 use Rattle.seek.proofs.seek.Goals as goal
 
 pub loop-spare-init : goal.loop-spare-init
@@ -31,12 +31,6 @@ returns-then-leaf_reaches c = λ E H.
     let h = sym c.read-e.ensures.0 ∙ c.if-e-eq-LEAF.true in
     leaf_hit K h q (λ e k v A. sym c.if-leaf_reaches.true ∙ c.leaf_reaches.ensures e k v A)
 
-pub fall_back-requires : goal.fall_back-requires
-fall_back-requires c =
-    let l = c.loop-spare in let P = c.requires.0 in let K = l.invariant P.edition P.holds in
-    let q = sym c.read-e.ensures.1 in
-    record { edition = _; holds = spare_falls K }
-
 pub returns-then-e-eq-LEAF : goal.returns-then-e-eq-LEAF
 returns-then-e-eq-LEAF c = λ E H.
     let l = c.loop-spare in let K = l.invariant E H in
@@ -51,46 +45,33 @@ length-n-requires c =
     let h = sym c.read-e.ensures.0 ∙ c.if-e-eq-PREFIX.true in
     prefix_room K h q
 
-pub overflow_add-e : goal.overflow_add-e
-overflow_add-e c =
-    let l = c.loop-spare in let P = c.requires.0 in let K = l.invariant P.edition P.holds in
-    let q = sym c.read-e.ensures.1 in
-    let h = sym c.read-e.ensures.0 ∙ c.if-e-eq-PREFIX.true in
-    let a = prefix_room K h q in omega arith
-
-pub weigh_bytes-w-requires : goal.weigh_bytes-w-requires
-weigh_bytes-w-requires c =
+pub weigh_bytes-requires : goal.weigh_bytes-requires
+weigh_bytes-requires c =
     let l = c.loop-spare in let P = c.requires.0 in let K = l.invariant P.edition P.holds in
     let q = sym c.read-e.ensures.1 in
     let h = sym c.read-e.ensures.0 ∙ c.if-e-eq-PREFIX.true in
     let a = prefix_room K h q in let z = prefix_fits K h q c.length-n.ensures.0 in
     (omega arith, z.3, omega arith, omega arith)
 
-pub fall_back-requires-then-w-eq-ABOVE : goal.fall_back-requires-then-w-eq-ABOVE
-fall_back-requires-then-w-eq-ABOVE c =
+pub fall_back-requires-in-Greater : goal.fall_back-requires-in-Greater
+fall_back-requires-in-Greater c =
     let l = c.loop-spare in let P = c.requires.0 in let K = l.invariant P.edition P.holds in
     let q = sym c.read-e.ensures.1 in
     record { edition = _; holds = record { leafy = _; fallback = this_falls K } }
 
-pub returns-then-w-eq-ABOVE : goal.returns-then-w-eq-ABOVE
-returns-then-w-eq-ABOVE c = λ E H.
+pub returns-in-Greater : goal.returns-in-Greater
+returns-in-Greater c = λ E H.
     let l = c.loop-spare in let K = l.invariant E H in
     let q = sym c.read-e.ensures.1 in
     let h = sym c.read-e.ensures.0 ∙ c.if-e-eq-PREFIX.true in
-    prefix_above K h q c.length-n.ensures.0 c.weigh_bytes-w.ensures c.if-w-eq-ABOVE.true (c.fall_back-then-w-eq-ABOVE.ensures _ _ (this_falls K))
+    prefix_above K h q c.length-n.ensures.0 c.in-Greater.ensures (c.fall_back-in-Greater.ensures _ _ (this_falls K))
 
-pub fall_back-requires-then-w-eq-BELOW : goal.fall_back-requires-then-w-eq-BELOW
-fall_back-requires-then-w-eq-BELOW c =
-    let l = c.loop-spare in let P = c.requires.0 in let K = l.invariant P.edition P.holds in
-    let q = sym c.read-e.ensures.1 in
-    record { edition = _; holds = spare_falls K }
-
-pub returns-then-w-eq-BELOW : goal.returns-then-w-eq-BELOW
-returns-then-w-eq-BELOW c = λ E H.
+pub returns-in-Less : goal.returns-in-Less
+returns-in-Less c = λ E H.
     let l = c.loop-spare in let K = l.invariant E H in
     let q = sym c.read-e.ensures.1 in
     let h = sym c.read-e.ensures.0 ∙ c.if-e-eq-PREFIX.true in
-    prefix_below K h q c.length-n.ensures.0 c.weigh_bytes-w.ensures c.if-w-eq-BELOW.true (c.fall_back-then-w-eq-BELOW.ensures _ K.spare K.falls)
+    prefix_below K h q c.length-n.ensures.0 c.in-Less.ensures (c.fall_back-in-Less.ensures _ K.spare K.falls)
 
 pub child-s-requires : goal.child-s-requires
 child-s-requires c =
@@ -99,26 +80,19 @@ child-s-requires c =
     let h = sym c.read-e.ensures.0 ∙ c.if-e-eq-PREFIX.true in
     prefix_room K h q
 
-pub overflow_add-d : goal.overflow_add-d
-overflow_add-d c =
-    let l = c.loop-spare in let P = c.requires.0 in let K = l.invariant P.edition P.holds in
-    let q = sym c.read-e.ensures.1 in
-    let h = sym c.read-e.ensures.0 ∙ c.if-e-eq-PREFIX.true in
-    let z = prefix_fits K h q c.length-n.ensures.0 in omega arith
-
-pub loop-spare-smaller-then-e-eq-PREFIX : goal.loop-spare-smaller-then-e-eq-PREFIX
-loop-spare-smaller-then-e-eq-PREFIX c =
+pub loop-spare-smaller-in-Equal : goal.loop-spare-smaller-in-Equal
+loop-spare-smaller-in-Equal c =
     let l = c.loop-spare in let P = c.requires.0 in let K = l.invariant P.edition P.holds in
     let q = sym c.read-e.ensures.1 in
     let h = sym c.read-e.ensures.0 ∙ c.if-e-eq-PREFIX.true in
     let z = prefix_fits K h q c.length-n.ensures.0 in let n = prefix_some K h q c.length-n.ensures.0 in omega arith
 
-pub loop-spare-preserved-then-e-eq-PREFIX : goal.loop-spare-preserved-then-e-eq-PREFIX
-loop-spare-preserved-then-e-eq-PREFIX c = λ E H.
+pub loop-spare-preserved-in-Equal : goal.loop-spare-preserved-in-Equal
+loop-spare-preserved-in-Equal c = λ E H.
     let l = c.loop-spare in let K = l.invariant E H in
     let q = sym c.read-e.ensures.1 in
     let h = sym c.read-e.ensures.0 ∙ c.if-e-eq-PREFIX.true in
-    let w = c.weigh_bytes-w.ensures in prefix_on K h q c.length-n.ensures.0 w c.child-s.ensures.0 c.if-w-eq-ABOVE.false c.if-w-eq-BELOW.false
+    prefix_on K h q c.length-n.ensures.0 c.child-s.ensures.0 c.in-Equal.ensures
 
 pub nearer-requires : goal.nearer-requires
 nearer-requires c =
@@ -138,20 +112,11 @@ returns-then-word-d c = λ E H.
     let q = sym c.read-e.ensures.1 in
     let x = c.if-e-eq-LEAF.false in let y = c.if-e-eq-PREFIX.false in let k = c.read-e.ensures.0 in node_end K k x y q (omega (arith, c.if-word-d.true)) (c.fall_back-then-word-d.ensures _ _ (nearer_falls K k x y q _ c.nearer.ensures))
 
-pub bounds-word-d : goal.bounds-word-d
-bounds-word-d c = omega (arith, c.if-word-d.false)
-
-pub overflow_cast-b : goal.overflow_cast-b
-overflow_cast-b c = omega (arith, c.shared_slice_known-in-loop-spare-1.given c.loop-spare.d)
-
-pub overflow_add-b : goal.overflow_add-b
-overflow_add-b c = omega (arith, c.shared_slice_known-in-loop-spare-1.given c.loop-spare.d)
-
 pub nearer-spare-requires : goal.nearer-spare-requires
 nearer-spare-requires c =
     let l = c.loop-spare in let P = c.requires.0 in let K = l.invariant P.edition P.holds in
     let q = sym c.read-e.ensures.1 in
-    let x = c.if-e-eq-LEAF.false in let y = c.if-e-eq-PREFIX.false in let k = c.read-e.ensures.0 in let m = K.sub.short in let w = K.sub.lawful.fields.words in (record { kids = pairs (at_node K k x y q).kids; node = (at_node K k x y q).inner }, omega (arith, c.shared_slice_known-in-loop-spare-1.given l.d), omega arith)
+    let x = c.if-e-eq-LEAF.false in let y = c.if-e-eq-PREFIX.false in let k = c.read-e.ensures.0 in let m = K.sub.short in let w = K.sub.lawful.fields.words in (record { kids = pairs (at_node K k x y q).kids; node = (at_node K k x y q).inner }, omega (arith, c.type_inv.word l.d), omega arith)
 
 pub seat-k-requires : goal.seat-k-requires
 seat-k-requires c =
@@ -169,14 +134,8 @@ pub returns-then-k-eq0 : goal.returns-then-k-eq0
 returns-then-k-eq0 c = λ E H.
     let l = c.loop-spare in let K = l.invariant E H in
     let q = sym c.read-e.ensures.1 in
-    let x = c.if-e-eq-LEAF.false in let y = c.if-e-eq-PREFIX.false in let k = c.read-e.ensures.0 in let d = l.d in let N : Nearer _ _ _ (suc (get_or c.args.word.now d 0)) _ _ _ = rw add-one at c.nearer-spare.ensures in
+    let x = c.if-e-eq-LEAF.false in let y = c.if-e-eq-PREFIX.false in let k = c.read-e.ensures.0 in let d = l.d in let N : Nearer _ _ _ (suc (get_or c.args.word.now d 0)) _ _ _ = rw (add-one, c.from.ensures) at c.nearer-spare.ensures in
     node_miss K k x y q (omega (arith, c.if-word-d.false)) (λ ks A. (c.seat-k.ensures ks A).0) c.if-k-eq0.true (c.fall_back-then-k-eq0.ensures _ _ (nearer_falls K k x y q _ N))
-
-pub overflow_add-d-in-loop-spare : goal.overflow_add-d-in-loop-spare
-overflow_add-d-in-loop-spare c =
-    let l = c.loop-spare in let P = c.requires.0 in let K = l.invariant P.edition P.holds in
-    let q = sym c.read-e.ensures.1 in
-    let x = c.if-e-eq-LEAF.false in let y = c.if-e-eq-PREFIX.false in let k = c.read-e.ensures.0 in let m = (at_node K k x y q).short in let w = K.sub.lawful.fields.words in omega arith
 
 pub loop-spare-smaller : goal.loop-spare-smaller
 loop-spare-smaller c =
@@ -188,5 +147,5 @@ pub loop-spare-preserved : goal.loop-spare-preserved
 loop-spare-preserved c = λ E H.
     let l = c.loop-spare in let K = l.invariant E H in
     let q = sym c.read-e.ensures.1 in
-    let x = c.if-e-eq-LEAF.false in let y = c.if-e-eq-PREFIX.false in let k = c.read-e.ensures.0 in let d = l.d in let N : Nearer _ _ _ (suc (get_or c.args.word.now d 0)) _ _ _ = rw add-one at c.nearer-spare.ensures in
+    let x = c.if-e-eq-LEAF.false in let y = c.if-e-eq-PREFIX.false in let k = c.read-e.ensures.0 in let d = l.d in let N : Nearer _ _ _ (suc (get_or c.args.word.now d 0)) _ _ _ = rw (add-one, c.from.ensures) at c.nearer-spare.ensures in
     node_on K k x y q (omega (arith, c.if-word-d.false)) N (λ ks A. (c.seat-k.ensures ks A).0) c.if-k-eq0.false
