@@ -24,11 +24,11 @@ use Rattle.listing.specs.Seek.{Leafy, leaves, leaves_all, reach, first_from}
 use Rattle.listing.specs.Bound.{above, KeysAlike}
 use Rattle.listing.proofs.PageLaws.{first_none, first_some, left_none, left_past, left_some}
 use Rattle.inside.specs.Inside.{Inside, InsideAll}
-use Rattle.seek.specs.declared.Sought.{Sought}
+use Rattle.std.specs.Prelude.{Option as Optional, Some, None, MatchOption}
 use Rattle.seek.specs.Sub.{Sub, Placed}
 use Rattle.seek.specs.Seek.{SoughtAt, LeafSome}
 use Rattle.names.specs.declared.entry.Entry.{Entry}
-use Rattle.names.specs.Entry.{OfKey, Next, EntryFrom}
+use Rattle.names.specs.Entry.{CutOut, OfKey, Heads, Next, EntryFrom}
 use Rattle.seek.proofs.LeafLaws.{key_there}
 use Rattle.names.proofs.EditionLaws.{Naming, part_bytes}
 use Rattle.names.proofs.CutLaws.{entry_twice}
@@ -107,7 +107,7 @@ here_first E f g t (y ∷ xs) x A e = bool_cases (reach g t y.key)
 pub of_sub : {E : Edition} {f : List ℕ} {root : ℕ} (S : Sub E f root 0) (P : Lay → Type 0) → P S.lay → (path : List ℕ) (l : Lay) → Tree E f path l → slot_of l ≡ root → P l
 of_sub {E} {f} {root} S P h path l T q = subst P (tree_unique E f S.path path S.lay l S.tree T (S.slot_is ∙ sym q)) h
 
-module _ {E : Edition} (N : Naming E) {f : List ℕ} (g : List ℕ) (t : ℕ) {root : ℕ} (S : Sub E f root 0) {s : Sought} (K : SoughtAt E f g t root s) where
+module _ {E : Edition} (N : Naming E) {f : List ℕ} (g : List ℕ) (t : ℕ) {root : ℕ} (S : Sub E f root 0) where
   abbrev rs : List Record
   rs = records (art S.lay)
 
@@ -115,49 +115,47 @@ module _ {E : Edition} (N : Naming E) {f : List ℕ} (g : List ℕ) (t : ℕ) {r
   facts = (tree_records N.lawful f S.path S.lay S.bytes S.tree).0
 
   -- no key is at or above the bound
-  pub entry_gone : (p : List ℕ) (d : Option ℕ) {r : Entry} → s.found ≡ false → r.there ≡ false → EntryFrom E f root p d g t r
-  entry_gone p d {r} e n =
+  pub entry_gone : (p : List ℕ) (d : Option ℕ) → SoughtAt E f g t root None → EntryFrom E f root p d g t None
+  entry_gone p d K =
       of_sub S (λ (l : Lay). begins p g ≡ true → (z : Option (List ℕ)) → names d p (above g t (records (art l))) ≡ after_start z (names d p (records (art l)))
-      → Next E f p d (records (art l)) (after_start z (names d p (records (art l)))) r)
+      → Next E f p d (records (art l)) (after_start z (names d p (records (art l)))) None)
       (λ b z left.
-      let none_left = first_none g t rs (leaves S.lay) (alike S.lay) ((K S.path S.lay S.tree S.slot_is).gone e) in
-      record { gone = λ _. left_none d p g t rs z facts left none_left; there = λ y. clash (cc) })
+      let none_left = first_none g t rs (leaves S.lay) (alike S.lay) (K S.path S.lay S.tree S.slot_is).at in
+      record { is = left_none d p g t rs z facts left none_left })
 
-  module _ (e : s.found ≡ true) where
-    placed : Placed (first_from g t (leaves S.lay)) s.place
-    placed = (K S.path S.lay S.tree S.slot_is).there e
+  module _ {place : ℕ} (K : SoughtAt E f g t root (Some place)) where
+    placed : Placed (first_from g t (leaves S.lay)) place
+    placed = (K S.path S.lay S.tree S.slot_is).at
 
     here : LeafHere E f placed.leaf
     here = here_first E f g t (leaves S.lay) placed.leaf (tree_here E f S.bytes S.path S.lay S.inside S.tree) placed.is
 
-    leaf_at : LeafAt f s.place here.extent placed.leaf.key here.value
+    leaf_at : LeafAt f place here.extent placed.leaf.key here.value
     leaf_at = rw placed.place at here.at
 
-    pub sought_leaf : LeafSome E f s.place
+    pub sought_leaf : LeafSome E f place
     sought_leaf = record { extent = here.extent; key = placed.leaf.key; value = here.value; at = leaf_at; room = rw placed.place at here.room; legal = here.legal }
 
     -- the first key that is
-    pub entry_there : (p : List ℕ) (d : Option ℕ) {r : Entry} → ((x : ℕ) (k : List ℕ) (v : Value) → LeafAt f s.place x k v → OfKey f p d k r) → EntryFrom E f root p d g t r
+    pub entry_there : (p : List ℕ) (d : Option ℕ) {r : Optional Entry} → ((x : ℕ) (k : List ℕ) (v : Value) → LeafAt f place x k v → OfKey f p d k r) → EntryFrom E f root p d g t r
     entry_there p d {r} O =
         of_sub S (λ (l : Lay). begins p g ≡ true → (z : Option (List ℕ)) → names d p (above g t (records (art l))) ≡ after_start z (names d p (records (art l)))
         → Next E f p d (records (art l)) (after_start z (names d p (records (art l)))) r)
-        (λ b z left.
-        let k = placed.leaf.key in
-        let Q = O here.extent k here.value leaf_at in
-        let B = first_some g t rs (leaves S.lay) placed.leaf (alike S.lay) placed.is in
-        record {
-          gone = λ y. left_past d p g t rs z facts left b B (Q.gone y);
-          there = λ y.
-              let C = Q.there y in
-              let w = entry_twice d p k C.matches in
-              record {
-                text = entry_for d p k;
-                inside = C.inside;
-                is = C.text;
-                legal = record { passes = N.entries d p k here.legal.passes; bytes = rw C.text at (part_bytes f r.at r.long S.bytes) };
-                matches = w.0;
-                own = w.1;
-                tail = C.tail ∙ sym w.2;
-                first = left_some d p g t rs z facts left B C.matches;
-              };
-        })
+        (λ b z left. record { is = go r (O here.extent placed.leaf.key here.value leaf_at).is b z left })
+      where
+        go : (r : Optional Entry) → MatchOption r (begins p placed.leaf.key ≡ false) (CutOut f p d placed.leaf.key) → begins p g ≡ true → (z : Option (List ℕ)) → names d p (above g t rs) ≡ after_start z (names d p rs)
+            → MatchOption r (after_start z (names d p rs) ≡ []) (Heads E f p d rs (after_start z (names d p rs)))
+        go None y b z left = left_past d p g t rs z facts left b (first_some g t rs (leaves S.lay) placed.leaf (alike S.lay) placed.is) y
+        go (Some e) C b z left =
+            let k = placed.leaf.key in
+            let w = entry_twice d p k C.matches in
+            record {
+              text = entry_for d p k;
+              inside = C.inside;
+              is = C.text;
+              legal = record { passes = N.entries d p k here.legal.passes; bytes = rw C.text at (part_bytes f e.at e.long S.bytes) };
+              matches = w.0;
+              own = w.1;
+              tail = C.tail ∙ sym w.2;
+              first = left_some d p g t rs z facts left (first_some g t rs (leaves S.lay) placed.leaf (alike S.lay) placed.is) C.matches;
+            }

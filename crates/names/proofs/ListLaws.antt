@@ -1,14 +1,17 @@
 -- The ends of the public call: refused by the check, for the prefix, for the start key; no record; a page. Assumes nothing.
 use Prim.Native.Nat.{ℕ, ◌<◌, ◌≤◌}
 use native.Mathlib.Omega.{arith}
-use native.Mathlib.Decide.{ℕ_discrete}
 use mathlib.Core.Path.{◌≡◌, refl, sym, ap, ◌∙◌}
 use mathlib.Core.List.{List, [], ◌∷◌}
-use mathlib.Core.Bool.{Bool, true, false, not}
+use mathlib.Core.Bool.{Bool, true, false}
 use mathlib.Core.Option.{Option, none, some}
 use lib.ListN.{length}
 use lib.Dec.{eqb}
-use borrow.Author.Tests.{lt-ltb, le-ltb, ne_eqb, not-true, not-false}
+use Rattle.std.specs.Borrow.{Bor}
+use Rattle.std.specs.Bool.{then_some}
+use Rattle.std.specs.Prelude.{Result, Ok, Err}
+use Rattle.std.specs.Result.{OkIff, result_ok}
+use borrow.Author.Tests.{lt-ltb, le-ltb, ne_eqb}
 use Rattle.answers.specs.declared.List.{List as Listing}
 use Rattle.answers.specs.Number.{list_number, list_count, list_more}
 use Rattle.layout.specs.Number.{le}
@@ -22,20 +25,22 @@ use Rattle.model.specs.Promise.{Told, CheckPromise}
 use Rattle.model.proofs.StringLaws.{bool_cases}
 use Rattle.model.proofs.StandsGood.{stands_heads}
 use Rattle.model.proofs.PackStands.{empty_none}
-use Rattle.listing.specs.Listing.{names, after_start, fitting, Listed, refused_as, written, page, prefix_limit, prefix_fault, start_of, start_fault, listing, Gave, ListPromise}
+use Rattle.listing.specs.Listing.{names, after_start, fitting, Listed, refused_as, written, page, prefix_limit, prefix_fault, start_of, delimiter_of, start_fault, listing, Gave, ListPromise}
 use Rattle.inside.specs.Inside.{Inside}
 use Rattle.inside.proofs.InsideLaws.{stands_inside}
 use Rattle.seek.specs.Sub.{Sub}
-use Rattle.names.specs.Entry.{PageAt}
+use Rattle.names.specs.Entry.{maybe, started, PageAt}
 use Rattle.names.proofs.EditionLaws.{Naming}
 
--- ---- the start key
+-- ---- what is asked for, as a caller says it
 
-pub fault_none : (E : Edition) (given : Bool) (s : List ℕ) → not given ≡ true → 0 ≡ start_fault E (start_of given s)
-fault_none E given s e = rw (not-true given e)
+pub start_is : (given : Bool) (s : Bor (List ℕ)) → started (then_some given s) ≡ start_of given s.now
+start_is true s = refl
+start_is false s = refl
 
-pub fault_given : (E : Edition) (given : Bool) (s : List ℕ) {n : ℕ} → not given ≡ false → n ≡ E.key_fault s → n ≡ start_fault E (start_of given s)
-fault_given E given s e q = rw (not-false given e) q
+pub delimiter_is : {X : Type 0} (d : ℕ) (r : Result ℕ X) → OkIff r (d < 256) d → maybe (result_ok r) ≡ delimiter_of d
+delimiter_is d (Ok x) h = let l = h.0 in let e = h.1 in rw (e, lt-ltb d 256 l) refl
+delimiter_is d (Err e) h = rw (le-ltb d 256 (omega arith)) refl
 
 -- the tree of a frame with a record
 record RootTree (E : Edition) (f : List ℕ) (st : State) (S : Stands E f st) : Type 0 where
@@ -65,9 +70,6 @@ module _ {E : Edition} (N : Naming E) {f : List ℕ} {n : ℕ} (promised : Check
   told_good : (k : ℕ) → Told E f k
   told_good k = record { length1 = λ x. absurd (omega (arith, promised.told.length1 x)); bad2 = λ l x. absurd (x good); good = λ x y. good }
 
-  pub header_long : 64 ≤ length f
-  header_long = let h = good.1.heap.header in omega (arith, h.size, h.limits)
-
   module _ {records : ℕ} (er : records ≡ le 4 f at_r) (some_records : records ≡ 0 → ⊥) {root : ℕ} (eo : root ≡ le 2 f at_root) where
     rooted : (st : State) (S : Stands E f st) → RootTree E f st S
     rooted st S = let H = stands_heads E f st S in let r = er ∙ H.records_at in root_tree N f st S (omega arith)
@@ -83,19 +85,6 @@ module _ {E : Edition} (N : Naming E) {f : List ℕ} {n : ℕ} (promised : Check
 -- ---- the ends of the call
 
 module _ {E : Edition} (N : Naming E) {f : List ℕ} {n : ℕ} (promised : CheckPromise E f n) (p : List ℕ) (s : Option (List ℕ)) (d : Option ℕ) (b : List ℕ) where
-  -- ---- the check refuses
-
-  refused_frame : (m : ℕ) → CheckPromise E f m → (m ≡ 0 → ⊥) → ListPromise E f p s d b m 0 0 b
-  refused_frame m P ne = record { told = P.told; refused = λ z. (refl, refl, refl); listed = λ st S. absurd (ne (P.good0 (st, S))) }
-
-  pub list_one : n ≡ 1 → ListPromise E f p s d b 1 0 0 b
-  list_one z = refused_frame 1 (rw z at promised) (λ x. omega arith)
-
-  pub list_two : (n ≡ 1 → ⊥) → (n ≡ 0 → ⊥) → ListPromise E f p s d b 2 0 0 b
-  list_two x y =
-      let z : n ≡ 2 = elim (ℕ_discrete n 2) [ yes q ↦ q | no q ↦ absurd (y (promised.good0 (promised.told.good x q))) ] in
-      refused_frame 2 (rw z at promised) (λ w. omega arith)
-
   -- ---- the frame is good
 
   module _ (z : n ≡ 0) where
@@ -105,10 +94,6 @@ module _ {E : Edition} (N : Naming E) {f : List ℕ} {n : ℕ} (promised : Check
     refused_as_lem : (k : ℕ) → ((st : State) → listing E (records_of st.tree) p s d (length b) ≡ refused_as k) → ListPromise E f p s d b k 0 0 b
     refused_as_lem k q = record { told = told_good N promised z k; refused = λ x. (refl, refl, refl); listed = λ st S. gave_refused (listing E (records_of st.tree) p s d (length b)) k (q st) }
 
-    -- the prefix
-    pub list_prefix : prefix_limit E < length p → ListPromise E f p s d b 3 0 0 b
-    list_prefix h = refused_as_lem 3 (λ st. rw (lt-ltb (prefix_limit E) (length p) h))
-
     module _ (short : length p ≤ prefix_limit E) where
       prefix_passes : prefix_fault E p ≡ 0
       prefix_passes = rw (le-ltb (prefix_limit E) (length p) short)
@@ -116,9 +101,6 @@ module _ {E : Edition} (N : Naming E) {f : List ℕ} {n : ℕ} (promised : Check
       -- the start key
       start_refused : (k : ℕ) → start_fault E s ≡ k → (k ≡ 0 → ⊥) → ListPromise E f p s d b k 0 0 b
       start_refused k q ne = refused_as_lem k (λ st. rw (prefix_passes, q, ne_eqb k 0 ne))
-
-      pub list_start : {fault : ℕ} → fault ≡ start_fault E s → fault ≡ 3 → ListPromise E f p s d b 3 0 0 b
-      list_start e q = start_refused 3 (sym e ∙ q) (λ x. omega arith)
 
       pub list_zero : {fault : ℕ} → fault ≡ start_fault E s → (fault ≡ 3 → ⊥) → (fault ≡ 0 → ⊥) → ListPromise E f p s d b 4 0 0 b
       list_zero {fault} e x y = start_refused 4 (sym e ∙ fourth s fault e x y) (λ w. omega arith)

@@ -4,7 +4,7 @@ use native.Mathlib.Omega.{arith}
 use mathlib.Core.Path.{◌≡◌, refl, sym, ap, ◌∙◌}
 use mathlib.Core.List.{List, [], ◌∷◌, ◌++◌, append_assoc, append-nil}
 use lib.ListN.{length, take, length-append, length-take}
-use lib.Seq.{take-take, take_at, take_all}
+use lib.Seq.{take-take, take_at}
 use borrow.Author.Tests.{eq-eqb, ne_eqb}
 use Rattle.model.specs.Edition.{edition_of, escaped}
 use Rattle.model.proofs.Edition2.{of_two, of_other}
@@ -49,17 +49,11 @@ spelt_fits {x} {w} {n} S = omega (arith, S.long, ap length S.text, length-take n
 -- ---- by the edition
 
 module _ (n : ℕ) where
-  choose_two : n ≡ 2 → (g w : List ℕ) → chosen_of (edition_of n) g w ≡ w
-  choose_two e g w = rw (of_two n e) refl
+  pub chosen_two : (g w : List ℕ) → n ≡ 2 → w ≡ chosen_of (edition_of n) g w
+  chosen_two g w e = rw (of_two n e) refl
 
-  choose_other : (n ≡ 2 → ⊥) → (g w : List ℕ) → chosen_of (edition_of n) g w ≡ g
-  choose_other e g w = rw (of_other n e) refl
-
-  pub chosen_two : (g w : List ℕ) (m : ℕ) → n ≡ 2 → take (m - 0) w ≡ chosen_of (edition_of n) g (take m w)
-  chosen_two g w m e = let z : m - 0 ≡ m = omega arith in rw z (sym (choose_two e g (take m w)))
-
-  pub chosen_other : (g w : List ℕ) → (n ≡ 2 → ⊥) → take (length g - 0) g ≡ chosen_of (edition_of n) g w
-  chosen_other g w e = take_all (length g - 0) g (omega arith) ∙ sym (choose_other e g w)
+  pub chosen_other : (g w : List ℕ) → (n ≡ 2 → ⊥) → g ≡ chosen_of (edition_of n) g w
+  chosen_other g w e = rw (of_other n e) refl
 
   pub room_two : n ≡ 2 → word_room (edition_of n) ≡ 512
   room_two e = rw (of_two n e) refl
@@ -76,7 +70,7 @@ module _ (n : ℕ) where
 
   spelt_two : (g : List ℕ) (t : ℕ) (w : List ℕ) (m : ℕ) → n ≡ 2 → m ≤ length w → take m w ≡ bound_of (edition_of 2) g t → SpeltBound (edition_of n) g t w m
   spelt_two g t w m e h q =
-      let b : bound_of (edition_of n) g t ≡ chosen_of (edition_of n) g (take m w) = rw e (sym q) ∙ sym (choose_two e g (take m w)) in
+      let b : bound_of (edition_of n) g t ≡ chosen_of (edition_of n) g (take m w) = rw e (sym q) ∙ chosen_two g (take m w) e in
       record { inside = h; guides = rw b at (guides_of n g t) }
 
   pub spelt_past : (g : List ℕ) (t : ℕ) {w : List ℕ} {m : ℕ} → n ≡ 2 → t ≡ 1 → Spelt (escaped g) w m → SpeltBound (edition_of n) g t w (m - 1)

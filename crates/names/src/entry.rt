@@ -1,14 +1,13 @@
 // The entry of a key: the key, or its text up to and including the first delimiter after the prefix; found from a bound on, and written.
-ghost use Rattle.std.specs.Prelude.{◌≡◌, false, List, ◌++◌, ℕ, ◌+◌, ◌≤◌, ◌<◌, length, take, drop};
+ghost use Rattle.std.specs.Prelude.{◌≡◌, List, ◌++◌, ℕ, ◌+◌, ◌≤◌, ◌<◌, length, take, drop};
 ghost use Rattle.model.specs.Edition.{edition_of, SomeEdition, Value};
 ghost use Rattle.model.specs.Image.{digits};
 ghost use Rattle.model.specs.Body.{LeafAt};
-ghost use Rattle.listing.specs.Listing.{begins, delimiter_of};
 ghost use Rattle.seek.specs.Sub.{Sub};
 ghost use Rattle.seek.specs.Seek.{LeafSome, Tail};
-ghost use Rattle.names.specs.Entry.{CutAt, OfKey, EntryFrom, word_room, SpeltBound, chosen_of};
+ghost use Rattle.names.specs.Entry.{maybe, Delimited, CutAt, OfKey, EntryFrom, word_room, SpeltBound, chosen_of};
 
-use fields::body::{Leaf, Node};
+use fields::body::Leaf;
 use layout::number;
 
 // behind the text of a bound: past the key that is the text, and past all keys that begin with it
@@ -19,96 +18,76 @@ const PAST_GROUP: usize = 256;
 // the bytes of the length before an entry
 pub const LENGTH_SIZE: usize = 2;
 
-// How many bytes of a key its entry has, and what stands behind them in the entry's bound.
+// What is asked for: the keys that begin with a prefix, after a start key if there is one, those that share a text up to a delimiter as one.
 #[derive(Clone, Copy)]
+pub struct Asked<'a> {
+    pub prefix: &'a [u8],
+    pub start: Option<&'a [u8]>,
+    pub delimiter: Option<u8>,
+}
+
+// How many bytes of a key its entry has, and what stands behind them in the entry's bound.
+#[derive(Clone, Copy, Debug, PartialEq, Eq)]
 pub struct Cut {
     pub long: usize,
     pub tail: usize,
 }
 
-// An entry, as bytes of the frame, and what stands behind it in its bound; or that there is none.
-#[derive(Clone, Copy)]
+// An entry, as bytes of the frame, and what stands behind it in its bound.
+#[derive(Clone, Copy, Debug, PartialEq, Eq)]
 pub struct Entry {
-    pub there: bool,
     pub at: usize,
     pub long: usize,
     pub tail: usize,
 }
 
-pub fn none() -> Entry
-    ensures { result.there ≡ false }
+// How many bytes stand before the first delimiter.
+fn sought(text: &[u8], delimiter: u8) -> Option<usize>
+    ensures { Delimited text.now delimiter result }
 {
-    Entry {
-        there: false,
-        at: 0,
-        long: 0,
-        tail: 0,
-    }
+    text.iter().position(|&b| b == delimiter)
 }
 
-// The key begins with the prefix.
-pub fn starts_with(key: &[u8], prefix: &[u8]) -> bool
-    ensures { result ≡ begins prefix.now key.now }
-{
-    if key.len() < prefix.len() {
-        return false;
-    }
-    pieces::same(key, 0, prefix, 0, prefix.len())
-}
-
-// Where the entry of a key ends whose first bytes are a prefix: at a delimiter that is sought behind them.
-fn sought_ending(key: &[u8], from: usize, delimiter: usize) -> Cut
+// Where the entry of a key ends whose first bytes are a prefix: at a delimiter behind them, if one is sought and there.
+pub fn ending(key: &[u8], from: usize, delimiter: Option<u8>) -> Cut
     requires { from ≤ length key.now }
-    ensures { CutAt key.now from (delimiter_of delimiter) result }
+    ensures { CutAt key.now from (maybe delimiter) result }
 {
-    let mut i = from;
-    while i < key.len() {
-        if number::read::<1>(key, i) == delimiter {
-            return Cut {
-                long: i + 1,
-                tail: PAST_GROUP,
-            };
-        }
-        i += 1;
-    }
-    Cut {
-        long: i,
-        tail: PAST_KEY,
-    }
-}
-
-// The same. A delimiter above 255 is no byte, and none is sought.
-pub fn ending(key: &[u8], from: usize, delimiter: usize) -> Cut
-    requires { from ≤ length key.now }
-    ensures { CutAt key.now from (delimiter_of delimiter) result }
-{
-    if delimiter < Node::BYTE_VALUES {
-        return sought_ending(key, from, delimiter);
-    }
-    Cut {
-        long: key.len(),
-        tail: PAST_KEY,
+    let Some(delimiter) = delimiter else {
+        return Cut {
+            long: key.len(),
+            tail: PAST_KEY,
+        };
+    };
+    match sought(&key[from..], delimiter) {
+        Some(n) => Cut {
+            long: from + n + 1,
+            tail: PAST_GROUP,
+        },
+        None => Cut {
+            long: key.len(),
+            tail: PAST_KEY,
+        },
     }
 }
 
 // The entry of the key of the Leaf at a place, if it begins with the prefix.
-fn of_leaf(f: &[u8], place: usize, prefix: &[u8], delimiter: usize) -> Entry
+fn of_leaf(f: &[u8], place: usize, asked: Asked) -> Option<Entry>
     requires { SomeEdition (λ E. LeafSome E f.now place) }
-    ensures { (e : ℕ) (k : List ℕ) (v : Value) → LeafAt f.now place e k v → OfKey f.now prefix.now (delimiter_of delimiter) k result }
+    ensures { (e : ℕ) (k : List ℕ) (v : Value) → LeafAt f.now place e k v → OfKey f.now asked.entry.prefix.now (maybe asked.entry.delimiter) k result }
 {
     let at = Leaf::extent(f, place);
     let end = at + Leaf::key_length(f, place);
     let key = &f[at..end];
-    if !starts_with(key, prefix) {
-        return none();
+    if key.starts_with(asked.prefix) {
+        let c = ending(key, asked.prefix.len(), asked.delimiter);
+        return Some(Entry {
+            at,
+            long: c.long,
+            tail: c.tail,
+        });
     }
-    let c = ending(key, prefix.len(), delimiter);
-    Entry {
-        there: true,
-        at,
-        long: c.long,
-        tail: c.tail,
-    }
+    None
 }
 
 // Writes what guides a seek to the bound of a text, and gives its length: in edition 2 the text's walked string without its end, and past the key that
@@ -138,32 +117,28 @@ fn chosen<'a>(text: &'a [u8], word: &'a [u8], n: usize, edition: usize) -> &'a [
     ensures { result.now ≡ chosen_of (edition_of edition) text.now (take n word.now) }
 {
     if edition == keys::SECOND {
-        return &word[0..n];
+        return &word[..n];
     }
-    &text[0..]
+    text
 }
 
 // The entry of the first key at or above the bound of a text, if that begins with the prefix.
 pub fn from_bound(
     f: &[u8],
     root: usize,
-    prefix: &[u8],
-    delimiter: usize,
+    asked: Asked,
     text: &[u8],
     tail: usize,
     word: &mut [u8],
     edition: usize,
-) -> Entry
+) -> Option<Entry>
     requires { Sub (edition_of edition) f.now root 0 × Tail tail × (length text.now ≤ 255) × (word_room (edition_of edition) ≤ length word.old) × (length word.old < 65536) }
-    ensures { EntryFrom (edition_of edition) f.now root prefix.now (delimiter_of delimiter) text.now tail result }
+    ensures { EntryFrom (edition_of edition) f.now root asked.entry.prefix.now (maybe asked.entry.delimiter) text.now tail result }
 {
     let n = spelt(text, tail, word, edition);
     let bound = chosen(text, word, n, edition);
-    let s = seek::seek(f, root, text, bound, tail);
-    if !s.found {
-        return none();
-    }
-    of_leaf(f, s.place, prefix, delimiter)
+    let place = seek::seek(f, root, text, bound, tail)?;
+    of_leaf(f, place, asked)
 }
 
 // An entry at a place of the buffer: its length in two bytes, then its bytes.

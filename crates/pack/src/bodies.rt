@@ -12,7 +12,7 @@ use layout::kind::Kind;
 use pack_body::inner_node;
 
 // The next slot, and the next place of the output.
-#[derive(Clone, Copy)]
+#[derive(Clone, Copy, Debug, PartialEq, Eq)]
 pub struct Next {
     pub slot: usize,
     pub place: usize,

@@ -23,6 +23,8 @@ pub fn tree(f: &[u8], out: &mut [u8], s: usize, left: usize, next: Next) -> Next
     let mut node = s;
     let mut node_left = left;
     let mut here = next;
+
+    // It follows slots and steps no index: a `for` is no plainer.
     loop {
         let e = Entry::read(f, node);
         if e.high == Kind::LEAF {

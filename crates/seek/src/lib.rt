@@ -24,7 +24,7 @@ pub struct Spare {
     pub depth: usize,
 }
 
-// the tail of a bound past all keys that begin with its text
+// The tail of a bound past all keys that begin with its text. A tail stays a number: bytes are compared with it, and an enum is no plainer.
 const PAST_ALL: usize = 256;
 
 // what `next_child` gives for a byte where there is no child
@@ -37,6 +37,8 @@ pub fn first(f: &[u8], slot: usize, depth: usize) -> usize
 {
     let mut s = slot;
     let mut d = depth;
+
+    // It follows slots and steps no index: a `for` is no plainer.
     loop {
         let e = Entry::read(f, s);
         if e.high == Kind::LEAF {
@@ -143,6 +145,8 @@ pub fn seek(f: &[u8], root: usize, text: &[u8], word: &[u8], tail: usize) -> Opt
     let mut s = root;
     let mut d = 0;
     let mut spare = None;
+
+    // It follows slots and steps no index: a `for` is no plainer.
     loop {
         let e = Entry::read(f, s);
         if e.high == Kind::LEAF {

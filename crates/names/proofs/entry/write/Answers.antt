@@ -4,4 +4,4 @@ use Rattle.names.proofs.entry.write.Goals as goal
 
 pub returns : goal.returns
 returns c =
-    entry_written c.args.buffer.now _ _ c.args.entry.now c.args.at c.requires.0 c.write2.ensures c.paste.ensures
+    entry_written c.args.buffer.now _ _ c.args.entry.now c.args.at c.requires.0 c.write.ensures c.paste.ensures
