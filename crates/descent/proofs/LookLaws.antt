@@ -4,9 +4,9 @@ use Prim.Native.Nat.{ℕ, ◌+◌, ◌-◌, ◌≤◌}
 use mathlib.Core.Path.{◌≡◌, refl, sym, ap, ◌∙◌}
 use mathlib.Core.List.{List, [], ◌∷◌, ◌++◌}
 use mathlib.Core.Bool.{Bool, true, false}
+use Rattle.std.specs.Prelude.{Some, None}
 use mathlib.Core.Option.{Option, none, some}
 use native.Mathlib.Omega.{arith}
-use native.Mathlib.Decide.{ℕ_discrete}
 use lib.ListN.{length, get_or, take, drop}
 use lib.Seq.{get_or-drop}
 use lib.Dec.{eqb}
@@ -30,8 +30,11 @@ use Rattle.between.specs.Hole.{path_of}
 use Rattle.between.proofs.TreeLaws.{leaf_parts, prefix_parts, node_parts, kid_parts}
 use Rattle.between.proofs.KidsLaws.{look_none, not_byte}
 use Rattle.between.proofs.LeadLaws.{plug_look}
+use Rattle.descent.specs.declared.spot.End.TheVariants as end
 use Rattle.descent.specs.declared.spot.Spot.{Spot}
+use Rattle.descent.specs.declared.lookup.Located.{Located}
 use Rattle.descent.specs.declared.lookup.Held.{Held}
+use Rattle.descent.proofs.EndLaws.{by_end}
 use Rattle.descent.specs.Spot.{Way, Spotted, InTree, SpotAt, Going}
 use Rattle.descent.specs.Lookup.{value_in, Looked, shifted, Handed}
 use Rattle.descent.proofs.SeatLaws.{text_right, Seat, hole, seated}
@@ -100,10 +103,10 @@ module _ (E : Edition) where
   tree_as : (f path : List ℕ) (t u : Lay) → t ≡ u → Tree E f path t → Tree E f path u
   tree_as f path t u e T = rw e at T
 
-  pub found_leaf : {f k : List ℕ} {st : State} {s : Spot} (W : Stands E f st) → SpotAt E k W.root s → s.end ≡ 2 → Found f k W.root s
+  pub found_leaf : {f k : List ℕ} {st : State} {s : Spot} (W : Stands E f st) → SpotAt E k W.root s → s.end ≡ end.Found → Found f k W.root s
   unfolding spot_going
   found_leaf {f} {k} {st} {s} W S e =
-      let I = S.in_tree (λ z. omega arith) in
+      let I = S.in_tree (λ z. clash (cc)) in
       let F = I.spot.found e in
       let G = spot_going W I in
       let t = leaf s.here.slot s.here.place F.extent k F.value in
@@ -122,13 +125,13 @@ module _ (E : Edition) where
 
   -- every other end
   module _ {k : List ℕ} {l : Lay} {s : Spot} (S : Spotted E k l s) where
-    other_none : s.end ≡ 3 → find_lay E l 0 k ≡ none
+    other_none : s.end ≡ end.Other → find_lay E l 0 k ≡ none
     other_none e =
         let F = S.other e in
         let z : same k F.key ≡ false = bool_cases (same k F.key) (λ t. absurd (F.differs (same_true k F.key t))) (λ t. t) in
         find_there S.way (leaf s.here.slot s.here.place F.extent F.key F.value) F.is ∙ rw z refl
 
-    missing_none : s.end ≡ 4 → find_lay E l 0 k ≡ none
+    missing_none : s.end ≡ end.Missing → find_lay E l 0 k ≡ none
     missing_none e =
         let F = S.missing e in
         let w = E.walked k in
@@ -136,51 +139,46 @@ module _ (E : Edition) where
         let b : get_or w s.depth 0 ≡ F.byte = ap (λ n. get_or w n 0) (sym z) ∙ sym (get_or-drop s.depth w 0 0) ∙ ap (λ x. get_or x 0 0) F.next in
         find_there S.way (node s.here.slot s.here.place s.here.kind F.kids) F.is ∙ no_kid F.kids s.depth F.byte k b (look_none F.byte F.kids F.absent)
 
-    parted_none : s.end ≡ 5 → find_lay E l 0 k ≡ none
+    parted_none : s.end ≡ end.Parted → find_lay E l 0 k ≡ none
     parted_none e =
         let F = S.parted e in
         let z : eqb (shared F.bytes (drop s.depth (E.walked k))) (length F.bytes) ≡ false = ne_eqb (shared F.bytes (drop s.depth (E.walked k))) (length F.bytes) (λ y. omega (arith, F.shares, F.less)) in
         find_there S.way (prefix s.here.slot s.here.place F.bytes F.below) F.is ∙ rw z refl
 
-    tree_none : (s.end ≡ 2 → ⊥) → find_lay E l 0 k ≡ none
-    tree_none n =
-        let r = S.range in
-        elim (ℕ_discrete s.end 3) [
-          | yes e ↦ other_none e
-          | no a ↦ elim (ℕ_discrete s.end 4) [
-            | yes e ↦ missing_none e
-            | no b ↦ parted_none (omega arith)
-          ]
-        ]
-
-  pub spot_none : {k : List ℕ} {r : Root} {s : Spot} → SpotAt E k r s → (s.end ≡ 2 → ⊥) → find_at E r k ≡ none
-  spot_none {k} {r} {s} S n = elim (ℕ_discrete s.end 1) [
-    | yes e ↦ ap (λ x. find_at E x k) (S.empty e)
-    | no e ↦ let I = S.in_tree e in ap (λ x. find_at E x k) I.is ∙ tree_none I.spot n
-  ]
+  pub spot_none : {k : List ℕ} {r : Root} {s : Spot} → SpotAt E k r s → (s.end ≡ end.Found → ⊥) → find_at E r k ≡ none
+  spot_none {k} {r} {s} S n =
+      let I = S.in_tree in
+      let there : (y : s.end ≡ end.Empty → ⊥) → find_lay E (I y).lay 0 k ≡ none → find_at E r k ≡ none = λ y e. ap (λ x. find_at E x k) (I y).is ∙ e in
+      by_end s.end (λ e. absurd ((I (λ z. clash (cc))).spot.range.0 e)) (λ e. ap (λ x. find_at E x k) (S.empty e)) (λ e. absurd (n e))
+      (λ e. let y : s.end ≡ end.Empty → ⊥ = λ z. clash (cc) in there y (other_none (I y).spot e))
+      (λ e. let y : s.end ≡ end.Empty → ⊥ = λ z. clash (cc) in there y (missing_none (I y).spot e))
+      (λ e. let y : s.end ≡ end.Empty → ⊥ = λ z. clash (cc) in there y (parted_none (I y).spot e))
 
   module _ {f k : List ℕ} {s : Spot} (D : (st : State) (W : Stands E f st) → SpotAt E k W.root s) where
-    pub looked_none : (s.end ≡ 2 → ⊥) → (st : State) (W : Stands E f st) → Looked E f k st W.root (record { found = false; place = 0; length = 0; slots = s.visited; stamp = 0 })
+    pub looked_none : (s.end ≡ end.Found → ⊥) → (st : State) (W : Stands E f st) → Looked E f k st W.root (record { slots = s.visited; value = None })
     looked_none n st W =
         let e = spot_none (D st W) n in
-        record { at = sym e; value = value_stands k W ∙ ap (value_in f) e; inside = λ z. clash (cc); absent = λ z. (refl, refl, refl); visited = (D st W).visited }
+        record { at = sym e; value = value_stands k W ∙ ap (value_in f) e; inside = tt; visited = (D st W).visited }
 
-    pub looked_some : (x n t : ℕ) → s.end ≡ 2 → x ≡ le 4 f (s.here.place + leaf_extent) → n ≡ le 2 f (s.here.place + leaf_value) → t ≡ le 8 f (s.here.place + leaf_stamp)
-        → (st : State) (W : Stands E f st) → Looked E f k st W.root (record { found = true; place = x + length k; length = n; slots = s.visited; stamp = t })
+    pub looked_some : (x n t : ℕ) → s.end ≡ end.Found → x ≡ le 4 f (s.here.place + leaf_extent) → n ≡ le 2 f (s.here.place + leaf_value) → t ≡ le 8 f (s.here.place + leaf_stamp)
+        → (st : State) (W : Stands E f st) → Looked E f k st W.root (record { slots = s.visited; value = Some (record { place = x + length k; length = n; stamp = t }) })
     looked_some x n t e p q r st W =
         let F = found_leaf W (D st W) e in
         let a : x ≡ F.extent = p ∙ F.at.extent in
         let b : n ≡ length (text_of F.value) = q ∙ F.at.value_length in
         let d : t ≡ F.value.stamp = r ∙ F.at.stamp in
         let c : find_at E W.root k ≡ some (record { at = x + length k; long = n; stamp = t }) = rw (a, b, d) F.look in
-        record { at = sym c; value = value_stands k W ∙ ap (value_in f) c; inside = λ z. omega (arith, F.at.room); absent = λ z. clash (cc); visited = (D st W).visited }
+        record { at = sym c; value = value_stands k W ∙ ap (value_in f) c; inside = omega (arith, F.at.room); visited = (D st W).visited }
 
   -- the value as a part of the frame
   module _ {f k : List ℕ} {st : State} {r : Root} {v : Held} (L : Looked E f k st r v) (start : ℕ × ℕ) where
-    pub value_part : v.found ≡ true → Handed f start (found_of (find_at E r k) (visits_in E (root_art r) k)) (shifted start v.place) (take (v.place + v.length - v.place) (drop v.place f))
-    value_part e =
-        let n : v.place + v.length - v.place ≡ v.length = omega arith in
+    pub value_fits : (w : Located) → v.value ≡ Some w → w.place + w.length ≤ length f
+    value_fits w e = rw e at L.inside
+
+    pub value_part : (w : Located) → v.value ≡ Some w → Handed f start (found_of (find_at E r k) (visits_in E (root_art r) k)) (shifted start w.place) (take (w.place + w.length - w.place) (drop w.place f))
+    value_part w e =
+        let n : w.place + w.length - w.place ≡ w.length = omega arith in
         rw (← L.at, e, n) (record { stands = refl; bytes = refl })
 
-    pub value_none : {here : ℕ × ℕ} {part : List ℕ} → v.found ≡ false → here ≡ shifted start 0 → part ≡ [] → Handed f start (found_of (find_at E r k) (visits_in E (root_art r) k)) here part
+    pub value_none : {here : ℕ × ℕ} {part : List ℕ} → v.value ≡ None → here ≡ shifted start 0 → part ≡ [] → Handed f start (found_of (find_at E r k) (visits_in E (root_art r) k)) here part
     value_none e h p = rw (← L.at, e) (record { stands = h; bytes = p })

@@ -17,6 +17,7 @@ use Rattle.room.proofs.HeapLaws.{lies}
 use Rattle.between.specs.Hole.{plug, Link}
 use Rattle.between.proofs.HoleLaws.{plug_none, path_none}
 use Rattle.between.proofs.LeadLaws.{leads_start}
+use Rattle.descent.specs.declared.spot.End.TheVariants as end
 use Rattle.descent.specs.declared.spot.Spot.{Spot}
 use Rattle.descent.specs.Spot.{start_at, end_at, SpotAt, Standing, Going, Underway, Ended}
 use Rattle.descent.proofs.SeatLaws.{seat}
@@ -114,7 +115,7 @@ module _ (E : Edition) where
         let G = starting n in
         record { going = G; count = record { left = omega arith; few = omega arith; short = omega arith } }
 
-    pub start_empty : (o : ℕ) → high_of f s ≡ 8 → o ≡ place_of f s → (st : State) (T : Stands E f st) → SpotAt E k T.root (end_at (start_at s at_root) 1 o 8 0)
+    pub start_empty : (o : ℕ) → high_of f s ≡ 8 → o ≡ place_of f s → (st : State) (T : Stands E f st) → SpotAt E k T.root (end_at (start_at s at_root) end.Empty o 8 0)
     start_empty o h p st T =
         let q = from_root in
         let x = (its_seat W).empty (rw q at h) in
@@ -124,6 +125,5 @@ module _ (E : Edition) where
 
   pub ended_spot : {f k : List ℕ} {s : Spot} → Ended E f k s → (st : State) (T : Stands E f st) → SpotAt E k T.root s
   ended_spot {f} {k} {s} Z st T =
-      let r = Z.tree.spot.range in
       let u = root_unique E f st Z.st T Z.stands in
-      record { visited = rw u Z.visited; empty = λ z. absurd (omega arith); in_tree = λ z. record { lay = Z.tree.lay; is = u ∙ Z.tree.is; spot = Z.tree.spot } }
+      record { visited = rw u Z.visited; empty = λ z. absurd (Z.tree.spot.range.1 z); in_tree = λ z. record { lay = Z.tree.lay; is = u ∙ Z.tree.is; spot = Z.tree.spot } }

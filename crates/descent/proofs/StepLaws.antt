@@ -16,7 +16,7 @@ use Rattle.model.specs.Visits.{visits}
 use Rattle.model.specs.Frame.{Lay, LayKids, slot_of, art, pairs, NodeOf}
 use Rattle.model.specs.Frame.Lay.{leaf, node}
 use Rattle.model.specs.Frame.LayKids.{kid}
-use Rattle.model.proofs.StringLaws.{shared_left}
+use Rattle.model.proofs.StringLaws.{shared_left, clash}
 use Rattle.model.proofs.ChainLaws.{below_hung}
 use Rattle.node.specs.Kids.{or_zero, place_of}
 use Rattle.inner.specs.Inner.{link_at, place_at}
@@ -27,6 +27,8 @@ use Rattle.between.proofs.HoleLaws.{plug_under, plug_among, path_under, path_amo
 use Rattle.between.proofs.KidsLaws.{look_none, look_split, app_place, app_places, app_left}
 use Rattle.between.proofs.LeadLaws.{leads_under, leads_among, leads_rest}
 use Rattle.descent.proofs.CountLaws.{count_past, count_parted, count_child, count_missing}
+use Rattle.descent.specs.declared.spot.End.{End}
+use Rattle.descent.specs.declared.spot.End.TheVariants as end
 use Rattle.descent.specs.declared.spot.Body.{Body}
 use Rattle.descent.specs.declared.spot.Spot.{Spot}
 use Rattle.descent.specs.Spot.{end_at, below_prefix, over_of, top_of, top_link_of, below_node, Run, Topped, Holder, Over, Way, ThisKey, OtherKey, NoByte, PartPrefix, Going, Counted, AtLeaf, AtPrefix, AtNode, Stepped}
@@ -90,19 +92,19 @@ run_below xs s o p T l = elim (ℕ_discrete (over_of s).slot 0) [
 ]
 
 module _ (E : Edition) where
-  pub way_end : {k : List ℕ} {l : Lay} {s : Spot} (W : Way E k l s) (e o kind q : ℕ) → Way E k l (end_at s e o kind q)
+  pub way_end : {k : List ℕ} {l : Lay} {s : Spot} (W : Way E k l s) (e : End) (o kind q : ℕ) → Way E k l (end_at s e o kind q)
   way_end W e o kind q =
       record { steps = W.steps; sub = W.sub; rest = W.rest; whole = W.whole; leads = W.leads; deep = W.deep; slot_is = W.slot_is; link_is = W.link_is; over = W.over }
 
-  module _ {f k : List ℕ} {s : Spot} (G : Going E f k s) (C : Counted E k s G.lay G.way.sub) (e o kind q : ℕ) where
+  module _ {f k : List ℕ} {s : Spot} (G : Going E f k s) (C : Counted E k s G.lay G.way.sub) (e : End) (o kind q : ℕ) where
     -- the end has its record, and no other end is claimed; one slot was left
-    stop : (2 ≤ e) × (e ≤ 5) → visits E (art G.way.sub) s.depth k ≡ 1 → (e ≡ 2 → ThisKey k (end_at s e o kind q) G.way.steps G.way.sub) → (e ≡ 3 → OtherKey E k (end_at s e o kind q) G.way.steps G.way.sub)
-        → (e ≡ 4 → NoByte E k (end_at s e o kind q) G.way.sub) → (e ≡ 5 → PartPrefix E k (end_at s e o kind q) G.way.sub) → Stepped E f k s (end_at s e o kind q)
+    stop : (e ≡ end.Going → ⊥) × (e ≡ end.Empty → ⊥) → visits E (art G.way.sub) s.depth k ≡ 1 → (e ≡ end.Found → ThisKey k (end_at s e o kind q) G.way.steps G.way.sub) → (e ≡ end.Other → OtherKey E k (end_at s e o kind q) G.way.steps G.way.sub)
+        → (e ≡ end.Missing → NoByte E k (end_at s e o kind q) G.way.sub) → (e ≡ end.Parted → PartPrefix E k (end_at s e o kind q) G.way.sub) → Stepped E f k s (end_at s e o kind q)
     unfolding way_end
     stop r one a b c d =
         let v : s.visited + 1 ≡ visits E (art G.lay) 0 k = rw one at C.left in
         record {
-          goes = λ z. absurd (omega arith);
+          goes = λ z. absurd (r.0 z);
           ends = λ z. record {
             st = G.st;
             stands = G.stands;
@@ -112,25 +114,25 @@ module _ (E : Edition) where
         }
 
   module _ {f k : List ℕ} {s : Spot} {o : ℕ} (A : AtLeaf E f k s o) where
-    pub leaf_found : A.key ≡ k → Stepped E f k s (end_at s 2 o 1 0)
+    pub leaf_found : A.key ≡ k → Stepped E f k s (end_at s end.Found o 1 0)
     leaf_found e =
-        stop A.going A.count 2 o 1 0 (omega arith, omega arith) (rw A.is refl)
+        stop A.going A.count end.Found o 1 0 (λ z. clash (cc), λ z. clash (cc)) (rw A.is refl)
         (λ z. record { extent = A.extent; value = A.value; is = A.is ∙ ap (λ x. leaf s.here.slot o A.extent x A.value) e; kind = refl; free = A.free })
-        (λ z. absurd (omega arith)) (λ z. absurd (omega arith)) (λ z. absurd (omega arith))
+        (λ z. clash (cc)) (λ z. clash (cc)) (λ z. clash (cc))
 
-    pub leaf_other : (q : ℕ) → (A.key ≡ k → ⊥) → q ≡ shared (drop s.depth (E.walked k)) (drop s.depth (E.walked A.key)) → Stepped E f k s (end_at s 3 o 1 q)
+    pub leaf_other : (q : ℕ) → (A.key ≡ k → ⊥) → q ≡ shared (drop s.depth (E.walked k)) (drop s.depth (E.walked A.key)) → Stepped E f k s (end_at s end.Other o 1 q)
     leaf_other q n e =
-        stop A.going A.count 3 o 1 q (omega arith, omega arith) (rw A.is refl)
-        (λ z. absurd (omega arith))
+        stop A.going A.count end.Other o 1 q (λ z. clash (cc), λ z. clash (cc)) (rw A.is refl)
+        (λ z. clash (cc))
         (λ z. record { extent = A.extent; key = A.key; value = A.value; is = A.is; kind = refl; free = A.free; differs = λ y. n (sym y); shares = e })
-        (λ z. absurd (omega arith)) (λ z. absurd (omega arith))
+        (λ z. clash (cc)) (λ z. clash (cc))
 
   module _ {f k w : List ℕ} {s : Spot} {o : ℕ} (A : AtPrefix E f k w s o) (q n : ℕ) (e : q ≡ shared A.bytes (drop s.depth (E.walked k))) (m : n ≡ length A.bytes) where
-    pub prefix_parted : q < n → Stepped E f k s (end_at s 5 o 2 q)
+    pub prefix_parted : q < n → Stepped E f k s (end_at s end.Parted o 2 q)
     prefix_parted h =
-        stop A.going A.count 5 o 2 q (omega arith, omega arith)
+        stop A.going A.count end.Parted o 2 q (λ z. clash (cc), λ z. clash (cc))
         (rw A.is (count_parted E A.bytes s.depth k A.at.some A.at.most (art A.below) (omega arith)))
-        (λ z. absurd (omega arith)) (λ z. absurd (omega arith)) (λ z. absurd (omega arith))
+        (λ z. clash (cc)) (λ z. clash (cc)) (λ z. clash (cc))
         (λ z. record { bytes = A.bytes; below = A.below; is = A.is; kind = refl; short = A.short; shares = e; less = omega arith })
 
     pub prefix_below : (c : ℕ) → n ≤ q → c ≡ slot_of A.below → Stepped E f k s (below_prefix s o n c)
@@ -184,15 +186,15 @@ module _ (E : Edition) where
     its_byte : b ≡ A.byte
     its_byte = e ∙ rw (A.going.way.leads.word ∙ ap (λ r. path_of A.going.way.steps ++ r) A.next) (get_or_at (path_of A.going.way.steps) A.byte A.after 0 s.depth (sym A.going.way.deep))
 
-    pub node_missing : c ≡ 0 → Stepped E f k s (end_at s 4 o kind 0)
+    pub node_missing : c ≡ 0 → Stepped E f k s (end_at s end.Missing o kind 0)
     node_missing z =
         let q = its_byte in
         let h : look_kid b (pairs A.kids) ≡ none = or_none (look_kid b (pairs A.kids)) (sym d ∙ z) (A.live b) in
-        stop A.going A.count 4 o kind 0 (omega arith, omega arith)
+        stop A.going A.count end.Missing o kind 0 (λ z. clash (cc), λ z. clash (cc))
         (rw A.is (ap suc (count_missing E k s.depth b (sym e) A.kids (look_none b A.kids h))))
-        (λ z. absurd (omega arith)) (λ z. absurd (omega arith))
+        (λ z. clash (cc)) (λ z. clash (cc))
         (λ z. record { kids = A.kids; is = A.is; short = A.short; byte = A.byte; after = A.after; next = its_rest; absent = rw q at h })
-        (λ z. absurd (omega arith))
+        (λ z. clash (cc))
 
     pub node_below : (at : ℕ) → (c ≡ 0 → ⊥) → at ≡ link_at o kind (place_of b (pairs A.kids)) (place_at f o kind b) b → Stepped E f k s (below_node s o kind b c at)
     node_below at n l =

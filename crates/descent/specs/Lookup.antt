@@ -1,18 +1,23 @@
--- What a look-up gives: the place and length of the key's value, and its stamp, which the state's value is; all 0 for an absent key; and the slots visited.
+-- What a look-up gives: the place and length of the key's value, and its stamp, which the state's value is; none for an absent key; and the slots visited.
 -- And the value itself, as that part of the frame.
-use Rattle.std.specs.Prelude.{ℕ, ◌+◌, ◌≤◌, ◌≡◌, List, true, false, length, take, drop}
+use Rattle.std.specs.Prelude.{ℕ, ◌+◌, ◌≤◌, ◌≡◌, List, length, take, drop, Some, None, IfSome}
+use Rattle.std.specs.Prelude.{Option as Maybe}
 use Rattle.std.proofs.Math.Option.{Option, none, some}
-use Rattle.model.specs.Strings.{pick}
 use Rattle.model.specs.Edition.{Edition, Value}
 use Rattle.model.specs.State.{State, find_in}
 use Rattle.model.specs.Visits.{visits_in}
 use Rattle.model.specs.Frame.{Root, root_art}
 use Rattle.model.specs.Touch.{Part, find_at}
 use Rattle.model.specs.Promise.{Found}
+use Rattle.descent.specs.declared.lookup.Located.{Located}
 use Rattle.descent.specs.declared.lookup.Held.{Held}
 
+abbrev pub part_in : Maybe Located → Option Part
+part_in None = none
+part_in (Some v) = some (record { at = v.place; long = v.length; stamp = v.stamp })
+
 abbrev pub part_of : Held → Option Part
-part_of v = pick v.found (some (record { at = v.place; long = v.length; stamp = v.stamp })) none
+part_of v = part_in v.value
 
 -- the bytes of a part of f, and its stamp
 abbrev pub value_in : List ℕ → Option Part → Option Value
@@ -33,6 +38,5 @@ module _ (E : Edition) where
   pub record Looked (f k : List ℕ) (st : State) (r : Root) (v : Held) : Type 0 where
     pub at : part_of v ≡ find_at E r k
     pub value : find_in E st.tree k ≡ value_in f (part_of v)
-    pub inside : v.found ≡ true → v.place + v.length ≤ length f
-    pub absent : v.found ≡ false → (v.place ≡ 0) × (v.length ≡ 0) × (v.stamp ≡ 0)
+    pub inside : IfSome v.value (λ w. w.place + w.length ≤ length f)
     pub visited : v.slots ≡ visits_in E (root_art r) k

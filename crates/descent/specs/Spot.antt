@@ -13,6 +13,8 @@ use Rattle.model.specs.Frame.Lay.{leaf, prefix, node}
 use Rattle.between.specs.Hole.{Step, under, among, plug, path_of, Link}
 use Rattle.between.specs.Lead.{Leads, NotUnder}
 use Rattle.keys.specs.Word.{Spells}
+use Rattle.descent.specs.declared.spot.End.{End}
+use Rattle.descent.specs.declared.spot.End.TheVariants as end
 use Rattle.descent.specs.declared.spot.Body.{Body}
 use Rattle.descent.specs.declared.spot.Spot.{Spot}
 
@@ -21,10 +23,13 @@ use Rattle.descent.specs.declared.spot.Spot.{Spot}
 abbrev pub no_body : Body
 no_body = record { slot = 0; place = 0; kind = 0; link = 0 }
 
-abbrev pub start_at : ℕ → ℕ → Spot
-start_at s l = record { end = 0; here = record { slot = s; place = 0; kind = 0; link = l }; depth = 0; shared = 0; visited = 0; node = no_body; byte = 0; above = no_body; first = 0; first_link = 0 }
+abbrev pub named : ℕ → ℕ → Body
+named s l = record { slot = s; place = 0; kind = 0; link = l }
 
-abbrev pub end_at : Spot → ℕ → ℕ → ℕ → ℕ → Spot
+abbrev pub start_at : ℕ → ℕ → Spot
+start_at s l = record { end = end.Going; here = named s l; depth = 0; shared = 0; visited = 0; node = no_body; byte = 0; above = no_body; first = 0; first_link = 0 }
+
+abbrev pub end_at : Spot → End → ℕ → ℕ → ℕ → Spot
 end_at s e o kind q = record {
   end = e;
   here = record { slot = s.here.slot; place = o; kind = kind; link = s.here.link };
@@ -50,8 +55,8 @@ top_link_of s = pick (eqb (over_of s).slot 0) s.here.link s.first_link
 
 abbrev pub below_prefix : Spot → ℕ → ℕ → ℕ → Spot
 below_prefix s o n c = record {
-  end = 0;
-  here = record { slot = c; place = 0; kind = 0; link = o + prefix_child };
+  end = end.Going;
+  here = named c (o + prefix_child);
   depth = s.depth + n;
   shared = 0;
   visited = s.visited + 1;
@@ -64,8 +69,8 @@ below_prefix s o n c = record {
 
 abbrev pub below_node : Spot → ℕ → ℕ → ℕ → ℕ → ℕ → Spot
 below_node s o kind b c l = record {
-  end = 0;
-  here = record { slot = c; place = 0; kind = 0; link = l };
+  end = end.Going;
+  here = named c l;
   depth = s.depth + 1;
   shared = 0;
   visited = s.visited + 1;
@@ -129,7 +134,7 @@ pub record Over (xs : List Step) (n : Body) (b : ℕ) (u : Body) (first at : ℕ
 
 -- ---- the ends, and the way to them
 
--- 2: the Leaf of this key
+-- the Leaf of this key
 pub record ThisKey (k : List ℕ) (s : Spot) (xs : List Step) (t : Lay) : Type 0 where
   pub extent : ℕ
   pub value : Value
@@ -150,7 +155,7 @@ module _ (E : Edition) where
     pub link_is : Link steps s.here.link
     pub over : Over steps s.node s.byte s.above s.first s.first_link
 
-  -- 3: a Leaf of another key, and q walked bytes shared from there
+  -- a Leaf of another key, and q walked bytes shared from there
   pub record OtherKey (k : List ℕ) (s : Spot) (xs : List Step) (t : Lay) : Type 0 where
     pub extent : ℕ
     pub key : List ℕ
@@ -161,7 +166,7 @@ module _ (E : Edition) where
     pub differs : k ≡ key → ⊥
     pub shares : s.shared ≡ shared (drop s.depth (E.walked k)) (drop s.depth (E.walked key))
 
-  -- 4: an inner node without the byte
+  -- an inner node without the byte
   pub record NoByte (k : List ℕ) (s : Spot) (t : Lay) : Type 0 where
     pub kids : LayKids
     pub is : t ≡ node s.here.slot s.here.place s.here.kind kids
@@ -171,7 +176,7 @@ module _ (E : Edition) where
     pub next : drop s.depth (E.walked k) ≡ byte ∷ after
     pub absent : look_kid byte (pairs kids) ≡ none
 
-  -- 5: a Prefix that matched for q of its bytes, and not for all
+  -- a Prefix that matched for q of its bytes, and not for all
   pub record PartPrefix (k : List ℕ) (s : Spot) (t : Lay) : Type 0 where
     pub bytes : List ℕ
     pub below : Lay
@@ -183,11 +188,11 @@ module _ (E : Edition) where
 
   pub record Spotted (k : List ℕ) (l : Lay) (s : Spot) : Type 0 where
     pub way : Way k l s
-    pub range : (2 ≤ s.end) × (s.end ≤ 5)
-    pub found : s.end ≡ 2 → ThisKey k s way.steps way.sub
-    pub other : s.end ≡ 3 → OtherKey k s way.steps way.sub
-    pub missing : s.end ≡ 4 → NoByte k s way.sub
-    pub parted : s.end ≡ 5 → PartPrefix k s way.sub
+    pub range : (s.end ≡ end.Going → ⊥) × (s.end ≡ end.Empty → ⊥)
+    pub found : s.end ≡ end.Found → ThisKey k s way.steps way.sub
+    pub other : s.end ≡ end.Other → OtherKey k s way.steps way.sub
+    pub missing : s.end ≡ end.Missing → NoByte k s way.sub
+    pub parted : s.end ≡ end.Parted → PartPrefix k s way.sub
 
   -- the tree of a frame that is not empty
   pub record InTree (k : List ℕ) (r : Root) (s : Spot) : Type 0 where
@@ -195,12 +200,12 @@ module _ (E : Edition) where
     pub is : r ≡ tree lay
     pub spot : Spotted k lay s
 
-  -- what the descent of key k through the root r ends with; 1: an empty frame
+  -- what the descent of key k through the root r ends with: an empty frame, or an end in the tree
   pub record SpotAt (k : List ℕ) (r : Root) (s : Spot) : Type 0 where
     -- a counter that is equal to the defined path's length
     pub visited : s.visited ≡ visits_in E (root_art r) k
-    pub empty : s.end ≡ 1 → r ≡ bare s.here.slot s.here.place
-    pub in_tree : (s.end ≡ 1 → ⊥) → InTree k r s
+    pub empty : s.end ≡ end.Empty → r ≡ bare s.here.slot s.here.place
+    pub in_tree : (s.end ≡ end.Empty → ⊥) → InTree k r s
 
   -- ---- while it goes
 
@@ -284,8 +289,8 @@ module _ (E : Edition) where
 
   -- one step from s to r: deeper, or to the end
   pub record Stepped (f k : List ℕ) (s r : Spot) : Type 0 where
-    pub goes : r.end ≡ 0 → Underway f k r × (s.depth < r.depth) × (r.depth ≤ E.longest)
-    pub ends : (r.end ≡ 0 → ⊥) → Ended f k r
+    pub goes : r.end ≡ end.Going → Underway f k r × (s.depth < r.depth) × (r.depth ≤ E.longest)
+    pub ends : (r.end ≡ end.Going → ⊥) → Ended f k r
 
 -- what holds of some edition and some key: all that is asked of code which looks at neither
 pub record SomeDescent (P : Edition → List ℕ → Type 0) : Type 0 where

@@ -5,7 +5,7 @@ ghost use Rattle.model.specs.State.{State};
 ghost use Rattle.model.specs.Frame.{Stands};
 ghost use Rattle.descent.specs.Spot.{SpotAt, Standing, Sought, Underway, AtLeaf, AtPrefix, AtNode, Stepped, SomeDescent};
 
-use crate::spot::Spot;
+use crate::spot::{End, Spot};
 use fields::body::{Leaf, Prefix};
 use fields::header::Header;
 use inner::look;
@@ -20,12 +20,11 @@ fn at_leaf(f: &[u8], key: &[u8], s: Spot, place: usize, edition: usize) -> Spot
     let from = Leaf::extent(f, place);
     let n = Leaf::key_length(f, place);
     if keys::stands_at(key, f, from, n) {
-        return s.ended(Spot::FOUND, place, Kind::LEAF, 0);
+        return s.ended(End::Found, place, Kind::LEAF, 0);
     }
     let to = from + n;
-    let depth = s.depth;
-    let q = keys::shared_from(key, &f[from..to], depth, edition);
-    s.ended(Spot::OTHER, place, Kind::LEAF, q)
+    let q = keys::shared_from(key, &f[from..to], s.depth, edition);
+    s.ended(End::Other, place, Kind::LEAF, q)
 }
 
 fn at_prefix(f: &[u8], word: &[u8], s: Spot, place: usize) -> Spot
@@ -33,10 +32,9 @@ fn at_prefix(f: &[u8], word: &[u8], s: Spot, place: usize) -> Spot
     ensures { (E : Edition) (k : List ℕ) → AtPrefix E f.now k word.now s place → Stepped E f.now k s result }
 {
     let n = Prefix::length(f, place);
-    let depth = s.depth;
-    let q = keys::matched(Prefix::bytes(f, place, n), word, depth);
+    let q = keys::matched(Prefix::bytes(f, place, n), word, s.depth);
     if q < n {
-        return s.ended(Spot::PARTED, place, Kind::PREFIX, q);
+        return s.ended(End::Parted, place, Kind::PREFIX, q);
     }
     let child = Prefix::child(f, place);
     s.below_prefix(place, n, child)
@@ -46,11 +44,10 @@ fn at_node(f: &[u8], word: &[u8], s: Spot, place: usize, kind: usize) -> Spot
     requires { SomeDescent (λ E k. AtNode E f.now k word.now s place kind) }
     ensures { (E : Edition) (k : List ℕ) → AtNode E f.now k word.now s place kind → Stepped E f.now k s result }
 {
-    let depth = s.depth;
-    let b = keys::at(word, depth);
+    let b = keys::at(word, s.depth);
     let seat = look::seat(f, place, kind, b);
     if seat.slot == 0 {
-        return s.ended(Spot::MISSING, place, kind, 0);
+        return s.ended(End::Missing, place, kind, 0);
     }
     s.below_node(place, kind, b, seat.slot, seat.link)
 }
@@ -60,8 +57,7 @@ fn step(f: &[u8], key: &[u8], word: &[u8], s: Spot, edition: usize) -> Spot
     requires { Underway (edition_of edition) f.now key.now s × Sought (edition_of edition) key.now word.now }
     ensures { Stepped (edition_of edition) f.now key.now s result }
 {
-    let here = s.here;
-    let e = Entry::read(f, here.slot);
+    let e = Entry::read(f, s.here.slot);
     if e.high == Kind::LEAF {
         return at_leaf(f, key, s, e.place, edition);
     }
@@ -80,12 +76,13 @@ pub fn descend(f: &[u8], key: &[u8], word: &[u8], edition: usize) -> Spot
     let e = Entry::read(f, slot);
     let mut s = Spot::start(slot, Header::AT_ROOT);
     if e.high == Kind::EMPTY_ROOT {
-        return s.ended(Spot::EMPTY, e.place, Kind::EMPTY_ROOT, 0);
+        return s.ended(End::Empty, e.place, Kind::EMPTY_ROOT, 0);
     }
     loop {
         s = step(f, key, word, s, edition);
-        if s.end != Spot::GOING {
-            return s;
+        match s.end {
+            End::Going => {}
+            _ => return s,
         }
     }
 }
@@ -103,4 +100,21 @@ pub fn descend_long(f: &[u8], key: &[u8], edition: usize) -> Spot
     let mut word: [u8; keys::LONGEST_WORD] = [0; keys::LONGEST_WORD];
     let n = keys::spell(key, &mut word);
     descend(f, key, &word[0..n], edition)
+}
+
+// Where the way of a legal key through a good frame ends. Edition 2 reads the walked string, written out, and edition 1 the key itself.
+#[inline(always)]
+pub fn spot_of(f: &[u8], key: &[u8], edition: usize) -> Spot
+    requires { Standing (edition_of edition) f.now × Legal (edition_of edition) key.now }
+    ensures { (st : State) (W : Stands (edition_of edition) f.now st) → SpotAt (edition_of edition) key.now W.root result }
+{
+    if edition == keys::SECOND {
+        if key.len() <= SHORT_KEY {
+            let mut word: [u8; SHORT_WORD] = [0; SHORT_WORD];
+            let n = keys::spell(key, &mut word);
+            return descend(f, key, &word[0..n], edition);
+        }
+        return descend_long(f, key, edition);
+    }
+    descend(f, key, key, edition)
 }

@@ -25,11 +25,11 @@ loop-s-init c =
 pub step-s-requires : goal.step-s-requires
 step-s-requires c = (c.loop-s.invariant, c.requires.1)
 
-pub returns-then-s-ne-GOING : goal.returns-then-s-ne-GOING
-returns-then-s-ne-GOING c = ended_spot _ (c.step-s.ensures.ends c.if-s-ne-GOING.true)
+pub returns-in_default : goal.returns-in_default
+returns-in_default c = ended_spot _ (c.step-s.ensures.ends c.in_default.not-Going)
 
 pub loop-s-smaller : goal.loop-s-smaller
-loop-s-smaller c = let d = c.step-s.ensures.goes c.if-s-ne-GOING.false in omega (arith, d.1, d.2)
+loop-s-smaller c = let d = c.step-s.ensures.goes c.in-Going.is in omega (arith, d.1, d.2)
 
 pub loop-s-preserved : goal.loop-s-preserved
-loop-s-preserved c = (c.step-s.ensures.goes c.if-s-ne-GOING.false).0
+loop-s-preserved c = (c.step-s.ensures.goes c.in-Going.is).0

@@ -2,7 +2,7 @@
 use native.Mathlib.Omega.{arith}
 use Rattle.keys.proofs.WordLaws.{spells_walked, spelt_within, spells_key}
 use Rattle.model.proofs.Edition2.{escaped_length}
-use Rattle.descent.proofs.lookup.spot_of.Goals as goal
+use Rattle.descent.proofs.walk.spot_of.Goals as goal
 
 pub spell-n-requires : goal.spell-n-requires
 spell-n-requires c = (omega (arith, escaped_length c.args.key.now, c.if-key-le-SHORT_KEY.true), omega arith)
