@@ -9,15 +9,24 @@ use layout::entry::Entry;
 use layout::kind::Kind;
 use room::heap;
 
+// What a put has written: a key, what is read of it on its way (its walked string, or the key itself), its value and their stamp.
+#[derive(Clone, Copy, Debug, PartialEq, Eq)]
+pub struct Record<'a> {
+    pub key: &'a [u8],
+    pub word: &'a [u8],
+    pub value: &'a [u8],
+    pub stamp: usize,
+}
+
 // A Leaf for key, value and stamp: its slot. The body is taken first, then the extent.
-pub fn new_leaf(f: &mut [u8], key: &[u8], value: &[u8], stamp: usize) -> usize
-    requires { Makes f.old key.now (stamped value.now stamp) }
-    ensures { NewLeaf f.old f.new key.now (stamped value.now stamp) result }
+pub fn new_leaf(f: &mut [u8], r: Record) -> usize
+    requires { Makes f.old r.key.now (stamped r.value.now r.stamp) }
+    ensures { NewLeaf f.old f.new r.entry.key.now (stamped r.entry.value.now r.entry.stamp) result }
 {
     let s = heap::take(f, Kind::LEAF);
     let body = Entry::read(f, s);
-    let extent = heap::extend(f, key, value);
-    Leaf::write(f, body.place, extent, key.len(), value.len(), stamp);
+    let extent = heap::extend(f, r.key, r.value);
+    Leaf::write(f, body.place, extent, r.key.len(), r.value.len(), r.stamp);
     s
 }
 

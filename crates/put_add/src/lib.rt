@@ -14,17 +14,18 @@ use inner::{carry, change};
 use layout::entry::Entry;
 use layout::kind;
 use layout::kind::Kind;
+use leaf_new::Record;
 use room::heap;
 
 // The node is not full: the Leaf is its child.
-pub fn add_child(f: &mut [u8], key: &[u8], word: &[u8], value: &[u8], stamp: usize, spot: Spot)
-    requires { SomeEdition (λ E. Open E f.old key.now word.now (stamped value.now stamp) spot) }
-    ensures { (E : Edition) → Open E f.old key.now word.now (stamped value.now stamp) spot
-        → PutStep E f.old key.now (stamped value.now stamp) f.new }
+pub fn add_child(f: &mut [u8], r: Record, spot: Spot)
+    requires { SomeEdition (λ E. Open E f.old r.key.now r.word.now (stamped r.value.now r.stamp) spot) }
+    ensures { (E : Edition) → Open E f.old r.entry.key.now r.entry.word.now (stamped r.entry.value.now r.entry.stamp) spot
+        → PutStep E f.old r.entry.key.now (stamped r.entry.value.now r.entry.stamp) f.new }
 {
     let here = spot.here;
-    let b = keys::at(word, spot.depth);
-    let leaf = leaf_new::new_leaf(f, key, value, stamp);
+    let b = keys::at(r.word, spot.depth);
+    let leaf = leaf_new::new_leaf(f, r);
     change::add(f, here.place, here.kind, b, leaf);
     leaf_new::count_record(f);
 }
@@ -41,16 +42,16 @@ fn refill(f: &mut [u8], from: usize, kind: usize, n: usize, up: usize, b: u8, le
 }
 
 // The node is full: a body of the next kind takes its place.
-pub fn grow(f: &mut [u8], key: &[u8], word: &[u8], value: &[u8], stamp: usize, spot: Spot)
-    requires { SomeEdition (λ E. Full E f.old key.now word.now (stamped value.now stamp) spot) }
-    ensures { (E : Edition) → Full E f.old key.now word.now (stamped value.now stamp) spot
-        → PutStep E f.old key.now (stamped value.now stamp) f.new }
+pub fn grow(f: &mut [u8], r: Record, spot: Spot)
+    requires { SomeEdition (λ E. Full E f.old r.key.now r.word.now (stamped r.value.now r.stamp) spot) }
+    ensures { (E : Edition) → Full E f.old r.entry.key.now r.entry.word.now (stamped r.entry.value.now r.entry.stamp) spot
+        → PutStep E f.old r.entry.key.now (stamped r.entry.value.now r.entry.stamp) f.new }
 {
     let here = spot.here;
-    let b = keys::at(word, spot.depth);
+    let b = keys::at(r.word, spot.depth);
     let up = kind::kind_up(here.kind);
     let n = heap::take(f, up);
-    let leaf = leaf_new::new_leaf(f, key, value, stamp);
+    let leaf = leaf_new::new_leaf(f, r);
     refill(f, here.place, here.kind, n, up, b, leaf);
     room::link::relink(f, here.link, n);
     heap::release(f, here.slot, here.kind);
@@ -58,13 +59,13 @@ pub fn grow(f: &mut [u8], key: &[u8], word: &[u8], value: &[u8], stamp: usize, s
 }
 
 // The frame is empty: the Leaf is the root.
-pub fn first_record(f: &mut [u8], key: &[u8], value: &[u8], stamp: usize)
-    requires { SomeEdition (λ E. Vacant E f.old key.now (stamped value.now stamp)) }
-    ensures { (E : Edition) → Vacant E f.old key.now (stamped value.now stamp)
-        → PutStep E f.old key.now (stamped value.now stamp) f.new }
+pub fn first_record(f: &mut [u8], r: Record)
+    requires { SomeEdition (λ E. Vacant E f.old r.key.now (stamped r.value.now r.stamp)) }
+    ensures { (E : Edition) → Vacant E f.old r.entry.key.now (stamped r.entry.value.now r.entry.stamp)
+        → PutStep E f.old r.entry.key.now (stamped r.entry.value.now r.entry.stamp) f.new }
 {
     let old = Header::root(f);
-    let leaf = leaf_new::new_leaf(f, key, value, stamp);
+    let leaf = leaf_new::new_leaf(f, r);
     room::link::relink(f, Header::AT_ROOT, leaf);
     heap::release(f, old, Kind::EMPTY_ROOT);
     leaf_new::count_record(f);

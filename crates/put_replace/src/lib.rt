@@ -10,6 +10,7 @@ ghost use Rattle.put_replace.specs.Put.{Present, Restamped};
 
 use descent::spot::Spot;
 use fields::body::Leaf;
+use leaf_new::Record;
 use moves::fill;
 use room::heap;
 
@@ -25,23 +26,22 @@ fn restamp(f: &mut [u8], place: usize, stamp: usize)
 }
 
 // The Leaf of the key stands at the spot.
-pub fn replace(f: &mut [u8], key: &[u8], value: &[u8], stamp: usize, spot: Spot)
-    requires { SomeEdition (λ E. Present E f.old key.now (stamped value.now stamp) spot) }
-    ensures { (E : Edition) → Present E f.old key.now (stamped value.now stamp) spot
-        → PutStep E f.old key.now (stamped value.now stamp) f.new }
+pub fn replace(f: &mut [u8], r: Record, spot: Spot)
+    requires { SomeEdition (λ E. Present E f.old r.key.now (stamped r.value.now r.stamp) spot) }
+    ensures { (E : Edition) → Present E f.old r.entry.key.now (stamped r.entry.value.now r.entry.stamp) spot
+        → PutStep E f.old r.entry.key.now (stamped r.entry.value.now r.entry.stamp) f.new }
 {
-    let here = spot.here;
-    let place = here.place;
-    let k = key.len();
-    let n = value.len();
+    let place = spot.here.place;
+    let k = r.key.len();
+    let n = r.value.len();
     let old = Leaf::value_length(f, place);
     let was = Leaf::extent(f, place);
     if n == old {
-        fill::paste(f, was + k, value);
-        restamp(f, place, stamp);
+        fill::paste(f, was + k, r.value);
+        restamp(f, place, r.stamp);
         return;
     }
-    let extent = heap::extend(f, key, value);
-    Leaf::write(f, place, extent, k, n, stamp);
+    let extent = heap::extend(f, r.key, r.value);
+    Leaf::write(f, place, extent, k, n, r.stamp);
     heap::retire(f, was, Leaf::rounded(k + old));
 }

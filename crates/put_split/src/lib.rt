@@ -11,32 +11,25 @@ ghost use Rattle.put_split.specs.Split.{AtOther};
 
 use descent::spot::Spot;
 use layout::kind::Kind;
+use leaf_new::Record;
 use room::heap;
 
 // A Leaf of another key: a Node4 has both Leaves, under a row of Prefixes of the walked bytes that the keys share from there.
-pub fn split_leaf(
-    f: &mut [u8],
-    key: &[u8],
-    word: &[u8],
-    value: &[u8],
-    stamp: usize,
-    spot: Spot,
-    edition: usize,
-)
-    requires { AtOther (edition_of edition) f.old key.now word.now (stamped value.now stamp) spot }
-    ensures { PutStep (edition_of edition) f.old key.now (stamped value.now stamp) f.new }
+pub fn split_leaf(f: &mut [u8], r: Record, spot: Spot, edition: usize)
+    requires { AtOther (edition_of edition) f.old r.key.now r.word.now (stamped r.value.now r.stamp) spot }
+    ensures { PutStep (edition_of edition) f.old r.entry.key.now (stamped r.entry.value.now r.entry.stamp) f.new }
 {
     let here = spot.here;
     let from = spot.depth;
     let to = from + spot.shared;
-    let b = keys::at(word, to);
+    let b = keys::at(r.word, to);
     let c = parts::old_byte(f, here.place, to, edition);
     let node = heap::take(f, Kind::NODE4);
     let need = chain::bodies_of(spot.shared);
     let mut row: [usize; chain::MOST] = [0; chain::MOST];
     chain::take_row(f, &mut row, 0, need);
-    parts::fork(f, node, key, value, stamp, b, c, here.slot);
-    let top = chain::write_row(f, &row, &word[from..to], node);
+    parts::fork(f, node, r, b, c, here.slot);
+    let top = chain::write_row(f, &row, &r.word[from..to], node);
     room::link::relink(f, here.link, top);
     leaf_new::count_record(f);
 }
