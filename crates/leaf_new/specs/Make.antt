@@ -5,6 +5,7 @@ use Rattle.model.specs.Edition.{Edition, Value, text_of}
 use Rattle.model.specs.Tree.{extent_of}
 use Rattle.model.specs.Item.{Item}
 use Rattle.model.specs.Frame.{Lay, View, Heap, Begins}
+use Rattle.leaf_new.specs.declared.Record.{Record}
 use Rattle.room.specs.View.{recorded}
 use Rattle.room.specs.Step.{Renumbered}
 use Rattle.room.specs.Book.{RoomFor}
@@ -15,6 +16,10 @@ use Rattle.between.specs.Edit.{MadeLeaf}
 -- bytes with their stamp
 abbrev pub stamped : List ℕ → ℕ → Value
 stamped t n = record { bytes = t; stamp = n }
+
+-- the value of a record that is put
+abbrev pub value_of : Record → Value
+value_of r = stamped r.value.now r.stamp
 
 -- there is room for them
 abbrev pub LeafRoom : View → List ℕ → Value → Type 0

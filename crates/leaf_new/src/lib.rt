@@ -1,7 +1,7 @@
 // What every put of a new key does: a Leaf with its extent is made, and R grows.
 #![tactic(auto)]
 
-ghost use Rattle.leaf_new.specs.Make.{stamped, Makes, NewLeaf, Counts, Counted};
+ghost use Rattle.leaf_new.specs.Make.{value_of, Makes, NewLeaf, Counts, Counted};
 
 use fields::body::Leaf;
 use fields::header::Header;
@@ -20,8 +20,8 @@ pub struct Record<'a> {
 
 // A Leaf for key, value and stamp: its slot. The body is taken first, then the extent.
 pub fn new_leaf(f: &mut [u8], r: Record) -> usize
-    requires { Makes f.old r.key.now (stamped r.value.now r.stamp) }
-    ensures { NewLeaf f.old f.new r.entry.key.now (stamped r.entry.value.now r.entry.stamp) result }
+    requires { Makes f.old r.key.now (value_of r) }
+    ensures { NewLeaf f.old f.new r.entry.key.now (value_of r.entry) result }
 {
     let s = heap::take(f, Kind::LEAF);
     let body = Entry::read(f, s);

@@ -3,7 +3,7 @@
 #![tactic(auto)]
 
 ghost use Rattle.model.specs.Edition.{Edition, SomeEdition};
-ghost use Rattle.leaf_new.specs.Make.{stamped};
+ghost use Rattle.leaf_new.specs.Make.{value_of};
 ghost use Rattle.leaf_new.specs.Put.{PutStep};
 ghost use Rattle.put_add.specs.Missing.{Open, Full, Vacant};
 ghost use Rattle.put_add.specs.Grown.{Fills, Filled};
@@ -19,9 +19,9 @@ use room::heap;
 
 // The node is not full: the Leaf is its child.
 pub fn add_child(f: &mut [u8], r: Record, spot: Spot)
-    requires { SomeEdition (λ E. Open E f.old r.key.now r.word.now (stamped r.value.now r.stamp) spot) }
-    ensures { (E : Edition) → Open E f.old r.entry.key.now r.entry.word.now (stamped r.entry.value.now r.entry.stamp) spot
-        → PutStep E f.old r.entry.key.now (stamped r.entry.value.now r.entry.stamp) f.new }
+    requires { SomeEdition (λ E. Open E f.old r.key.now r.word.now (value_of r) spot) }
+    ensures { (E : Edition) → Open E f.old r.entry.key.now r.entry.word.now (value_of r.entry) spot
+        → PutStep E f.old r.entry.key.now (value_of r.entry) f.new }
 {
     let here = spot.here;
     let b = keys::at(r.word, spot.depth);
@@ -43,9 +43,9 @@ fn refill(f: &mut [u8], from: usize, kind: usize, n: usize, up: usize, b: u8, le
 
 // The node is full: a body of the next kind takes its place.
 pub fn grow(f: &mut [u8], r: Record, spot: Spot)
-    requires { SomeEdition (λ E. Full E f.old r.key.now r.word.now (stamped r.value.now r.stamp) spot) }
-    ensures { (E : Edition) → Full E f.old r.entry.key.now r.entry.word.now (stamped r.entry.value.now r.entry.stamp) spot
-        → PutStep E f.old r.entry.key.now (stamped r.entry.value.now r.entry.stamp) f.new }
+    requires { SomeEdition (λ E. Full E f.old r.key.now r.word.now (value_of r) spot) }
+    ensures { (E : Edition) → Full E f.old r.entry.key.now r.entry.word.now (value_of r.entry) spot
+        → PutStep E f.old r.entry.key.now (value_of r.entry) f.new }
 {
     let here = spot.here;
     let b = keys::at(r.word, spot.depth);
@@ -60,9 +60,9 @@ pub fn grow(f: &mut [u8], r: Record, spot: Spot)
 
 // The frame is empty: the Leaf is the root.
 pub fn first_record(f: &mut [u8], r: Record)
-    requires { SomeEdition (λ E. Vacant E f.old r.key.now (stamped r.value.now r.stamp)) }
-    ensures { (E : Edition) → Vacant E f.old r.entry.key.now (stamped r.entry.value.now r.entry.stamp)
-        → PutStep E f.old r.entry.key.now (stamped r.entry.value.now r.entry.stamp) f.new }
+    requires { SomeEdition (λ E. Vacant E f.old r.key.now (value_of r)) }
+    ensures { (E : Edition) → Vacant E f.old r.entry.key.now (value_of r.entry)
+        → PutStep E f.old r.entry.key.now (value_of r.entry) f.new }
 {
     let old = Header::root(f);
     let leaf = leaf_new::new_leaf(f, r);

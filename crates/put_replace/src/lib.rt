@@ -4,7 +4,7 @@
 
 ghost use Rattle.std.specs.Prelude.{◌+◌, ◌<◌, ◌≤◌, length};
 ghost use Rattle.model.specs.Edition.{Edition, SomeEdition};
-ghost use Rattle.leaf_new.specs.Make.{stamped};
+ghost use Rattle.leaf_new.specs.Make.{value_of};
 ghost use Rattle.leaf_new.specs.Put.{PutStep};
 ghost use Rattle.put_replace.specs.Put.{Present, Restamped};
 
@@ -27,9 +27,9 @@ fn restamp(f: &mut [u8], place: usize, stamp: usize)
 
 // The Leaf of the key stands at the spot.
 pub fn replace(f: &mut [u8], r: Record, spot: Spot)
-    requires { SomeEdition (λ E. Present E f.old r.key.now (stamped r.value.now r.stamp) spot) }
-    ensures { (E : Edition) → Present E f.old r.entry.key.now (stamped r.entry.value.now r.entry.stamp) spot
-        → PutStep E f.old r.entry.key.now (stamped r.entry.value.now r.entry.stamp) f.new }
+    requires { SomeEdition (λ E. Present E f.old r.key.now (value_of r) spot) }
+    ensures { (E : Edition) → Present E f.old r.entry.key.now (value_of r.entry) spot
+        → PutStep E f.old r.entry.key.now (value_of r.entry) f.new }
 {
     let place = spot.here.place;
     let k = r.key.len();

@@ -5,7 +5,7 @@
 pub mod parts;
 
 ghost use Rattle.model.specs.Edition.{edition_of};
-ghost use Rattle.leaf_new.specs.Make.{stamped};
+ghost use Rattle.leaf_new.specs.Make.{value_of};
 ghost use Rattle.leaf_new.specs.Put.{PutStep};
 ghost use Rattle.put_split.specs.Split.{AtOther};
 
@@ -16,8 +16,8 @@ use room::heap;
 
 // A Leaf of another key: a Node4 has both Leaves, under a row of Prefixes of the walked bytes that the keys share from there.
 pub fn split_leaf(f: &mut [u8], r: Record, spot: Spot, edition: usize)
-    requires { AtOther (edition_of edition) f.old r.key.now r.word.now (stamped r.value.now r.stamp) spot }
-    ensures { PutStep (edition_of edition) f.old r.entry.key.now (stamped r.entry.value.now r.entry.stamp) f.new }
+    requires { AtOther (edition_of edition) f.old r.key.now r.word.now (value_of r) spot }
+    ensures { PutStep (edition_of edition) f.old r.entry.key.now (value_of r.entry) f.new }
 {
     let here = spot.here;
     let from = spot.depth;
