@@ -20,7 +20,7 @@ use Rattle.model.specs.Frame.{Lay, LayKids, tree, slot_of, art, art_kids, pairs,
 use Rattle.model.specs.Frame.Lay.{leaf, prefix, node}
 use Rattle.model.specs.Frame.LayKids.{nil, kid}
 use Rattle.model.specs.Touch.{has_byte}
-use Rattle.model.proofs.StringLaws.{same_refl}
+use Rattle.model.proofs.StringLaws.{same_refl, clash}
 use Rattle.model.proofs.StandsGood.{length_pairs}
 use Rattle.node.specs.Kids.{remove_kid}
 use Rattle.inner.proofs.InnerLaws.{inner_asc}
@@ -36,6 +36,7 @@ use Rattle.between.proofs.KidsLaws.{art_app, app_left, app_look, app_remove, rem
 use Rattle.between.proofs.WorkLaws.{stands_tree, stands_view}
 use Rattle.between.proofs.LeadLaws.{HangsIn, hangs_in, hangs_over, leads_byte, leads_of}
 use Rattle.between.proofs.EraseLaws.{with_now, node_erase, less_stays, less_shrinks, plug_erase}
+use Rattle.descent.specs.declared.spot.End.TheVariants as end
 use Rattle.descent.specs.declared.spot.Spot.{Spot}
 use Rattle.descent.specs.Spot.{Topped, InTree, SpotAt}
 use Rattle.chain.specs.Row.{bytes_of}
@@ -174,10 +175,10 @@ pub record Losing (E : Edition) (f k : List ℕ) (s : Spot) (l : Lay) : Type 0 w
   pub word : E.walked k ≡ path_of up ++ s.byte ∷ rest
   pub top : Topped up s.above s.first s.first_link
 
-module _ {E : Edition} {f k : List ℕ} {st : State} {s : Spot} (W : Stands E f st) (S : SpotAt E k W.root s) (e : s.end ≡ 2) (h : 1 ≤ s.node.slot) (l : Lay) (q : W.root ≡ tree l) where
+module _ {E : Edition} {f k : List ℕ} {st : State} {s : Spot} (W : Stands E f st) (S : SpotAt E k W.root s) (e : s.end ≡ end.Found) (h : 1 ≤ s.node.slot) (l : Lay) (q : W.root ≡ tree l) where
   pub losing : Losing E f k s l
   losing =
-      let I = S.in_tree (λ z. omega arith) in
+      let I = S.in_tree (λ z. clash (cc)) in
       let w = I.spot.way in
       let F = I.spot.found e in
       let H = w.over.held h in
@@ -385,7 +386,7 @@ module _ {E : Edition} {f k : List ℕ} {st : State} {s : Spot} (W : Stands E f 
 
 module _ {E : Edition} {f k : List ℕ} {s : Spot} (P : EraseFrom E f k s) where
   abbrev in_tree : InTree E k P.stands.root s
-  in_tree = P.spot.in_tree (λ z. omega (arith, P.found))
+  in_tree = P.spot.in_tree (λ z. let e = P.found in clash (cc))
 
   pub node_fits : (s.node.place + 2 ≤ length f) × (s.node.kind < 9)
   node_fits = inner_fits _ (node_of_lem P.stands P.spot P.found P.held in_tree.lay in_tree.is).inner

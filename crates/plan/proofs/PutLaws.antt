@@ -19,7 +19,7 @@ use Rattle.model.specs.Item.{body}
 use Rattle.model.specs.Body.{InnerAt, PrefixAt}
 use Rattle.model.specs.Frame.{Lay, tree, slot_of, Below, art, pairs, root_art, Tree, Stands}
 use Rattle.model.specs.Frame.Lay.{leaf, prefix, node}
-use Rattle.model.proofs.StringLaws.{bool_cases, ltb_cases, same_refl, same_true, shared_left}
+use Rattle.model.proofs.StringLaws.{bool_cases, ltb_cases, same_refl, same_true, shared_left, clash}
 use Rattle.model.proofs.ChainLaws.{as_some, shared_off}
 use Rattle.inner.proofs.InnerLaws.{inner_room}
 use Rattle.room.specs.declared.fit.Needs.{Needs}
@@ -35,8 +35,10 @@ use Rattle.between.proofs.WorkLaws.{stands_tree, stands_view, work_of, work_open
 use Rattle.chain.specs.Row.{bytes_of, tip_of}
 use Rattle.chain.proofs.RunLaws.{below_not_leaf, run_art}
 use Rattle.keys.proofs.WordLaws.{word_fits}
+use Rattle.descent.specs.declared.spot.End.TheVariants as end
 use Rattle.descent.specs.declared.spot.Spot.{Spot}
 use Rattle.descent.specs.Spot.{Way, InTree, SpotAt, Going}
+use Rattle.descent.proofs.EndLaws.{by_end}
 use Rattle.descent.proofs.SeatLaws.{hole}
 use Rattle.descent.proofs.LookLaws.{found_leaf}
 use Rattle.plan.specs.Run.{Begun, BeginningAt}
@@ -158,12 +160,12 @@ module _ {E : Edition} {f k : List ℕ} {st : State} {s : Spot} (W : Stands E f 
       let G : Going E f k s = record { st = st; stands = W; lay = I.lay; is = I.is; way = I.spot.way } in
       tree_as E f (path_of I.spot.way.steps) I.spot.way.sub t e (hole E G).2
 
-  pub asks_empty : {n : Needs} (v : Value) → s.end ≡ 1 → Asks n (with_leaf []) (extent_of k v) → AsksFor n (put_change E st k v)
+  pub asks_empty : {n : Needs} (v : Value) → s.end ≡ end.Empty → Asks n (with_leaf []) (extent_of k v) → AsksFor n (put_change E st k v)
   asks_empty v e A = rw (root_tree k v W ∙ ap (λ r. put_in E (root_art r) k v) (S.empty e)) A
 
-  pub asks_found : {n : Needs} (v : Value) (m : ℕ) → s.end ≡ 2 → m ≡ le 2 f (s.here.place + leaf_value) → Asks n [] (pick (eqb (length (text_of v)) m) 0 (extent_of k v)) → AsksFor n (put_change E st k v)
+  pub asks_found : {n : Needs} (v : Value) (m : ℕ) → s.end ≡ end.Found → m ≡ le 2 f (s.here.place + leaf_value) → Asks n [] (pick (eqb (length (text_of v)) m) 0 (extent_of k v)) → AsksFor n (put_change E st k v)
   asks_found {n} v m e q A =
-      let I = S.in_tree (λ z. omega arith) in
+      let I = S.in_tree (λ z. clash (cc)) in
       let F = I.spot.found e in
       let t = leaf s.here.slot s.here.place F.extent k F.value in
       let L = (leaf_parts E f (path_of I.spot.way.steps) s.here.slot s.here.place F.extent k F.value (stands_there I t F.is)).1.at in
@@ -180,24 +182,24 @@ module _ {E : Edition} {f k : List ℕ} {st : State} {s : Spot} (W : Stands E f 
       both true v' A = A
       both false v' A = A
 
-  pub asks_other : {n : Needs} (v : Value) (m : ℕ) → s.end ≡ 3 → m ≡ chain s.shared → Asks n (with_leaf (fork_takes m)) (extent_of k v) → AsksFor n (put_change E st k v)
+  pub asks_other : {n : Needs} (v : Value) (m : ℕ) → s.end ≡ end.Other → m ≡ chain s.shared → Asks n (with_leaf (fork_takes m)) (extent_of k v) → AsksFor n (put_change E st k v)
   asks_other v m e em A =
-      let I = S.in_tree (λ z. omega arith) in
+      let I = S.in_tree (λ z. clash (cc)) in
       let F = I.spot.other e in
       let t = leaf s.here.slot s.here.place F.extent F.key F.value in
       let q : chain (shared (drop s.depth (E.walked k)) (drop s.depth (E.walked F.key))) ≡ m = sym (em ∙ ap chain F.shares) in
       let z : same k F.key ≡ false = bool_cases (same k F.key) (λ t. absurd (F.differs (same_true k F.key t))) (λ t. t) in
       asks_there v W I t F.is (put_leaf E s.depth k v F.key F.value) refl (rw (z, q) A)
 
-  pub node_there : s.end ≡ 4 → (ks : List (ℕ × ℕ)) × InnerAt f s.here.place s.here.kind ks
+  pub node_there : s.end ≡ end.Missing → (ks : List (ℕ × ℕ)) × InnerAt f s.here.place s.here.kind ks
   node_there e =
-      let I = S.in_tree (λ z. omega arith) in
+      let I = S.in_tree (λ z. clash (cc)) in
       let F = I.spot.missing e in
       (pairs F.kids, (node_parts E f (path_of I.spot.way.steps) s.here.slot s.here.place s.here.kind F.kids (stands_there I (node s.here.slot s.here.place s.here.kind F.kids) F.is)).1.inner)
 
-  pub asks_missing : {n : Needs} (v : Value) (m : ℕ) → s.end ≡ 4 → ((ks : List (ℕ × ℕ)) → InnerAt f s.here.place s.here.kind ks → m ≡ length ks) → Asks n (with_leaf (grow_takes m s.here.kind)) (extent_of k v) → AsksFor n (put_change E st k v)
+  pub asks_missing : {n : Needs} (v : Value) (m : ℕ) → s.end ≡ end.Missing → ((ks : List (ℕ × ℕ)) → InnerAt f s.here.place s.here.kind ks → m ≡ length ks) → Asks n (with_leaf (grow_takes m s.here.kind)) (extent_of k v) → AsksFor n (put_change E st k v)
   asks_missing {n} v m e q A =
-      let I = S.in_tree (λ z. omega arith) in
+      let I = S.in_tree (λ z. clash (cc)) in
       let F = I.spot.missing e in
       let t = node s.here.slot s.here.place s.here.kind F.kids in
       let N = (node_parts E f (path_of I.spot.way.steps) s.here.slot s.here.place s.here.kind F.kids (stands_there I t F.is)).1.inner in
@@ -211,7 +213,7 @@ module _ {E : Edition} {f k : List ℕ} {st : State} {s : Spot} (W : Stands E f 
       (λ l h. asks_there v W I t F.is _ (node_grow E k v s.depth F.byte s.here.kind F.kids b absent (omega arith)) (rw l at A))
 
   -- the Prefix that is matched in part, and what stands below it
-  pub parted_at : (I : InTree E k W.root s) (e : s.end ≡ 5) → let F = I.spot.parted e in
+  pub parted_at : (I : InTree E k W.root s) (e : s.end ≡ end.Parted) → let F = I.spot.parted e in
       Work E f (stands_view W) I.spot.way.steps s.here.slot ((path_of I.spot.way.steps ++ F.bytes, F.below) ∷ []) (body s.here.slot prefix_kind s.here.place ∷ []) × PrefixAt f s.here.place F.bytes (slot_of F.below) × Below F.bytes F.below
   parted_at I e =
       let F = I.spot.parted e in
@@ -221,7 +223,7 @@ module _ {E : Edition} {f k : List ℕ} {st : State} {s : Spot} (W : Stands E f 
       open_prefix (path_of xs) [] [] s.here.slot s.here.place F.bytes F.below (work_open xs t [] (work_of W (plug xs t) er) refl).0
 
   -- and the shared beginning from there on is cut
-  pub parted_put : (v : Value) (I : InTree E k W.root s) (e : s.end ≡ 5) → let F = I.spot.parted e in
+  pub parted_put : (v : Value) (I : InTree E k W.root s) (e : s.end ≡ end.Parted) → let F = I.spot.parted e in
       put_tree E (art (prefix s.here.slot s.here.place F.bytes F.below)) s.depth k v ≡ cut_prefix E s.depth k v (F.bytes ++ bytes_of F.below) (art (tip_of F.below))
   parted_put v I e =
       let F = I.spot.parted e in
@@ -232,16 +234,16 @@ module _ {E : Edition} {f k : List ℕ} {st : State} {s : Spot} (W : Stands E f 
       let z : eqb (shared all w) (length all) ≡ false = ne_eqb (shared all w) (length all) (λ y. omega (arith, whole_shared I e)) in
       ap (λ x. put_tree E x s.depth k v) ((run_art E f (path_of I.spot.way.steps) t (stands_there I t F.is) tt).0 ∙ as_some all (art (tip_of F.below)) (omega (arith, F.less))) ∙ rw z refl
     where
-      whole_shared : (I : InTree E k W.root s) (e : s.end ≡ 5) → let F = I.spot.parted e in (shared (F.bytes ++ bytes_of F.below) (drop s.depth (E.walked k)) ≡ s.shared) × (s.shared < length F.bytes)
+      whole_shared : (I : InTree E k W.root s) (e : s.end ≡ end.Parted) → let F = I.spot.parted e in (shared (F.bytes ++ bytes_of F.below) (drop s.depth (E.walked k)) ≡ s.shared) × (s.shared < length F.bytes)
       whole_shared I e =
           let F = I.spot.parted e in
           let w = drop s.depth (E.walked k) in
           (shared_off F.bytes (bytes_of F.below) w (λ y. omega (arith, F.shares, F.less)) ∙ sym F.shares, F.less)
 
-  pub asks_parted : {n : Needs} (v : Value) (m long : ℕ) → s.end ≡ 5 → Begun f s.here.place long → m ≡ chain s.shared + chain (long - suc s.shared) - chain long → Asks n (with_leaf (fork_takes m)) (extent_of k v)
+  pub asks_parted : {n : Needs} (v : Value) (m long : ℕ) → s.end ≡ end.Parted → Begun f s.here.place long → m ≡ chain s.shared + chain (long - suc s.shared) - chain long → Asks n (with_leaf (fork_takes m)) (extent_of k v)
       → AsksFor n (put_change E st k v)
   asks_parted {n} v m long e B em A =
-      let I = S.in_tree (λ z. omega arith) in
+      let I = S.in_tree (λ z. clash (cc)) in
       let F = I.spot.parted e in
       let t = prefix s.here.slot s.here.place F.bytes F.below in
       let all = F.bytes ++ bytes_of F.below in
@@ -272,22 +274,22 @@ module _ {E : Edition} {f k v : List ℕ} {s : Spot} (P : PutFrom E f k v s) whe
   pub extent_fits : {x : ℕ} → x ≡ up8 (length k + length v) → x < 4294967296
   extent_fits e = omega (arith, P.lawful.fields.keys k P.key, P.value)
 
-  pub leaf_room : s.end ≡ 2 → s.here.place + 16 ≤ length f
+  pub leaf_room : s.end ≡ end.Found → s.here.place + 16 ≤ length f
   leaf_room e = (found_leaf E P.stands P.spot e).room
 
-  pub node_room : s.end ≡ 4 → (s.here.place + 2 ≤ length f) × (s.here.kind < 9)
+  pub node_room : s.end ≡ end.Missing → (s.here.place + 2 ≤ length f) × (s.here.kind < 9)
   node_room e = let N = node_there P.stands P.spot e in inner_fits N.0 N.1
 
   -- two walked strings share no more than they have
-  pub other_short : s.end ≡ 3 → s.shared ≤ 512
+  pub other_short : s.end ≡ end.Other → s.shared ≤ 512
   other_short e =
-      let I = P.spot.in_tree (λ z. omega arith) in
+      let I = P.spot.in_tree (λ z. clash (cc)) in
       let F = I.spot.other e in
       omega (arith, F.shares, shared_left (drop s.depth (E.walked k)) (drop s.depth (E.walked F.key)), length-drop s.depth (E.walked k), word_fits P.lawful k P.key)
 
-  module _ (e : s.end ≡ 5) where
+  module _ (e : s.end ≡ end.Parted) where
     abbrev inside : InTree E k P.stands.root s
-    inside = P.spot.in_tree (λ z. omega arith)
+    inside = P.spot.in_tree (λ z. clash (cc))
 
     abbrev pub beginning_at : BeginningAt f s.here.place
     beginning_at =
@@ -318,8 +320,9 @@ module _ {E : Edition} {f k v : List ℕ} {s : Spot} (P : PutFrom E f k v s) whe
         let q = B A.edition A.view A.steps A.top A.path A.bytes A.below A.trees A.loose A.work A.at A.hangs in
         (omega (arith, F.less), omega (arith, F.less, A.at.most), omega (arith, A.short))
 
-  pub last_end : (s.end ≡ 2 → ⊥) → (s.end ≡ 1 → ⊥) → (s.end ≡ 3 → ⊥) → (s.end ≡ 4 → ⊥) → s.end ≡ 5
-  last_end a b c d = let r = (P.spot.in_tree b).spot.range in omega arith
+  pub last_end : (s.end ≡ end.Found → ⊥) → (s.end ≡ end.Empty → ⊥) → (s.end ≡ end.Other → ⊥) → (s.end ≡ end.Missing → ⊥) → s.end ≡ end.Parted
+  last_end a b c d =
+      by_end s.end (λ e. absurd ((P.spot.in_tree b).spot.range.0 e)) (λ e. absurd (b e)) (λ e. absurd (a e)) (λ e. absurd (c e)) (λ e. absurd (d e)) (λ e. e)
 
 -- a cut takes few Prefixes more
 pub cut_few : (q m r : ℕ) → q < 112 → m < 65536 → r ≡ chain q + chain (m - suc q) - chain m → r < 65534

@@ -8,6 +8,7 @@ use Rattle.model.specs.Body.{InnerAt}
 use Rattle.model.specs.Frame.{Lay, tree, art, Stands}
 use Rattle.room.specs.declared.fit.Needs.{Needs}
 use Rattle.room.specs.Fit.{Small, Asks}
+use Rattle.descent.specs.declared.spot.End.TheVariants as end
 use Rattle.descent.specs.declared.spot.Spot.{Spot}
 use Rattle.descent.specs.Spot.{SpotAt}
 
@@ -18,7 +19,7 @@ module _ (E : Edition) where
     pub st : State
     pub stands : Stands E f st
     pub spot : SpotAt E k stands.root s
-    pub found : s.end ≡ 2
+    pub found : s.end ≡ end.Found
     pub held : 1 ≤ s.node.slot
 
   -- a Node4 of two

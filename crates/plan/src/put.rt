@@ -8,7 +8,7 @@ ghost use Rattle.plan.specs.Run.{BeginningAt, Begun};
 ghost use Rattle.plan.specs.Plan.{with_leaf, fork_takes, grow_takes, Bodies, PutFrom, PutPlan};
 
 use crate::run;
-use descent::spot::Spot;
+use descent::spot::{End, Spot};
 use fields::body::{Leaf, Prefix};
 use inner::look;
 use layout::kind;
@@ -88,18 +88,14 @@ pub fn put_needs(f: &[u8], key: &[u8], value: &[u8], spot: Spot) -> Needs
 {
     let extent = Leaf::rounded(key.len() + value.len());
     let here = spot.here;
-    if spot.end == Spot::FOUND {
-        return replacing(value.len(), Leaf::value_length(f, here.place), extent);
+    match spot.end {
+        End::Found => replacing(value.len(), Leaf::value_length(f, here.place), extent),
+        End::Empty => recording(Needs::none(), extent),
+        End::Other => recording(forking(chain::bodies_of(spot.shared)), extent),
+        End::Missing => recording(growing(look::count(f, here.place), here.kind), extent),
+        _ => {
+            let more = cutting(spot.shared, beginning(f, here.place));
+            recording(forking(more), extent)
+        }
     }
-    if spot.end == Spot::EMPTY {
-        return recording(Needs::none(), extent);
-    }
-    if spot.end == Spot::OTHER {
-        return recording(forking(chain::bodies_of(spot.shared)), extent);
-    }
-    if spot.end == Spot::MISSING {
-        return recording(growing(look::count(f, here.place), here.kind), extent);
-    }
-    let more = cutting(spot.shared, beginning(f, here.place));
-    recording(forking(more), extent)
 }

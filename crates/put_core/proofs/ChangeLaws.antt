@@ -4,7 +4,7 @@ use mathlib.Core.Path.{◌≡◌, refl, sym, ap, subst, ◌∙◌}
 use mathlib.Core.List.{List, [], ◌∷◌}
 use mathlib.Core.Bool.{Bool, true, false}
 use native.Mathlib.Omega.{arith}
-use native.Mathlib.Decide.{ℕ_discrete, dec_lt}
+use native.Mathlib.Decide.{dec_lt}
 use lib.ListN.{length, get_or, drop}
 use lib.Seq.{get_or-drop}
 use lib.Dec.{eqb}
@@ -15,10 +15,12 @@ use Rattle.model.specs.Tree.{Art, Change, extent_of, put_tree}
 use Rattle.model.specs.State.{State, put_in, put_change}
 use Rattle.model.specs.Frame.{Lay, Root, root_art, tree, art, pairs, Stands}
 use Rattle.model.specs.Frame.Lay.{leaf, prefix, node}
-use Rattle.model.proofs.StringLaws.{bool_cases, same_refl, same_true}
+use Rattle.model.proofs.StringLaws.{bool_cases, same_refl, same_true, clash}
 use Rattle.between.specs.Hole.{plug}
 use Rattle.between.proofs.LeadLaws.{node_put, node_grow}
 use Rattle.between.proofs.KidsLaws.{look_none}
+use Rattle.descent.specs.declared.spot.End.TheVariants as end
+use Rattle.descent.proofs.EndLaws.{by_end}
 use Rattle.descent.specs.declared.spot.Spot.{Spot}
 use Rattle.descent.specs.Spot.{InTree, SpotAt}
 use Rattle.leaf_new.proofs.DoneLaws.{change_is}
@@ -40,22 +42,22 @@ module _ {E : Edition} {f k : List ℕ} {st : State} {p : Spot} (v : Value) (w :
       let W = I.spot.way in
       ap (λ (c : Change Art). c.fresh) (change_is k v w W.steps t (I.is ∙ ap tree (W.whole ∙ ap (plug W.steps) e)) W.leads refl) ∙ subst (λ d. (put_tree E (art t) d k v).fresh ≡ b) W.deep L
 
-  pub fresh_found : p.end ≡ 2 → (put_change E st k v).fresh ≡ false
+  pub fresh_found : p.end ≡ end.Found → (put_change E st k v).fresh ≡ false
   fresh_found e =
-      let I = S.in_tree (λ z. omega arith) in
+      let I = S.in_tree (λ z. clash (cc)) in
       let F = I.spot.found e in
       there I (leaf p.here.slot p.here.place F.extent k F.value) F.is (rw (same_refl k) (present k v (Art.leaf k v) (eqb (length (text_of v)) (length (text_of F.value))) (extent_of k F.value)))
 
-  fresh_other : p.end ≡ 3 → (put_change E st k v).fresh ≡ true
+  fresh_other : p.end ≡ end.Other → (put_change E st k v).fresh ≡ true
   fresh_other e =
-      let I = S.in_tree (λ z. omega arith) in
+      let I = S.in_tree (λ z. clash (cc)) in
       let F = I.spot.other e in
       let z : same k F.key ≡ false = bool_cases (same k F.key) (λ t. absurd (F.differs (same_true k F.key t))) (λ t. t) in
       there I (leaf p.here.slot p.here.place F.extent F.key F.value) F.is (rw z refl)
 
-  fresh_missing : p.end ≡ 4 → (put_change E st k v).fresh ≡ true
+  fresh_missing : p.end ≡ end.Missing → (put_change E st k v).fresh ≡ true
   fresh_missing e =
-      let I = S.in_tree (λ z. omega arith) in
+      let I = S.in_tree (λ z. clash (cc)) in
       let F = I.spot.missing e in
       let t = node p.here.slot p.here.place p.here.kind F.kids in
       let b : get_or (E.walked k) p.depth 0 ≡ F.byte = head_byte p.depth (E.walked k) F.next in
@@ -65,23 +67,15 @@ module _ {E : Edition} {f k : List ℕ} {st : State} {p : Spot} (v : Value) (w :
         | no l ↦ ap (λ (c : Change Art). c.fresh) (node_grow E k v p.depth F.byte p.here.kind F.kids b absent (omega arith))
       ])
 
-  fresh_parted : p.end ≡ 5 → (put_change E st k v).fresh ≡ true
+  fresh_parted : p.end ≡ end.Parted → (put_change E st k v).fresh ≡ true
   fresh_parted e =
-      let I = S.in_tree (λ z. omega arith) in
+      let I = S.in_tree (λ z. clash (cc)) in
       let F = I.spot.parted e in
       there I (prefix p.here.slot p.here.place F.bytes F.below) F.is (ap (λ (c : Change Art). c.fresh) (parted_put w S v I e))
 
-  fresh_empty : p.end ≡ 1 → (put_change E st k v).fresh ≡ true
+  fresh_empty : p.end ≡ end.Empty → (put_change E st k v).fresh ≡ true
   fresh_empty e = ap (λ (s : State). (put_in E s.tree k v).fresh) w.state ∙ ap (λ (r : Root). (put_in E (root_art r) k v).fresh) (S.empty e)
 
-  pub fresh_absent : (p.end ≡ 2 → ⊥) → (put_change E st k v).fresh ≡ true
-  fresh_absent n = elim (ℕ_discrete p.end 1) [
-    | yes e ↦ fresh_empty e
-    | no e ↦ let r = (S.in_tree e).spot.range in elim (ℕ_discrete p.end 3) [
-      | yes h ↦ fresh_other h
-      | no h ↦ elim (ℕ_discrete p.end 4) [
-        | yes i ↦ fresh_missing i
-        | no i ↦ fresh_parted (omega (arith, r.0, r.1))
-      ]
-    ]
-  ]
+  pub fresh_absent : (p.end ≡ end.Found → ⊥) → (put_change E st k v).fresh ≡ true
+  fresh_absent n =
+      by_end p.end (λ e. absurd ((S.in_tree (λ z. clash (cc))).spot.range.0 e)) fresh_empty (λ e. absurd (n e)) fresh_other fresh_missing fresh_parted

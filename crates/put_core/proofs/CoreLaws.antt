@@ -23,6 +23,7 @@ use Rattle.room.specs.Fit.{Fit, RoomOf}
 use Rattle.room.proofs.FitLaws.{fits_room}
 use Rattle.between.specs.Hole.{path_of}
 use Rattle.between.proofs.TreeLaws.{node_parts}
+use Rattle.descent.specs.declared.spot.End.TheVariants as end
 use Rattle.descent.specs.declared.spot.Spot.{Spot}
 use Rattle.descent.specs.Spot.{SpotAt, InTree}
 use Rattle.descent.proofs.SeatLaws.{hole}
@@ -48,26 +49,26 @@ module _ {E : Edition} {f k word : List ℕ} {v : Value} {p : Spot} (P : PutSpot
   abbrev put_at : InTree E k P.ready.stands.root p → PutAt E f k v p
   put_at I = record { ready = P.ready; lay = I.lay; is = I.is; way = I.spot.way }
 
-  pub at_found : p.end ≡ 2 → Present E f k v p
-  at_found e = let I = P.spot.in_tree (λ z. omega arith) in record { put = put_at I; found = I.spot.found e }
+  pub at_found : p.end ≡ end.Found → Present E f k v p
+  at_found e = let I = P.spot.in_tree (λ z. clash (cc)) in record { put = put_at I; found = I.spot.found e }
 
-  pub at_empty : p.end ≡ 1 → Vacant E f k v
+  pub at_empty : p.end ≡ end.Empty → Vacant E f k v
   at_empty e = record { ready = P.ready; slot = p.here.slot; place = p.here.place; is = P.spot.empty e }
 
-  pub at_other : p.end ≡ 3 → AtOther E f k word v p
-  at_other e = let I = P.spot.in_tree (λ z. omega arith) in record { put = put_at I; spells = P.spells; other = I.spot.other e }
+  pub at_other : p.end ≡ end.Other → AtOther E f k word v p
+  at_other e = let I = P.spot.in_tree (λ z. clash (cc)) in record { put = put_at I; spells = P.spells; other = I.spot.other e }
 
-  pub at_node : p.end ≡ 4 → AtNode E f k word v p
+  pub at_node : p.end ≡ end.Missing → AtNode E f k word v p
   at_node e = record { put = P; ends = e }
 
-  pub at_part : (p.end ≡ 2 → ⊥) → (p.end ≡ 1 → ⊥) → (p.end ≡ 3 → ⊥) → (p.end ≡ 4 → ⊥) → AtPart E f k word v p
+  pub at_part : (p.end ≡ end.Found → ⊥) → (p.end ≡ end.Empty → ⊥) → (p.end ≡ end.Other → ⊥) → (p.end ≡ end.Missing → ⊥) → AtPart E f k word v p
   at_part a b c d = let I = P.spot.in_tree b in record { put = put_at I; spells = P.spells; part = I.spot.parted (last_end from_spot a b c d) }
 
 -- ---- at an inner node without the byte
 
 module _ {E : Edition} {f k word : List ℕ} {v : Value} {p : Spot} (A : AtNode E f k word v p) where
   abbrev inside : InTree E k A.put.ready.stands.root p
-  inside = A.put.spot.in_tree (λ z. omega (arith, A.ends))
+  inside = A.put.spot.in_tree (λ z. let e = A.ends in clash (cc))
 
   inner_at : InnerAt f p.here.place p.here.kind (pairs (inside.spot.missing A.ends).kids)
   inner_at =
@@ -127,10 +128,10 @@ done_changes false = refl
 
 module _ {E : Edition} {f k word : List ℕ} {v : Value} {p : Spot} (A : AtSpot E f k word v p) where
   -- the key is there, or it is not
-  found : p.end ≡ 2 → (s : State) → Stands E f s → (put_change E s k v).fresh ≡ false
+  found : p.end ≡ end.Found → (s : State) → Stands E f s → (put_change E s k v).fresh ≡ false
   found h s w = fresh_found v w (A.spot s w) h
 
-  missing : (p.end ≡ 2 → ⊥) → (s : State) → Stands E f s → (put_change E s k v).fresh ≡ true
+  missing : (p.end ≡ end.Found → ⊥) → (s : State) → Stands E f s → (put_change E s k v).fresh ≡ true
   missing h s w = fresh_absent v w (A.spot s w) h
 
   absent_is : (s : State) → Stands E f s → absent (find_in E s.tree k) ≡ (put_change E s k v).fresh
@@ -161,34 +162,34 @@ module _ {E : Edition} {f k word : List ℕ} {v : Value} {p : Spot} (A : AtSpot 
     pub either_full : b ≡ false → WriteMade E either f k v 6 f'
     either_full e = full e either (λ s w. refl)
 
-    pub either_new : b ≡ true → (p.end ≡ 2 → ⊥) → WriteMade E either f k v 0 f'
+    pub either_new : b ≡ true → (p.end ≡ end.Found → ⊥) → WriteMade E either f k v 0 f'
     either_new e h = made e either (λ s w. refl) true (missing h)
 
-    pub either_there : b ≡ true → p.end ≡ 2 → WriteMade E either f k v 9 f'
+    pub either_there : b ≡ true → p.end ≡ end.Found → WriteMade E either f k v 9 f'
     either_there e h = made e either (λ s w. refl) false (found h)
 
     -- a put of an absent key is document 01's
-    as_new : (p.end ≡ 2 → ⊥) → (s : State) → Stands E f s → call_write E new s k v ≡ call_put E s k v
+    as_new : (p.end ≡ end.Found → ⊥) → (s : State) → Stands E f s → call_write E new s k v ≡ call_put E s k v
     as_new h s w = rw (absent_is s w ∙ missing h s w) refl
 
-    pub new_full : b ≡ false → (p.end ≡ 2 → ⊥) → WriteMade E new f k v 6 f'
+    pub new_full : b ≡ false → (p.end ≡ end.Found → ⊥) → WriteMade E new f k v 6 f'
     new_full e h = full e new (as_new h)
 
-    pub new_made : b ≡ true → (p.end ≡ 2 → ⊥) → WriteMade E new f k v 0 f'
+    pub new_made : b ≡ true → (p.end ≡ end.Found → ⊥) → WriteMade E new f k v 0 f'
     new_made e h = made e new (as_new h) true (missing h)
 
     -- and so is a replacement of a present one
-    as_there : p.end ≡ 2 → (s : State) → Stands E f s → call_write E replacing s k v ≡ call_put E s k v
+    as_there : p.end ≡ end.Found → (s : State) → Stands E f s → call_write E replacing s k v ≡ call_put E s k v
     as_there h s w = rw (absent_is s w ∙ found h s w) refl
 
-    pub there_full : b ≡ false → p.end ≡ 2 → WriteMade E replacing f k v 6 f'
+    pub there_full : b ≡ false → p.end ≡ end.Found → WriteMade E replacing f k v 6 f'
     there_full e h = full e replacing (as_there h)
 
-    pub there_made : b ≡ true → p.end ≡ 2 → WriteMade E replacing f k v 9 f'
+    pub there_made : b ≡ true → p.end ≡ end.Found → WriteMade E replacing f k v 9 f'
     there_made e h = made e replacing (as_there h) false (found h)
 
-  pub new_present : p.end ≡ 2 → WriteMade E new f k v 11 f
+  pub new_present : p.end ≡ end.Found → WriteMade E new f k v 11 f
   new_present h = idle new 11 refl (λ s w. rw (absent_is s w ∙ found h s w) refl)
 
-  pub replace_absent : (p.end ≡ 2 → ⊥) → WriteMade E replacing f k v 8 f
+  pub replace_absent : (p.end ≡ end.Found → ⊥) → WriteMade E replacing f k v 8 f
   replace_absent h = idle replacing 8 refl (λ s w. rw (absent_is s w ∙ missing h s w) refl)

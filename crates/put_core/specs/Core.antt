@@ -7,6 +7,7 @@ use Rattle.model.specs.Frame.{Stands}
 use Rattle.model.specs.Touch.{Outside, put_touch, find_at, extent_at, dying}
 use Rattle.model.specs.Promise.{changes}
 use Rattle.keys.specs.Word.{Spells}
+use Rattle.descent.specs.declared.spot.End.TheVariants as end
 use Rattle.descent.specs.declared.spot.Spot.{Spot}
 use Rattle.descent.specs.Spot.{SpotAt}
 use Rattle.leaf_new.specs.Put.{PutReady, PutStep}
@@ -35,7 +36,7 @@ module _ (E : Edition) where
   -- at an inner node without the byte
   pub record AtNode (f k word : List ℕ) (v : Value) (p : Spot) : Type 0 where
     pub put : PutSpot f k word v p
-    pub ends : p.end ≡ 4
+    pub ends : p.end ≡ end.Missing
 
   -- there was room, and the record is written; or there was none, and nothing has changed
   pub record Written (f k : List ℕ) (v : Value) (r : Bool) (f' : List ℕ) : Type 0 where

@@ -7,10 +7,10 @@ pub returns-then-not-write : goal.returns-then-not-write
 returns-then-not-write c =
     either_full (record { asked = c.requires.0; spells = c.requires.1; spot = c.descend-spot.ensures }) c.write.ensures (not-true _ c.if-not-write.true-raw)
 
-pub returns-then-spot-eq-FOUND : goal.returns-then-spot-eq-FOUND
-returns-then-spot-eq-FOUND c =
-    either_there (record { asked = c.requires.0; spells = c.requires.1; spot = c.descend-spot.ensures }) c.write.ensures (not-false _ c.if-not-write.false-raw) c.if-spot-eq-FOUND.true
+pub returns-in-Found : goal.returns-in-Found
+returns-in-Found c =
+    either_there (record { asked = c.requires.0; spells = c.requires.1; spot = c.descend-spot.ensures }) c.write.ensures (not-false _ c.if-not-write.false-raw) c.in-Found.is
 
-pub returns : goal.returns
-returns c =
-    either_new (record { asked = c.requires.0; spells = c.requires.1; spot = c.descend-spot.ensures }) c.write.ensures (not-false _ c.if-not-write.false-raw) c.if-spot-eq-FOUND.false
+pub returns-in_default : goal.returns-in_default
+returns-in_default c =
+    either_new (record { asked = c.requires.0; spells = c.requires.1; spot = c.descend-spot.ensures }) c.write.ensures (not-false _ c.if-not-write.false-raw) c.in_default.not-Found

@@ -3,14 +3,14 @@ use borrow.Author.Tests.{not-true, not-false}
 use Rattle.put_core.proofs.CoreLaws.{replace_absent, there_full, there_made}
 use Rattle.put_core.proofs.replace_by.Goals as goal
 
-pub returns-then-spot-ne-FOUND : goal.returns-then-spot-ne-FOUND
-returns-then-spot-ne-FOUND c =
-    replace_absent (record { asked = c.requires.0; spells = c.requires.1; spot = c.descend-spot.ensures }) c.if-spot-ne-FOUND.true
+pub returns-in_default : goal.returns-in_default
+returns-in_default c =
+    replace_absent (record { asked = c.requires.0; spells = c.requires.1; spot = c.descend-spot.ensures }) c.in_default.not-Found
 
 pub returns-then-not-write : goal.returns-then-not-write
 returns-then-not-write c =
-    there_full (record { asked = c.requires.0; spells = c.requires.1; spot = c.descend-spot.ensures }) c.write.ensures (not-true _ c.if-not-write.true-raw) c.if-spot-ne-FOUND.false
+    there_full (record { asked = c.requires.0; spells = c.requires.1; spot = c.descend-spot.ensures }) c.write.ensures (not-true _ c.if-not-write.true-raw) c.in-Found.is
 
-pub returns : goal.returns
-returns c =
-    there_made (record { asked = c.requires.0; spells = c.requires.1; spot = c.descend-spot.ensures }) c.write.ensures (not-false _ c.if-not-write.false-raw) c.if-spot-ne-FOUND.false
+pub returns-in-Found : goal.returns-in-Found
+returns-in-Found c =
+    there_made (record { asked = c.requires.0; spells = c.requires.1; spot = c.descend-spot.ensures }) c.write.ensures (not-false _ c.if-not-write.false-raw) c.in-Found.is

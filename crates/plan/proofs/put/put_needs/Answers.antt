@@ -14,78 +14,78 @@ pub rounded-extent-requires : goal.rounded-extent-requires
 rounded-extent-requires c = size_fits c.requires.holds
 
 pub value_length-requires : goal.value_length-requires
-value_length-requires c = leaf_room c.requires.holds c.if-spot-eq-FOUND.true
+value_length-requires c = leaf_room c.requires.holds c.in-Found.is
 
-pub returns-then-spot-eq-FOUND : goal.returns-then-spot-eq-FOUND
-returns-then-spot-eq-FOUND c =
+pub returns-in-Found : goal.returns-in-Found
+returns-in-Found c =
     let old = c.value_length in let v = c.args.value.now in (
       small_found (eqb (length v) old.result) c.rounded-extent.result c.replacing.ensures (extent_fits c.requires.holds c.rounded-extent.ensures),
-      λ E st W S t. asks_found W S (record { bytes = v; stamp = t }) old.result c.if-spot-eq-FOUND.true old.ensures.0 (sized_if (eqb (length v) old.result) c.rounded-extent.result (up8 (length c.args.key.now + length v)) c.rounded-extent.ensures c.replacing.ensures),
+      λ E st W S t. asks_found W S (record { bytes = v; stamp = t }) old.result c.in-Found.is old.ensures.0 (sized_if (eqb (length v) old.result) c.rounded-extent.result (up8 (length c.args.key.now + length v)) c.rounded-extent.ensures c.replacing.ensures),
     )
 
 pub recording-requires : goal.recording-requires
 recording-requires c = asks_small c.none.ensures (omega arith) (omega arith)
 
-pub returns-then-spot-eq-EMPTY : goal.returns-then-spot-eq-EMPTY
-returns-then-spot-eq-EMPTY c =
+pub returns-in-Empty : goal.returns-in-Empty
+returns-in-Empty c =
     let A = c.recording.ensures [] c.none.ensures in (
       small_new A (omega arith) (extent_fits c.requires.holds c.rounded-extent.ensures),
-      λ E st W S t. asks_empty W S (record { bytes = c.args.value.now; stamp = t }) c.if-spot-eq-EMPTY.true (sized c.rounded-extent.ensures A),
+      λ E st W S t. asks_empty W S (record { bytes = c.args.value.now; stamp = t }) c.in-Empty.is (sized c.rounded-extent.ensures A),
     )
 
 pub bodies_of-requires : goal.bodies_of-requires
-bodies_of-requires c = omega (arith, other_short c.requires.holds c.if-spot-eq-OTHER.true)
+bodies_of-requires c = omega (arith, other_short c.requires.holds c.in-Other.is)
 
 pub forking-requires : goal.forking-requires
-forking-requires c = omega (arith, c.bodies_of.ensures, other_short c.requires.holds c.if-spot-eq-OTHER.true)
+forking-requires c = omega (arith, c.bodies_of.ensures, other_short c.requires.holds c.in-Other.is)
 
-pub recording-requires-then-spot-eq-OTHER : goal.recording-requires-then-spot-eq-OTHER
-recording-requires-then-spot-eq-OTHER c = c.forking.ensures.small
+pub recording-requires-in-Other : goal.recording-requires-in-Other
+recording-requires-in-Other c = c.forking.ensures.small
 
-pub returns-then-spot-eq-OTHER : goal.returns-then-spot-eq-OTHER
-returns-then-spot-eq-OTHER c =
-    let A = c.recording-then-spot-eq-OTHER.ensures (fork_takes c.bodies_of.result) c.forking.ensures.asks in (
-      small_new A (fork_few c.bodies_of.result (omega (arith, c.bodies_of.ensures, other_short c.requires.holds c.if-spot-eq-OTHER.true))) (extent_fits c.requires.holds c.rounded-extent.ensures),
-      λ E st W S t. asks_other W S (record { bytes = c.args.value.now; stamp = t }) c.bodies_of.result c.if-spot-eq-OTHER.true c.bodies_of.ensures (sized c.rounded-extent.ensures A),
+pub returns-in-Other : goal.returns-in-Other
+returns-in-Other c =
+    let A = c.recording-in-Other.ensures (fork_takes c.bodies_of.result) c.forking.ensures.asks in (
+      small_new A (fork_few c.bodies_of.result (omega (arith, c.bodies_of.ensures, other_short c.requires.holds c.in-Other.is))) (extent_fits c.requires.holds c.rounded-extent.ensures),
+      λ E st W S t. asks_other W S (record { bytes = c.args.value.now; stamp = t }) c.bodies_of.result c.in-Other.is c.bodies_of.ensures (sized c.rounded-extent.ensures A),
     )
 
 pub count-requires : goal.count-requires
-count-requires c = (node_room c.requires.holds c.if-spot-eq-MISSING.true).0
+count-requires c = (node_room c.requires.holds c.in-Missing.is).0
 
 pub growing-requires : goal.growing-requires
-growing-requires c = (node_room c.requires.holds c.if-spot-eq-MISSING.true).1
+growing-requires c = (node_room c.requires.holds c.in-Missing.is).1
 
-pub recording-requires-then-spot-eq-MISSING : goal.recording-requires-then-spot-eq-MISSING
-recording-requires-then-spot-eq-MISSING c = c.growing.ensures.small
+pub recording-requires-in-Missing : goal.recording-requires-in-Missing
+recording-requires-in-Missing c = c.growing.ensures.small
 
-pub returns-then-spot-eq-MISSING : goal.returns-then-spot-eq-MISSING
-returns-then-spot-eq-MISSING c =
-    let kind = c.args.spot.here.kind in let A = c.recording-then-spot-eq-MISSING.ensures (grow_takes c.count.result kind) c.growing.ensures.asks in (
+pub returns-in-Missing : goal.returns-in-Missing
+returns-in-Missing c =
+    let kind = c.args.spot.here.kind in let A = c.recording-in-Missing.ensures (grow_takes c.count.result kind) c.growing.ensures.asks in (
       small_new A (grow_few c.count.result kind) (extent_fits c.requires.holds c.rounded-extent.ensures),
-      λ E st W S t. asks_missing W S (record { bytes = c.args.value.now; stamp = t }) c.count.result c.if-spot-eq-MISSING.true (c.count.ensures.1 kind) (sized c.rounded-extent.ensures A),
+      λ E st W S t. asks_missing W S (record { bytes = c.args.value.now; stamp = t }) c.count.result c.in-Missing.is (c.count.ensures.1 kind) (sized c.rounded-extent.ensures A),
     )
 
 pub beginning-requires : goal.beginning-requires
 beginning-requires c =
-    beginning_at c.requires.holds (last_end c.requires.holds c.if-spot-eq-FOUND.false c.if-spot-eq-EMPTY.false c.if-spot-eq-OTHER.false c.if-spot-eq-MISSING.false)
+    beginning_at c.requires.holds (last_end c.requires.holds c.in_default.not-Found c.in_default.not-Empty c.in_default.not-Other c.in_default.not-Missing)
 
 pub cutting-more-requires : goal.cutting-more-requires
 cutting-more-requires c =
-    let e = last_end c.requires.holds c.if-spot-eq-FOUND.false c.if-spot-eq-EMPTY.false c.if-spot-eq-OTHER.false c.if-spot-eq-MISSING.false in
+    let e = last_end c.requires.holds c.in_default.not-Found c.in_default.not-Empty c.in_default.not-Other c.in_default.not-Missing in
     cut_fits c.requires.holds e c.beginning.ensures
 
 pub forking-requires-2 : goal.forking-requires-2
 forking-requires-2 c =
-    let e = last_end c.requires.holds c.if-spot-eq-FOUND.false c.if-spot-eq-EMPTY.false c.if-spot-eq-OTHER.false c.if-spot-eq-MISSING.false in
+    let e = last_end c.requires.holds c.in_default.not-Found c.in_default.not-Empty c.in_default.not-Other c.in_default.not-Missing in
     let f = cut_fits c.requires.holds e c.beginning.ensures in
     omega (arith, cut_few c.args.spot.shared c.beginning.result c.cutting-more.result f.1 f.2 c.cutting-more.ensures)
 
 pub recording-requires-2 : goal.recording-requires-2
 recording-requires-2 c = c.forking-2.ensures.small
 
-pub returns : goal.returns
-returns c =
-    let q = c.args.spot.shared in let e = last_end c.requires.holds c.if-spot-eq-FOUND.false c.if-spot-eq-EMPTY.false c.if-spot-eq-OTHER.false c.if-spot-eq-MISSING.false in
+pub returns-in_default : goal.returns-in_default
+returns-in_default c =
+    let q = c.args.spot.shared in let e = last_end c.requires.holds c.in_default.not-Found c.in_default.not-Empty c.in_default.not-Other c.in_default.not-Missing in
     let f = cut_fits c.requires.holds e c.beginning.ensures in
     let A = c.recording-2.ensures (fork_takes c.cutting-more.result) c.forking-2.ensures.asks in (
       small_new A (fork_few c.cutting-more.result (cut_few q c.beginning.result c.cutting-more.result f.1 f.2 c.cutting-more.ensures)) (extent_fits c.requires.holds c.rounded-extent.ensures),
