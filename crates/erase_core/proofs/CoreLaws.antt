@@ -25,6 +25,7 @@ use Rattle.room.specs.declared.fit.Needs.{Needs}
 use Rattle.room.specs.Fit.{Fit, RoomOf}
 use Rattle.room.proofs.FitLaws.{fits_room}
 use Rattle.between.proofs.EraseLaws.{erase_is}
+use Rattle.descent.specs.declared.spot.End.TheVariants as end
 use Rattle.descent.specs.declared.spot.Spot.{Spot}
 use Rattle.descent.specs.Lookup.{value_in}
 use Rattle.descent.specs.Spot.{SpotAt, InTree}
@@ -97,12 +98,12 @@ only_made O =
     }
 
 module _ {E : Edition} {f k : List ℕ} (A : Asked E f k) {p : Spot} (S : (s : State) (w : Stands E f s) → SpotAt E k w.root p) where
-  pub absent : (p.end ≡ 2 → ⊥) → EraseMade E f k 8 f
+  pub absent : (p.end ≡ end.Found → ⊥) → EraseMade E f k 8 f
   absent n = unchanged E k 8 refl (λ s w. absent_is E s k s.tree (value_stands E k w ∙ ap (value_in f) (spot_none E (S s w) n)))
 
-  module _ (found : p.end ≡ 2) where
+  module _ (found : p.end ≡ end.Found) where
     inside : {s : State} (w : Stands E f s) → InTree E k w.root p
-    inside {s} w = (S s w).in_tree (λ z. omega (arith, found))
+    inside {s} w = (S s w).in_tree (λ z. let e = found in clash (cc))
 
     pub only : p.node.slot ≡ 0 → OnlyAt E f k
     only z = let I = inside A.stands in only_at A.lawful A.stands I.is I.spot.way (I.spot.found found) z

@@ -2,15 +2,12 @@
 #![tactic(auto)]
 
 ghost use Rattle.answers.specs.Number.{erase_number};
-ghost use Rattle.model.specs.Edition.{Edition, SomeEdition, edition_of, Legal};
-ghost use Rattle.model.specs.State.{State};
-ghost use Rattle.model.specs.Frame.{Stands};
-ghost use Rattle.descent.specs.Spot.{SpotAt, Standing};
+ghost use Rattle.model.specs.Edition.{Edition, SomeEdition, edition_of};
 ghost use Rattle.erase_remove.specs.Erase.{EraseAt, EraseStep};
 ghost use Rattle.erase_core.specs.Core.{Asked, EraseMade};
 
 use answers::{Erase, Refusal};
-use descent::spot::Spot;
+use descent::spot::{End, Spot};
 use descent::walk;
 use erase_join::join;
 use erase_remove::{only, remove, shrink};
@@ -36,33 +33,17 @@ fn apply(f: &mut [u8], key: &[u8], spot: Spot)
     shrink::shrink(f, spot);
 }
 
-// Where a legal key leads. On the way edition 2 reads its walked string, written out, and edition 1 the key itself.
-fn spot_of(f: &[u8], key: &[u8], edition: usize) -> Spot
-    requires { Standing (edition_of edition) f.now × Legal (edition_of edition) key.now }
-    ensures { (st : State) (W : Stands (edition_of edition) f.now st) → SpotAt (edition_of edition) key.now W.root result }
-{
-    if edition == keys::SECOND {
-        if key.len() <= walk::SHORT_KEY {
-            let mut word: [u8; walk::SHORT_WORD] = [0; walk::SHORT_WORD];
-            let n = keys::spell(key, &mut word);
-            return walk::descend(f, key, &word[0..n], edition);
-        }
-        return walk::descend_long(f, key, edition);
-    }
-    walk::descend(f, key, key, edition)
-}
-
+// The record of a legal key goes.
 pub fn erase(f: &mut [u8], key: &[u8], edition: usize) -> Erase
     requires { Asked (edition_of edition) f.old key.now }
     ensures { EraseMade (edition_of edition) f.old key.now (erase_number result) f.new }
 {
-    let spot = spot_of(f, key, edition);
-    if spot.end != Spot::FOUND {
+    let spot = walk::spot_of(f, key, edition);
+    if spot.end != End::Found {
         return Erase::Absent;
     }
-    let node = spot.node;
     // the only record needs nothing
-    if node.slot == 0 {
+    if spot.node.slot == 0 {
         only::erase_only(f);
         return Erase::Done;
     }

@@ -74,20 +74,20 @@ cutting-more-requires c =
     let e = last_end c.requires.holds c.in_default.not-Found c.in_default.not-Empty c.in_default.not-Other c.in_default.not-Missing in
     cut_fits c.requires.holds e c.beginning.ensures
 
-pub forking-requires-2 : goal.forking-requires-2
-forking-requires-2 c =
+pub forking-requires-in_default : goal.forking-requires-in_default
+forking-requires-in_default c =
     let e = last_end c.requires.holds c.in_default.not-Found c.in_default.not-Empty c.in_default.not-Other c.in_default.not-Missing in
     let f = cut_fits c.requires.holds e c.beginning.ensures in
     omega (arith, cut_few c.args.spot.shared c.beginning.result c.cutting-more.result f.1 f.2 c.cutting-more.ensures)
 
-pub recording-requires-2 : goal.recording-requires-2
-recording-requires-2 c = c.forking-2.ensures.small
+pub recording-requires-in_default : goal.recording-requires-in_default
+recording-requires-in_default c = c.forking-in_default.ensures.small
 
 pub returns-in_default : goal.returns-in_default
 returns-in_default c =
     let q = c.args.spot.shared in let e = last_end c.requires.holds c.in_default.not-Found c.in_default.not-Empty c.in_default.not-Other c.in_default.not-Missing in
     let f = cut_fits c.requires.holds e c.beginning.ensures in
-    let A = c.recording-2.ensures (fork_takes c.cutting-more.result) c.forking-2.ensures.asks in (
+    let A = c.recording-in_default.ensures (fork_takes c.cutting-more.result) c.forking-in_default.ensures.asks in (
       small_new A (fork_few c.cutting-more.result (cut_few q c.beginning.result c.cutting-more.result f.1 f.2 c.cutting-more.ensures)) (extent_fits c.requires.holds c.rounded-extent.ensures),
       λ E st W S t. asks_parted W S (record { bytes = c.args.value.now; stamp = t }) c.cutting-more.result c.beginning.result e c.beginning.ensures c.cutting-more.ensures (sized c.rounded-extent.ensures A),
     )
