@@ -10,6 +10,7 @@ use native.Mathlib.Omega.{arith}
 use lib.ListN.{take, drop}
 use lib.Dec.{eqb}
 use borrow.Author.Tests.{eq-eqb, ne_eqb}
+use Rattle.std.specs.Prelude.{Some, None}
 use Rattle.layout.specs.Number.{Bytes}
 use Rattle.model.specs.Strings.{pick}
 use Rattle.model.specs.Edition.{Edition, edition_of, Legal}
@@ -18,6 +19,7 @@ use Rattle.model.specs.Visits.{visits_in}
 use Rattle.model.specs.Frame.{Root, root_art, Stands, Good}
 use Rattle.model.specs.Touch.{Part, find_at}
 use Rattle.model.specs.Promise.{Told, CheckPromise, LookUpPromise, not_found, found_of}
+use Rattle.descent.specs.declared.lookup.Located.{Located}
 use Rattle.descent.specs.declared.lookup.Held.{Held}
 use Rattle.descent.specs.Lookup.{part_of, value_in, Looked, shifted, Handed}
 use Rattle.descent.proofs.LookLaws.{value_stands}
@@ -132,11 +134,11 @@ module _ (ed : ℕ) (f k : List ℕ) (n : ℕ) (given : CheckPromise (edition_of
       let b' : E.key_fault k ≡ 0 → ⊥ = λ y. b (q ∙ y) in
       let x = key_four ed k b' (λ y. a (q ∙ y)) in rw x at (refused_key E f k (good z) b')
 
-  pub end_found : n ≡ 0 → (e : ℕ) → e ≡ E.key_fault k → e ≡ 0 → (v : Held) → ((s : State) (w : Stands E f s) → Looked E f k s w.root v) → v.found ≡ true
-      → LookUpPromise E f k (record { number = 0; place = v.place; long = v.length; slots = v.slots; stamp = v.stamp })
-  end_found z e q h v L t = rw t at (looked_up E f k v (good z) (sym q ∙ h) L)
+  pub end_found : n ≡ 0 → (e : ℕ) → e ≡ E.key_fault k → e ≡ 0 → (v : Held) → ((s : State) (w : Stands E f s) → Looked E f k s w.root v) → (at : Located) → v.value ≡ Some at
+      → LookUpPromise E f k (record { number = 0; place = at.place; long = at.length; slots = v.slots; stamp = at.stamp })
+  end_found z e q h v L at t = rw t at (looked_up E f k v (good z) (sym q ∙ h) L)
 
-  pub end_absent : n ≡ 0 → (e : ℕ) → e ≡ E.key_fault k → e ≡ 0 → (v : Held) → ((s : State) (w : Stands E f s) → Looked E f k s w.root v) → v.found ≡ false
+  pub end_absent : n ≡ 0 → (e : ℕ) → e ≡ E.key_fault k → e ≡ 0 → (v : Held) → ((s : State) (w : Stands E f s) → Looked E f k s w.root v) → v.value ≡ None
       → LookUpPromise E f k (not_found 8 v.slots)
   end_absent z e q h v L t = rw t at (looked_up E f k v (good z) (sym q ∙ h) L)
 

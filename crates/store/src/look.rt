@@ -38,10 +38,10 @@ pub fn look_up(frame: &[u8], key: &[u8], edition: usize) -> LookUp
         return LookUp::Refused(Refusal::KeyZero);
     }
     let v = lookup::find(frame, key, edition);
-    if v.found {
-        return LookUp::Found(v.place, v.length, v.slots, v.stamp);
+    match v.value {
+        Some(at) => LookUp::Found(at.place, at.length, v.slots, at.stamp),
+        None => LookUp::Absent(v.slots),
     }
-    LookUp::Absent(v.slots)
 }
 
 // "a second look-up call hands back the value itself as that part of the lent frame, and for an absent key or a refusal an empty

@@ -10,28 +10,28 @@ returns-then-ne c = absent c.requires c.spot_of-spot.ensures (search rules)
 
 pub erase_only-requires : goal.erase_only-requires
 erase_only-requires c =
-    record { edition = _; key = c.args.key.now; holds = only c.requires c.spot_of-spot.ensures (search rules) c.if-node-eq0.true }
+    record { edition = _; key = c.args.key.now; holds = only c.requires c.spot_of-spot.ensures (search rules) c.if-spot-eq0.true }
 
-pub returns-then-node-eq0 : goal.returns-then-node-eq0
-returns-then-node-eq0 c =
-    only_made (c.erase_only.ensures _ c.args.key.now (only c.requires c.spot_of-spot.ensures (search rules) c.if-node-eq0.true))
+pub returns-then-spot-eq0 : goal.returns-then-spot-eq0
+returns-then-spot-eq0 c =
+    only_made (c.erase_only.ensures _ c.args.key.now (only c.requires c.spot_of-spot.ensures (search rules) c.if-spot-eq0.true))
 
 pub erase_needs-needs-requires : goal.erase_needs-needs-requires
 erase_needs-needs-requires c =
-    record { edition = _; holds = from c.requires c.spot_of-spot.ensures (search rules) c.if-node-eq0.false }
+    record { edition = _; holds = from c.requires c.spot_of-spot.ensures (search rules) c.if-spot-eq0.false }
 
 pub fits-requires : goal.fits-requires
 fits-requires c =
-    (c.erase_needs-needs.ensures _ (from c.requires c.spot_of-spot.ensures (search rules) c.if-node-eq0.false)).small
+    (c.erase_needs-needs.ensures _ (from c.requires c.spot_of-spot.ensures (search rules) c.if-spot-eq0.false)).small
 
 pub returns-then-not-fits : goal.returns-then-not-fits
 returns-then-not-fits c =
-    no_room c.requires c.spot_of-spot.ensures (search rules) c.if-node-eq0.false (c.erase_needs-needs.ensures _ (from c.requires c.spot_of-spot.ensures (search rules) c.if-node-eq0.false)) c.room_for.ensures c.fits.ensures (not-true _ c.if-not-fits.true-raw)
+    no_room c.requires c.spot_of-spot.ensures (search rules) c.if-spot-eq0.false (c.erase_needs-needs.ensures _ (from c.requires c.spot_of-spot.ensures (search rules) c.if-spot-eq0.false)) c.room_for.ensures c.fits.ensures (not-true _ c.if-not-fits.true-raw)
 
 pub apply-requires : goal.apply-requires
 apply-requires c =
-    record { edition = _; holds = at_spot c.requires c.spot_of-spot.ensures (search rules) c.if-node-eq0.false (c.erase_needs-needs.ensures _ (from c.requires c.spot_of-spot.ensures (search rules) c.if-node-eq0.false)) c.room_for.ensures c.fits.ensures (key_some _ _ c.requires.legal.passes) (not-false _ c.if-not-fits.false-raw) }
+    record { edition = _; holds = at_spot c.requires c.spot_of-spot.ensures (search rules) c.if-spot-eq0.false (c.erase_needs-needs.ensures _ (from c.requires c.spot_of-spot.ensures (search rules) c.if-spot-eq0.false)) c.room_for.ensures c.fits.ensures (key_some _ _ c.requires.legal.passes) (not-false _ c.if-not-fits.false-raw) }
 
 pub returns : goal.returns
 returns c =
-    erased c.requires c.spot_of-spot.ensures (search rules) c.if-node-eq0.false (c.erase_needs-needs.ensures _ (from c.requires c.spot_of-spot.ensures (search rules) c.if-node-eq0.false)) c.room_for.ensures c.fits.ensures (not-false _ c.if-not-fits.false-raw) (c.apply.ensures _ (at_spot c.requires c.spot_of-spot.ensures (search rules) c.if-node-eq0.false (c.erase_needs-needs.ensures _ (from c.requires c.spot_of-spot.ensures (search rules) c.if-node-eq0.false)) c.room_for.ensures c.fits.ensures (key_some _ _ c.requires.legal.passes) (not-false _ c.if-not-fits.false-raw)))
+    erased c.requires c.spot_of-spot.ensures (search rules) c.if-spot-eq0.false (c.erase_needs-needs.ensures _ (from c.requires c.spot_of-spot.ensures (search rules) c.if-spot-eq0.false)) c.room_for.ensures c.fits.ensures (not-false _ c.if-not-fits.false-raw) (c.apply.ensures _ (at_spot c.requires c.spot_of-spot.ensures (search rules) c.if-spot-eq0.false (c.erase_needs-needs.ensures _ (from c.requires c.spot_of-spot.ensures (search rules) c.if-spot-eq0.false)) c.room_for.ensures c.fits.ensures (key_some _ _ c.requires.legal.passes) (not-false _ c.if-not-fits.false-raw)))

@@ -11,6 +11,6 @@ pub returns-then-not-write : goal.returns-then-not-write
 returns-then-not-write c =
     new_full (record { asked = c.requires.0; spells = c.requires.1; spot = c.descend-spot.ensures }) c.write.ensures (not-true _ c.if-not-write.true-raw) c.in_default.not-Found
 
-pub returns-in_default : goal.returns-in_default
-returns-in_default c =
+pub returns-else-not-write : goal.returns-else-not-write
+returns-else-not-write c =
     new_made (record { asked = c.requires.0; spells = c.requires.1; spot = c.descend-spot.ensures }) c.write.ensures (not-false _ c.if-not-write.false-raw) c.in_default.not-Found

@@ -6,8 +6,8 @@ use Rattle.put_core.proofs.put_or_replace.Goals as goal
 pub spell-n-requires : goal.spell-n-requires
 spell-n-requires c = (escaped_fits _ _ c.if-edition-eq-SECOND.true c.requires.legal, omega arith)
 
-pub slice_bounds-either_by-end : goal.slice_bounds-either_by-end
-slice_bounds-either_by-end c = spelt_within c.spell-n.ensures
+pub slice_bounds-r-end : goal.slice_bounds-r-end
+slice_bounds-r-end c = spelt_within c.spell-n.ensures
 
 pub either_by-requires : goal.either_by-requires
 either_by-requires c =

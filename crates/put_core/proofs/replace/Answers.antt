@@ -6,8 +6,8 @@ use Rattle.put_core.proofs.replace.Goals as goal
 pub spell-n-requires : goal.spell-n-requires
 spell-n-requires c = (escaped_fits _ _ c.if-edition-eq-SECOND.true c.requires.legal, omega arith)
 
-pub slice_bounds-replace_by-end : goal.slice_bounds-replace_by-end
-slice_bounds-replace_by-end c = spelt_within c.spell-n.ensures
+pub slice_bounds-r-end : goal.slice_bounds-r-end
+slice_bounds-r-end c = spelt_within c.spell-n.ensures
 
 pub replace_by-requires : goal.replace_by-requires
 replace_by-requires c =

@@ -20,8 +20,8 @@ pub find-v-requires : goal.find-v-requires
 find-v-requires c =
     (standing _ _ [] _ c.check-n.ensures (omega arith), legal_key _ _ _ _ c.check-n.ensures c.fault-fault.ensures (omega arith) (λ a. omega (arith, c.shared_slice_known-2-1.given a)))
 
-pub returns-then-v : goal.returns-then-v
-returns-then-v c = end_found _ _ _ _ c.check-n.ensures (omega arith) _ c.fault-fault.ensures (omega arith) _ c.find-v.ensures c.if-v.true
+pub returns-in-Some : goal.returns-in-Some
+returns-in-Some c = end_found _ _ _ _ c.check-n.ensures (omega arith) _ c.fault-fault.ensures (omega arith) _ c.find-v.ensures _ c.in-Some.is
 
-pub returns : goal.returns
-returns c = end_absent _ _ _ _ c.check-n.ensures (omega arith) _ c.fault-fault.ensures (omega arith) _ c.find-v.ensures c.if-v.false
+pub returns-in-None : goal.returns-in-None
+returns-in-None c = end_absent _ _ _ _ c.check-n.ensures (omega arith) _ c.fault-fault.ensures (omega arith) _ c.find-v.ensures c.in-None.is
