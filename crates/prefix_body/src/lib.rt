@@ -4,7 +4,7 @@
 
 ghost use Rattle.std.specs.Prelude.{◌≡◌, List, [], ◌∷◌, ◌++◌, ℕ, ◌+◌, ◌≤◌, ◌<◌, length, get_or, take, drop};
 ghost use Rattle.model.specs.Body.{PrefixAt};
-ghost use Rattle.moves.specs.Moved.{Only, Moved};
+ghost use Rattle.moves.specs.Moved.{Only};
 ghost use Rattle.prefix_body.specs.Prefix.{PrefixWritten, Spare, Gets, Joins, Longer, Shortened, Drawn, Draws, Full, Elsewhere};
 
 use fields::body::Prefix;
@@ -59,18 +59,6 @@ pub fn back(f: &mut [u8], o: usize, b: u8, child: usize)
     Prefix::set_child(f, o, child);
 }
 
-// n bytes from src go to dst.
-fn copy(f: &mut [u8], src: usize, dst: usize, n: usize)
-    requires { (src + n ≤ length f.old) × (dst + n ≤ length f.old) }
-    ensures { Moved f.old f.new src dst n }
-{
-    if dst <= src {
-        moves::slide(f, src, dst, n);
-        return;
-    }
-    moves::slide(f, src, dst, n);
-}
-
 // The first k bytes of the Prefix at `low` join at the end.
 fn more(f: &mut [u8], o: usize, low: usize, k: usize)
     requires { Gets f.old o low k }
@@ -78,7 +66,7 @@ fn more(f: &mut [u8], o: usize, low: usize, k: usize)
         × ((p : List ℕ) (c : ℕ) (q : List ℕ) (d : ℕ) → PrefixAt f.old o p c → PrefixAt f.old low q d → PrefixAt f.new o (p ++ take k q) c) }
 {
     let n = Prefix::length(f, o);
-    copy(f, low + Prefix::BYTES, o + Prefix::BYTES + n, k);
+    moves::slide(f, low + Prefix::BYTES, o + Prefix::BYTES + n, k);
     Prefix::set_length(f, o, n + k);
 }
 
@@ -130,7 +118,7 @@ pub fn tail(f: &mut [u8], o: usize, from: usize, q: usize)
     moves::clear(f, o, Prefix::SIZE);
     Prefix::set_child(f, o, child);
     Prefix::set_length(f, o, left);
-    copy(f, from + Prefix::BYTES + q, o + Prefix::BYTES, left);
+    moves::slide(f, from + Prefix::BYTES + q, o + Prefix::BYTES, left);
 }
 
 // The first q bytes stay, above another child.

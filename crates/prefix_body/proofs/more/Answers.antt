@@ -4,4 +4,4 @@ use Rattle.prefix_body.proofs.more.Goals as goal
 
 pub returns : goal.returns
 returns c =
-    more_done c.requires c.length-n.ensures.0 c.copy.ensures c.set_length.ensures
+    more_done c.requires c.length-n.ensures.0 c.slide.ensures c.set_length.ensures

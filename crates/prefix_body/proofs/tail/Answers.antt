@@ -6,4 +6,4 @@ use Rattle.prefix_body.proofs.tail.Goals as goal
 
 pub returns : goal.returns
 returns c =
-    let q = c.args.q in tail_moved c.args.o c.args.from q (c.length.result - q) c.child-child.result c.requires (ap (λ n. n - q) c.length.ensures.0) c.child-child.ensures.0 c.child-child.ensures.1 c.clear.ensures c.set_child.ensures c.set_length.ensures c.copy.ensures
+    let q = c.args.q in tail_moved c.args.o c.args.from q (c.length.result - q) c.child-child.result c.requires (ap (λ n. n - q) c.length.ensures.0) c.child-child.ensures.0 c.child-child.ensures.1 c.clear.ensures c.set_child.ensures c.set_length.ensures c.slide.ensures
