@@ -340,6 +340,11 @@ module _ {f : List ℕ} {slot b at : ℕ} where
     pub pushes_link : (64 ≤ length f) × (at + 4 ≤ length f)
     pushes_link = link_ok at Z.pushing.work Z.pushing.link_is
 
+    pub pushes_left : high_of f slot ≡ 2 → 1 ≤ left
+    pushes_left kind =
+        let O = opens_of (path_of Z.steps ++ b ∷ []) Z.tree Z.trees Z.loose Z.pushing.work Z.slot_is kind refl in
+        omega (arith, Z.few, ap (λ y. length (bodies_of y)) O.is)
+
     module _ (d : high_of f slot ≡ 2 → ⊥) where
       i : IsNode Z.tree
       i = is_other Z.pushing Z.slot_is d
@@ -370,9 +375,6 @@ module _ {f : List ℕ} {slot b at : ℕ} where
 
       pub pushes_low : low + 128 ≤ length f1
       pushes_low = Q.room
-
-      pub pushes_left : 1 ≤ left
-      pushes_left = omega (arith, Z.few, ap (λ y. length (bodies_of y)) O.is)
 
       module _ {n : ℕ} (en : n ≡ le 2 f1 (low + prefix_length)) where
         pub pushes_spare : n < 112 → Spare f1 low 1

@@ -43,10 +43,8 @@ pub fn write_row(f: &mut [u8], row: &[usize], bytes: &[u8], child: usize) -> usi
     ensures { RowWritten f.old f.new row.now bytes.now child 0 0 result }
 {
     let mut to = bytes.len();
-    let mut i = bodies_of(to);
     let mut below = child;
-    while i > 0 {
-        i -= 1;
+    for i in (0..bodies_of(to)).rev() {
         let from = i * Prefix::MOST;
         let s = row[i];
         let body = Entry::read(f, s);
@@ -62,11 +60,8 @@ pub fn take_row(f: &mut [u8], row: &mut [usize], have: usize, need: usize)
     requires { Takes f.old row.old have need }
     ensures { RowTaken f.old f.new row.old row.new have (need - have) (need - have) }
 {
-    let mut i = have;
-    while i < need {
-        let s = heap::take(f, Kind::PREFIX);
-        row[i] = s;
-        i += 1;
+    for i in have..need {
+        row[i] = heap::take(f, Kind::PREFIX);
     }
 }
 
@@ -75,15 +70,13 @@ pub fn free_row(f: &mut [u8], row: &[usize], keep: usize, have: usize)
     requires { Frees f.old row.now have × (keep ≤ have) }
     ensures { RowFreed f.old f.new row.now have keep }
 {
-    let mut i = have;
-    while i > keep {
-        i -= 1;
+    for i in (keep..have).rev() {
         heap::release(f, row[i], Kind::PREFIX);
     }
 }
 
 // A row that was read: its bodies, its bytes, and the slot below the last.
-#[derive(Clone, Copy)]
+#[derive(Clone, Copy, Debug, PartialEq, Eq)]
 pub struct Run {
     pub count: usize,
     pub long: usize,
@@ -105,11 +98,12 @@ pub fn read_row(
     let mut s = slot;
     let mut count = have;
     let mut n = long;
+    // a `loop`: it follows slots down the chain, and no index is stepped
     loop {
         let e = Entry::read(f, s);
         if e.high != Kind::PREFIX {
             return Run {
-                count: count,
+                count,
                 long: n,
                 child: s,
             };

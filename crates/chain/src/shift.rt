@@ -12,9 +12,7 @@ pub fn free(f: &mut [u8], slot: usize)
     ensures { RunFreed f.old f.new slot }
 {
     let mut top = slot;
-    // a run has no more bodies than this
-    let mut left = crate::MOST;
-    loop {
+    for _ in 0..crate::MOST {
         let e = Entry::read(f, top);
         if e.high != Kind::PREFIX {
             return;
@@ -22,7 +20,6 @@ pub fn free(f: &mut [u8], slot: usize)
         let below = Prefix::child(f, e.place);
         heap::release(f, top, Kind::PREFIX);
         top = below;
-        left -= 1;
     }
 }
 
@@ -33,9 +30,7 @@ pub fn fill(f: &mut [u8], o: usize, slot: usize)
 {
     let mut at = o;
     let mut s = slot;
-    // a run has no more bodies than this
-    let mut left = crate::MOST;
-    loop {
+    for _ in 0..crate::MOST {
         let e = Entry::read(f, s);
         if e.high != Kind::PREFIX {
             return;
@@ -52,7 +47,6 @@ pub fn fill(f: &mut [u8], o: usize, slot: usize)
         prefix_body::draw(f, at, e.place);
         at = e.place;
         s = Prefix::child(f, at);
-        left -= 1;
     }
 }
 
@@ -65,16 +59,10 @@ pub fn push(f: &mut [u8], slot: usize, b: u8, at: usize)
     let mut s = slot;
     let mut byte = b;
     let mut name = at;
-    // a run has no more bodies than this
-    let mut left = crate::MOST;
-    loop {
+    for _ in 0..crate::MOST {
         let e = Entry::read(f, s);
         if e.high != Kind::PREFIX {
-            let new = heap::take(f, Kind::PREFIX);
-            let body = Entry::read(f, new);
-            prefix_body::fresh(f, body.place, byte, s);
-            link::relink(f, name, new);
-            return;
+            break;
         }
         link::relink(f, name, s);
         if Prefix::length(f, e.place) < Prefix::MOST {
@@ -84,6 +72,9 @@ pub fn push(f: &mut [u8], slot: usize, b: u8, at: usize)
         byte = prefix_body::turn(f, e.place, byte);
         name = e.place + Prefix::CHILD;
         s = Prefix::child(f, e.place);
-        left -= 1;
     }
+    let new = heap::take(f, Kind::PREFIX);
+    let body = Entry::read(f, new);
+    prefix_body::fresh(f, body.place, byte, s);
+    link::relink(f, name, new);
 }

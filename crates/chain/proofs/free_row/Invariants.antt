@@ -7,6 +7,3 @@ use Rattle.chain.proofs.free_row.Given as goal
 
 abbrev pub invariant-loop-i : goal.invariant-loop-i
 invariant-loop-i l = (l.keep ≤ l.i) × (l.i ≤ l.have) × (length l.f ≡ length l.initial.f) × RowFreed l.initial.f l.f l.row l.have l.i
-
-abbrev pub decreases-loop-i : goal.decreases-loop-i
-decreases-loop-i l = l.i

@@ -9,13 +9,13 @@ pub loop-i-init : goal.loop-i-init
 loop-i-init c =
     (omega arith, omega arith, refl, refl, taken_start _ _ _ _ _ refl)
 
-pub take-s-requires : goal.take-s-requires
-take-s-requires c =
+pub take-requires : goal.take-requires
+take-requires c =
     let v = c.loop-i.invariant in taken_takes (omega arith) (omega arith) v.4 c.requires
 
 pub loop-i-preserved : goal.loop-i-preserved
 loop-i-preserved c =
-    let v = c.loop-i.invariant in let z = c.requires in (omega arith, omega arith, search rules, search rules, taken_step (omega arith) (omega arith) v.4 (omega (arith, z.long)) c.take-s.ensures)
+    let v = c.loop-i.invariant in let z = c.requires in (omega arith, omega arith, search rules, search rules, taken_step (omega arith) (omega arith) v.4 (omega (arith, z.long)) c.take.ensures)
 
 pub returns : goal.returns
 returns c =

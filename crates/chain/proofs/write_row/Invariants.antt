@@ -8,6 +8,3 @@ use Rattle.chain.proofs.write_row.Given as goal
 abbrev pub invariant-loop-i : goal.invariant-loop-i
 invariant-loop-i l =
     (l.i * 112 < l.to + 112) × (l.to ≤ l.i * 112) × (l.to ≤ length l.bytes) × (l.to < length l.bytes → l.to ≡ l.i * 112) × (l.below < 4294967296) × (length l.f ≡ length l.initial.f) × RowWritten l.initial.f l.f l.row l.bytes l.child l.i l.to l.below
-
-abbrev pub decreases-loop-i : goal.decreases-loop-i
-decreases-loop-i l = l.i
