@@ -215,8 +215,8 @@ module _ {E : Edition} {f k word : List ℕ} {v : Value} {p : Spot} (N : NoneBef
           named : {s : State} (w : Stands E f s) → Work E f4 (view4 w) (xs A) m ((path, knot w) ∷ []) (row_items (own_row n o j) [])
           named w = relinked m (fits w).0 (fits w).1 p.here.link (xs A) A.put.way.link_is (forked w) R
 
-          module _ (row : List ℕ) (er : get_or row 0 0 ≡ n) where
-            pub first_frees : length row ≡ 1 → chain_row.Frees f4 row j × (0 ≤ j)
+          module _ (row : List ℕ) (er : get_or row 0 0 ≡ n) {i : ℕ} (ei : i ≡ j) where
+            pub first_frees : length row ≡ 1 → chain_row.Frees f4 row i × (0 ≤ i)
             first_frees l =
                 let w = w0 A in
                 let d = (dropped w).few in (
@@ -230,15 +230,15 @@ module _ {E : Edition} {f k word : List ℕ} {v : Value} {p : Spot} (N : NoneBef
                     loose = [];
                     work = named w;
                     named = own_named row n o j er;
-                    many = own_long n o j d;
+                    many = own_long n o j d ∙ sym ei;
                     long = omega arith;
                   },
                   omega arith,
                 )
 
-            module _ {f5 : List ℕ} (Z : RowFreed f4 f5 row j 0) where
+            module _ {f5 : List ℕ} (Z : RowFreed f4 f5 row i 0) where
               shrunk : {s : State} (w : Stands E f s) → Shrunk E f4 f5 (view4 w) (xs A) m ((path, knot w) ∷ []) (own_row n o j) [] row 0
-              shrunk w = Z E (view4 w) (xs A) m ((path, knot w) ∷ []) (own_row n o j) [] (named w) (own_named row n o j er) (own_long n o j (dropped w).few)
+              shrunk w = Z E (view4 w) (xs A) m ((path, knot w) ∷ []) (own_row n o j) [] (named w) (own_named row n o j er) (own_long n o j (dropped w).few ∙ sym ei)
 
               gone_is : {s : State} (w : Stands E f s) → ◌≡◌ {A = List (ℕ × ℕ)} (shrunk w).gone (own_row n o j)
               gone_is w = let S = shrunk w in own_gone n o j S.gone S.left (dropped w).few S.many S.whole

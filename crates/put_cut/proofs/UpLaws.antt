@@ -2,9 +2,12 @@
 use Prim.Native.Nat.{ℕ, zero, suc, ◌+◌, ◌-◌, ◌≤◌}
 use mathlib.Core.Path.{◌≡◌, refl, sym, ap, subst, ◌∙◌}
 use mathlib.Core.List.{List, [], ◌∷◌, ◌++◌, append-nil}
+use mathlib.Core.Bool.{not}
 use native.Mathlib.Omega.{arith}
+use lib.Dec.{eqb}
 use lib.ListN.{length, get_or, take, drop, length-append, length-drop}
 use lib.Seq.{take_all}
+use Rattle.std.specs.Int.{from_bool}
 use Rattle.layout.specs.Kind.{prefix_kind}
 use Rattle.model.specs.Edition.{Edition}
 use Rattle.model.specs.Tree.{chain}
@@ -189,3 +192,9 @@ module _ {f : List ℕ} {n o : ℕ} (A : Drops f n o) where
           let j = count - need in
           let Y' = subst (λ y. RowWritten f g y (take long bytes) r 0 0 top) (sym part_is) Y in
           dropped W T j few (Y' E h xs s (path ++ take 1 p) T.tip ts (used W T j) (row_items (own_row n o j) loose) (readied W T j few whole))
+
+-- a number of at most 1, as a flag tells it
+pub as_flag : (j : ℕ) → j ≤ 1 → j ≡ from_bool (not (eqb j 0))
+as_flag zero l = refl
+as_flag (suc zero) l = refl
+as_flag (suc (suc j)) l = absurd (omega arith)

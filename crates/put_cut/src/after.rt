@@ -1,5 +1,6 @@
 // The part after: the bytes of a shared beginning from some byte of a Prefix on. "A chain of Prefixes, each full but the last": if others
 // stand below the Prefix, each of them then has bytes that stood in another.
+ghost use Rattle.std.specs.Int.{from_bool};
 ghost use Rattle.put_cut.specs.After.{Gathers, RunGathered, Drops, FirstDropped, Splits, SplitOff};
 
 use chain::Run;
@@ -23,39 +24,39 @@ fn gather(f: &[u8], place: usize, q: usize, row: &mut [usize], have: usize, byte
 
 // ---- the first byte goes
 
-// The slot of what is left, and whether the first body is spare: 1, or 0 if it still has bytes.
-#[derive(Clone, Copy)]
+// The slot of what is left, and whether the first body is spare: it isn't if it still has bytes.
+#[derive(Clone, Copy, Debug, PartialEq, Eq)]
 pub struct Rest {
     pub slot: usize,
-    pub spare: usize,
+    pub spare: bool,
 }
 
 // What is left goes to the bodies of the chain; the first one is spare if the others are enough.
 fn move_up(f: &mut [u8], slot: usize, place: usize) -> Rest
     requires { Drops f.old slot place }
-    ensures { FirstDropped f.old f.new slot place result.slot result.spare }
+    ensures { FirstDropped f.old f.new slot place result.slot (from_bool result.spare) }
 {
     let mut row: [usize; chain::MOST] = [slot; chain::MOST];
     let mut bytes: [u8; chain::MOST * Prefix::MOST] = [0; chain::MOST * Prefix::MOST];
     let run = gather(f, place, 1, &mut row, 1, &mut bytes);
-    let spare = run.count - chain::bodies_of(run.long);
-    let top = chain::write_row(f, &row[spare..], &bytes[..run.long], run.child);
+    let over = run.count - chain::bodies_of(run.long);
+    let top = chain::write_row(f, &row[over..], &bytes[..run.long], run.child);
     Rest {
         slot: top,
-        spare: spare,
+        spare: over != 0,
     }
 }
 
 // The shared beginning from this Prefix on loses its first byte.
 pub fn drop_first(f: &mut [u8], slot: usize, place: usize) -> Rest
     requires { Drops f.old slot place }
-    ensures { FirstDropped f.old f.new slot place result.slot result.spare }
+    ensures { FirstDropped f.old f.new slot place result.slot (from_bool result.spare) }
 {
     let child = Prefix::child(f, place);
     if Prefix::length(f, place) == 1 {
         return Rest {
             slot: child,
-            spare: 1,
+            spare: true,
         };
     }
     let e = Entry::read(f, child);
@@ -64,8 +65,8 @@ pub fn drop_first(f: &mut [u8], slot: usize, place: usize) -> Rest
     }
     prefix_body::drop_first(f, place);
     Rest {
-        slot: slot,
-        spare: 0,
+        slot,
+        spare: false,
     }
 }
 

@@ -29,8 +29,7 @@ fn cut_first(f: &mut [u8], r: Record, spot: Spot)
     let rest = after::drop_first(f, here.slot, here.place);
     parts::fork(f, node, r, b, c, rest.slot);
     room::link::relink(f, here.link, node);
-    let row: [usize; 1] = [here.slot; 1];
-    chain::free_row(f, &row, 0, rest.spare);
+    chain::free_row(f, &[here.slot], 0, usize::from(rest.spare));
     leaf_new::count_record(f);
 }
 

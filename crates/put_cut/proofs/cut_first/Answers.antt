@@ -26,14 +26,14 @@ relink-requires c =
 pub free_row-requires : goal.free_row-requires
 free_row-requires c =
     let F = first_forked c.requires.holds c.at-b.ensures c.byte-c.ensures c.fork.ensures in
-    first_frees c.requires.holds c.take-node.ensures c.drop_first-rest.ensures F c.relink.ensures _ refl refl
+    first_frees c.requires.holds c.take-node.ensures c.drop_first-rest.ensures F c.relink.ensures _ refl c.from.ensures refl
 
 pub count_record-requires : goal.count_record-requires
 count_record-requires c =
     let F = first_forked c.requires.holds c.at-b.ensures c.byte-c.ensures c.fork.ensures in
-    first_counts c.requires.holds c.take-node.ensures c.drop_first-rest.ensures F c.relink.ensures _ refl c.free_row.ensures
+    first_counts c.requires.holds c.take-node.ensures c.drop_first-rest.ensures F c.relink.ensures _ refl c.from.ensures c.free_row.ensures
 
 pub returns : goal.returns
 returns c =
-    λ E N. first_put N c.take-node.ensures c.drop_first-rest.ensures (first_forked N c.at-b.ensures c.byte-c.ensures c.fork.ensures) c.relink.ensures _ refl c.free_row.ensures c.count_record.ensures
+    λ E N. first_put N c.take-node.ensures c.drop_first-rest.ensures (first_forked N c.at-b.ensures c.byte-c.ensures c.fork.ensures) c.relink.ensures _ refl c.from.ensures c.free_row.ensures c.count_record.ensures
     (λ a. omega (arith, c.slice_known-7-1.given a))

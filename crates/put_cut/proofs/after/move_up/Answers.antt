@@ -1,8 +1,9 @@
 -- `move_up` reads the chain, and writes what is left of its bytes to its bodies. Assumes nothing.
-use mathlib.Core.Path.{refl, sym}
+use mathlib.Core.Path.{refl, sym, subst}
 use native.Mathlib.Omega.{arith}
 use lib.Seq.{length-take-le}
-use Rattle.put_cut.proofs.UpLaws.{up_gathers, up_counts, up_writes, up_done}
+use Rattle.put_cut.specs.After.{FirstDropped}
+use Rattle.put_cut.proofs.UpLaws.{up_gathers, up_counts, up_writes, up_done, as_flag}
 use Rattle.put_cut.proofs.after.move_up.Goals as goal
 
 pub gather-run-requires : goal.gather-run-requires
@@ -14,13 +15,13 @@ bodies_of-requires c =
     let u = up_counts c.requires c.gather-run.ensures refl (omega arith) (omega arith) in
     omega arith
 
-pub overflow_sub-spare : goal.overflow_sub-spare
-overflow_sub-spare c =
+pub overflow_sub-over : goal.overflow_sub-over
+overflow_sub-over c =
     let u = up_counts c.requires c.gather-run.ensures refl (omega arith) (omega arith) in
     omega arith
 
-pub offset_bounds-row-spare : goal.offset_bounds-row-spare
-offset_bounds-row-spare c =
+pub offset_bounds-row-over : goal.offset_bounds-row-over
+offset_bounds-row-over c =
     let u = up_counts c.requires c.gather-run.ensures refl (omega arith) (omega arith) in
     omega arith
 
@@ -50,4 +51,6 @@ write_row-top-requires c =
 
 pub returns : goal.returns
 returns c =
-    up_done c.requires c.gather-run.ensures refl (omega arith) (omega arith) c.bodies_of.ensures c.write_row-top.ensures
+    let u = up_counts c.requires c.gather-run.ensures refl (omega arith) (omega arith) in
+    subst (λ j. FirstDropped c.args.f.now c.write_row-top.new.f c.args.slot c.args.place c.write_row-top.result j) (as_flag _ (omega arith))
+    (up_done c.requires c.gather-run.ensures refl (omega arith) (omega arith) c.bodies_of.ensures c.write_row-top.ensures)
