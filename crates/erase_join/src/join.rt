@@ -23,7 +23,7 @@ pub fn other_child(f: &[u8], o: usize, b: u8) -> Child
     ensures { (result.byte < 256) × ((ks : List (ℕ × ℕ)) → InnerAt f.now o node4_kind ks → remove_kid b ks ≡ (result.byte, result.slot) ∷ []) }
 {
     let first = visit::child_at(f, o, Kind::NODE4, 0, 0);
-    if first.byte == b as usize {
+    if first.byte == usize::from(b) {
         return visit::child_at(f, o, Kind::NODE4, 1, first.byte + 1);
     }
     first

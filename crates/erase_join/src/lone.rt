@@ -10,7 +10,7 @@ use descent::spot::Body;
 use room::link;
 
 // A Node4 that loses its Leaf, and the child that is left.
-#[derive(Clone, Copy)]
+#[derive(Clone, Copy, Debug, PartialEq, Eq)]
 pub struct Lone {
     pub node: usize,
     // the Leaf's slot and the place of its body
