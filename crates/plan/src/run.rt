@@ -13,6 +13,7 @@ pub fn long(f: &[u8], slot: usize) -> usize
 {
     let mut s = slot;
     let mut n = 0;
+    // a `loop`: it follows slots down the chain, and no index is stepped
     loop {
         let e = Entry::read(f, s);
         if e.high != Kind::PREFIX {
