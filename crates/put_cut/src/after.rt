@@ -65,10 +65,7 @@ pub fn drop_first(f: &mut [u8], slot: usize, place: usize) -> Rest
         return move_up(f, slot, place);
     }
     prefix_body::drop_first(f, place);
-    Rest {
-        slot,
-        spare: false,
-    }
+    Rest { slot, spare: false }
 }
 
 // ---- the first bytes stay
