@@ -22,7 +22,7 @@ use Rattle.between.specs.Edit.{Booked}
 use Rattle.between.proofs.WorkLaws.{entries_first, first_owns, work_path, work_free, open_prefix}
 use Rattle.between.proofs.SinceLaws.{since_free}
 use Rattle.between.proofs.BookedLaws.{booked_free}
-use Rattle.chain.specs.Row.{run_many, bodies_of, bytes_of, tip_of}
+use Rattle.chain.specs.Row.{Entered, run_many, bodies_of, bytes_of, tip_of}
 use Rattle.chain.specs.Shift.{Freed, RunFreed, Frees}
 use Rattle.chain.proofs.TakeLaws.{prefix_kind_lem}
 use Rattle.chain.proofs.ReadLaws.{tree_stood}
@@ -88,11 +88,11 @@ module _ {f : List ℕ} {slot : ℕ} where
 
   -- what the code counts on
   module _ {left : ℕ} (Z : Frees f slot left) where
-    pub frees_slot : (1 ≤ slot) × (entry_at slot + 4 ≤ length f)
+    pub frees_slot : Entered f slot
     frees_slot =
         let S = tree_stood Z.path Z.trees Z.loose Z.tree Z.work in
         let e = Z.slot_is in
-        (omega (arith, S.low), omega (arith, S.entry))
+        record { some = omega (arith, S.low); entry = omega (arith, S.entry) }
 
     module _ {low : ℕ} (kind : high_of f slot ≡ 2) (el : low ≡ place_of f slot) where
       O : Opens Z.tree slot low

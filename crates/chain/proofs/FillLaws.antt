@@ -29,7 +29,7 @@ use Rattle.between.proofs.WorkLaws.{entries_first, first_owns, forest_first, for
 use Rattle.between.proofs.SinceLaws.{since_write, since_free}
 use Rattle.between.proofs.BookedLaws.{booked_free}
 use Rattle.prefix_body.specs.Prefix.{Two, Joins, Draws, Drawn}
-use Rattle.chain.specs.Row.{row_items, bodies_of, bytes_of, tip_of}
+use Rattle.chain.specs.Row.{Entered, row_items, bodies_of, bytes_of, tip_of}
 use Rattle.chain.specs.Shift.{Filling, Filled, RunFilled, Fills}
 use Rattle.chain.proofs.TakeLaws.{prefix_kind_lem}
 use Rattle.chain.proofs.ReadLaws.{pre_of, tree_stood}
@@ -246,11 +246,11 @@ module _ {f : List ℕ} {o slot : ℕ} where
 
   -- what the code counts on
   module _ {left : ℕ} (Z : Fills f o slot left) where
-    pub fills_slot : (1 ≤ slot) × (entry_at slot + 4 ≤ length f)
+    pub fills_slot : Entered f slot
     fills_slot =
         let S = tree_stood (Z.path ++ Z.text) Z.trees (body Z.number prefix_kind o ∷ Z.loose) Z.tree Z.filling.work in
         let e = Z.slot_is in
-        (omega (arith, S.low), omega (arith, S.entry))
+        record { some = omega (arith, S.low); entry = omega (arith, S.entry) }
 
     pub fills_room : o + 128 ≤ length f
     fills_room = Z.filling.at.room

@@ -34,7 +34,7 @@ use Rattle.between.proofs.WorkLaws.{entries_first, forest_first, work_sum, work_
 use Rattle.between.proofs.LinkLaws.{relinked, link_room}
 use Rattle.between.proofs.SinceLaws.{since_take, since_write, since_link}
 use Rattle.prefix_body.specs.Prefix.{Spare, Full}
-use Rattle.chain.specs.Row.{row_items, run_many, bodies_of, bytes_of, tip_of}
+use Rattle.chain.specs.Row.{Entered, row_items, run_many, bodies_of, bytes_of, tip_of}
 use Rattle.chain.specs.Shift.{lacks, Pushing, Pushed, RunPushed, Pushes}
 use Rattle.chain.proofs.TakeLaws.{prefix_kind_lem}
 use Rattle.chain.proofs.ReadLaws.{Stood, tree_stood}
@@ -334,8 +334,8 @@ module _ {f : List ℕ} {slot b at : ℕ} where
     stands : Stood f Z.tree
     stands = tree_stood (path_of Z.steps ++ b ∷ []) Z.trees Z.loose Z.tree Z.pushing.work
 
-    pub pushes_slot : (1 ≤ slot) × (entry_at slot + 4 ≤ length f)
-    pushes_slot = let e = Z.slot_is in (omega (arith, stands.low), omega (arith, stands.entry))
+    pub pushes_slot : Entered f slot
+    pushes_slot = let e = Z.slot_is in record { some = omega (arith, stands.low); entry = omega (arith, stands.entry) }
 
     pub pushes_link : (64 ≤ length f) × (at + 4 ≤ length f)
     pushes_link = link_ok at Z.pushing.work Z.pushing.link_is

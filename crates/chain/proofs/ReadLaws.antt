@@ -21,7 +21,7 @@ use Rattle.room.proofs.HeapLaws.{lies}
 use Rattle.between.specs.Hole.{Step}
 use Rattle.between.specs.Work.{Work}
 use Rattle.between.proofs.WorkLaws.{entries_first, first_owns, work_path, open_leaf, open_prefix, open_node}
-use Rattle.chain.specs.Row.{row_items, Named, unwound, bodies_of, bytes_of, tip_of, run_long, run_many, Opened, RowRead, Reads}
+use Rattle.chain.specs.Row.{Entered, row_items, Named, unwound, bodies_of, bytes_of, tip_of, run_long, run_many, Opened, RowRead, Reads}
 use Rattle.chain.proofs.TakeLaws.{named_push}
 
 -- ---- strings
@@ -183,11 +183,11 @@ module _ {f row row' bytes bytes' : List ℕ} {slot have long count n r : ℕ} (
     now_at : Opened W.edition f W.view W.steps W.top W.path W.tree W.trees W.held W.loose row' bytes bytes' long count n r
     now_at = Z W.edition W.view W.steps W.top W.path W.tree W.trees W.held W.loose W.work W.named W.many W.slot_is
 
-    pub read_slot : (1 ≤ r) × (entry_at r + 4 ≤ length f)
+    pub read_slot : Entered f r
     read_slot =
         let S = tree_stood (W.path ++ now_at.p) W.trees (row_items now_at.more (row_items W.held W.loose)) now_at.tip now_at.work in
         let e = now_at.slot in
-        (omega (arith, S.low), omega (arith, S.entry, ap entry_at e))
+        record { some = omega (arith, S.low); entry = omega (arith, S.entry, ap entry_at e) }
 
     module _ (kind : high_of f r ≡ 2) where
       pub read_room : place_of f r + 128 ≤ length f

@@ -1,6 +1,8 @@
 -- A row of Prefix bodies, and the chain that they become.
-use Rattle.std.specs.Prelude.{ℕ, ◌+◌, ◌-◌, ◌*◌, ◌<◌, ◌≤◌, ◌≡◌, List, [], ◌∷◌, ◌++◌, length, get_or, take, drop}
+use Rattle.std.specs.Prelude.{ℕ, ◌+◌, ◌-◌, ◌*◌, ◌<◌, ◌≤◌, ◌≡◌, List, [], ◌∷◌, ◌++◌, length, get_or, take, drop, Option, MatchOption}
+use Rattle.layout.specs.Place.{entry_at}
 use Rattle.layout.specs.Kind.{prefix_kind}
+use Rattle.layout.specs.Entry.{place_of, high_of}
 use Rattle.model.specs.Edition.{Edition}
 use Rattle.model.specs.Tree.{chain, prefixes, as_prefix}
 use Rattle.model.specs.Item.{Item, body, cover, sum}
@@ -13,6 +15,17 @@ use Rattle.between.specs.Hole.{Step}
 use Rattle.between.specs.Work.{Work}
 use Rattle.between.specs.Since.{Changed, Since}
 use Rattle.between.specs.Edit.{Booked}
+
+-- ---- a slot
+
+-- its entry stands in the frame
+pub record Entered (f : List ℕ) (s : ℕ) : Type 0 where
+  pub some : 1 ≤ s
+  pub entry : entry_at s + 4 ≤ length f
+
+-- where a Prefix stands, if the entry says so
+abbrev pub PrefixThere : List ℕ → ℕ → Option ℕ → Type 0
+PrefixThere f s r = MatchOption r (high_of f s ≡ prefix_kind → ⊥) (λ o. (high_of f s ≡ prefix_kind) × (o ≡ place_of f s))
 
 -- ---- the row: slots and places, the last one first, as it is taken, opened and freed
 

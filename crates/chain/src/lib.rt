@@ -7,7 +7,7 @@ pub mod shift;
 ghost use Rattle.std.specs.Prelude.{◌≡◌, ◌+◌, ◌-◌, ◌%◌, ◌≤◌, ◌<◌, length};
 ghost use Rattle.layout.specs.Entry.{high_of};
 ghost use Rattle.model.specs.Tree.{chain};
-ghost use Rattle.chain.specs.Row.{Writes, RowWritten, Takes, RowTaken, Frees, RowFreed, Reads, RowRead};
+ghost use Rattle.chain.specs.Row.{Entered, PrefixThere, Writes, RowWritten, Takes, RowTaken, Frees, RowFreed, Reads, RowRead};
 
 use fields::body::Prefix;
 use layout::entry::Entry;
@@ -35,6 +35,18 @@ pub fn left_of(n: usize) -> usize
     ensures { result ≡ n % 112 }
 {
     (n as u32 % FULL) as usize
+}
+
+// Where the body of a Prefix stands, if the entry of this slot says that one stands there.
+pub fn prefix_at(f: &[u8], slot: usize) -> Option<usize>
+    requires { Entered f.now slot }
+    ensures { PrefixThere f.now slot result }
+{
+    let e = Entry::read(f, slot);
+    if e.high == Kind::PREFIX {
+        return Some(e.place);
+    }
+    None
 }
 
 // The bodies of a row become the chain of these bytes above a child: its first slot. The last piece is written first, so that each names the next.
@@ -98,23 +110,19 @@ pub fn read_row(
     let mut s = slot;
     let mut count = have;
     let mut n = long;
-    // a `loop`: it follows slots down the chain, and no index is stepped
-    loop {
-        let e = Entry::read(f, s);
-        if e.high != Kind::PREFIX {
-            return Run {
-                count,
-                long: n,
-                child: s,
-            };
-        }
-        let at = e.place + Prefix::BYTES;
-        let m = Prefix::length(f, e.place);
+    while let Some(place) = prefix_at(f, s) {
+        let at = place + Prefix::BYTES;
+        let m = Prefix::length(f, place);
         let to = at + m;
         fill::paste(bytes, n, &f[at..to]);
         row[count] = s;
-        s = Prefix::child(f, e.place);
+        s = Prefix::child(f, place);
         count += 1;
         n += m;
+    }
+    Run {
+        count,
+        long: n,
+        child: s,
     }
 }

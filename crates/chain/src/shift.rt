@@ -13,11 +13,10 @@ pub fn free(f: &mut [u8], slot: usize)
 {
     let mut top = slot;
     for _ in 0..crate::MOST {
-        let e = Entry::read(f, top);
-        if e.high != Kind::PREFIX {
+        let Some(place) = crate::prefix_at(f, top) else {
             return;
-        }
-        let below = Prefix::child(f, e.place);
+        };
+        let below = Prefix::child(f, place);
         heap::release(f, top, Kind::PREFIX);
         top = below;
     }
@@ -31,21 +30,20 @@ pub fn fill(f: &mut [u8], o: usize, slot: usize)
     let mut at = o;
     let mut s = slot;
     for _ in 0..crate::MOST {
-        let e = Entry::read(f, s);
-        if e.high != Kind::PREFIX {
+        let Some(place) = crate::prefix_at(f, s) else {
             return;
-        }
+        };
         let n = Prefix::length(f, at);
         if n == Prefix::MOST {
             return;
         }
-        if n + Prefix::length(f, e.place) <= Prefix::MOST {
-            prefix_body::onto(f, at, e.place);
+        if n + Prefix::length(f, place) <= Prefix::MOST {
+            prefix_body::onto(f, at, place);
             heap::release(f, s, Kind::PREFIX);
             return;
         }
-        prefix_body::draw(f, at, e.place);
-        at = e.place;
+        prefix_body::draw(f, at, place);
+        at = place;
         s = Prefix::child(f, at);
     }
 }
@@ -60,18 +58,17 @@ pub fn push(f: &mut [u8], slot: usize, b: u8, at: usize)
     let mut byte = b;
     let mut name = at;
     for _ in 0..crate::MOST {
-        let e = Entry::read(f, s);
-        if e.high != Kind::PREFIX {
+        let Some(place) = crate::prefix_at(f, s) else {
             break;
-        }
+        };
         link::relink(f, name, s);
-        if Prefix::length(f, e.place) < Prefix::MOST {
-            prefix_body::front(f, e.place, byte);
+        if Prefix::length(f, place) < Prefix::MOST {
+            prefix_body::front(f, place, byte);
             return;
         }
-        byte = prefix_body::turn(f, e.place, byte);
-        name = e.place + Prefix::CHILD;
-        s = Prefix::child(f, e.place);
+        byte = prefix_body::turn(f, place, byte);
+        name = place + Prefix::CHILD;
+        s = Prefix::child(f, place);
     }
     let new = heap::take(f, Kind::PREFIX);
     let body = Entry::read(f, new);
