@@ -5,7 +5,7 @@ use mathlib.Core.List.{List, ◌∷◌, ◌++◌, append_assoc, append-nil}
 use native.Mathlib.Omega.{arith}
 use lib.ListN.{length}
 use Rattle.layout.specs.Number.{le}
-use Rattle.layout.specs.Place.{entry_at, prefix_child}
+use Rattle.layout.specs.Place.{prefix_child}
 use Rattle.layout.specs.Kind.{prefix_kind}
 use Rattle.layout.specs.Entry.{place_of, high_of}
 use Rattle.model.specs.Edition.{Edition}

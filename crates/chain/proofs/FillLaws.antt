@@ -6,7 +6,7 @@ use native.Mathlib.Omega.{arith}
 use lib.ListN.{length, take, drop, length-append, take-append-drop}
 use lib.Seq.{length-take-le}
 use Rattle.layout.specs.Number.{le}
-use Rattle.layout.specs.Place.{entry_at, prefix_length, prefix_child}
+use Rattle.layout.specs.Place.{prefix_length, prefix_child}
 use Rattle.layout.specs.Kind.{prefix_kind}
 use Rattle.layout.specs.Entry.{place_of, high_of}
 use Rattle.model.specs.Edition.{Edition}

@@ -9,6 +9,9 @@ use lib.ListN.{length, get_or, set, take, drop, length-append, length-drop, leng
 use lib.Seq.{length-take-le, get_or-take, get_or-drop, get_or-append-add, ext_get_or}
 use Rattle.layout.specs.Place.{entry_at, prefix_bytes, prefix_length, prefix_child}
 use Rattle.layout.specs.Kind.{prefix_kind}
+use Rattle.std.proofs.Common.{Option, Some, None}
+use Rattle.std.specs.Option.{is_some}
+use mathlib.Core.Bool.{Bool, false}
 use Rattle.layout.specs.Number.{le}
 use Rattle.layout.specs.Entry.{place_of, high_of}
 use Rattle.model.specs.Edition.{Edition}
@@ -21,7 +24,7 @@ use Rattle.room.proofs.HeapLaws.{lies}
 use Rattle.between.specs.Hole.{Step}
 use Rattle.between.specs.Work.{Work}
 use Rattle.between.proofs.WorkLaws.{entries_first, first_owns, work_path, open_leaf, open_prefix, open_node}
-use Rattle.chain.specs.Row.{Entered, row_items, Named, unwound, bodies_of, bytes_of, tip_of, run_long, run_many, Opened, RowRead, Reads}
+use Rattle.chain.specs.Row.{Entered, PrefixThere, row_items, Named, unwound, bodies_of, bytes_of, tip_of, run_long, run_many, Opened, RowRead, Reads}
 use Rattle.chain.proofs.TakeLaws.{named_push}
 
 -- ---- strings
@@ -68,6 +71,11 @@ module _ {E : Edition} {f : List ℕ} {h : View} {xs : List Step} {s : ℕ} wher
       let O = open_node path ts loose n o kind ks W in
       let r = O.1.inner.range in
       stood (node n o kind ks) o _ _ (omega arith) (omega arith) O.0 (λ z. absurd (omega arith)) (λ z. refl)
+
+-- where no Prefix was found, none is
+pub not_there : (f : List ℕ) (s : ℕ) (r : Option ℕ) {b : Bool} → PrefixThere f s r → b ≡ is_some r → b ≡ false → high_of f s ≡ 2 → ⊥
+not_there f s None P e z = P
+not_there f s (Some o) P e z = λ q. cc
 
 -- ---- the loop
 

@@ -5,7 +5,7 @@ use mathlib.Core.List.{List, ◌∷◌, ◌++◌}
 use native.Mathlib.Omega.{arith}
 use lib.ListN.{length}
 use Rattle.layout.specs.Number.{le}
-use Rattle.layout.specs.Place.{entry_at, prefix_length, prefix_child}
+use Rattle.layout.specs.Place.{prefix_length, prefix_child}
 use Rattle.layout.specs.Kind.{prefix_kind}
 use Rattle.layout.specs.Entry.{place_of, high_of}
 use Rattle.model.specs.Edition.{Edition}
@@ -16,7 +16,7 @@ use Rattle.model.specs.Frame.Lay.{leaf, prefix, node}
 use Rattle.between.specs.Hole.{Step}
 use Rattle.between.specs.Work.{Work}
 use Rattle.between.proofs.WorkLaws.{entries_first, open_prefix}
-use Rattle.chain.specs.Row.{run_long, run_many}
+use Rattle.chain.specs.Row.{Entered, run_long, run_many}
 use Rattle.chain.proofs.RunLaws.{below_short}
 use Rattle.chain.proofs.ReadLaws.{Stood, tree_stood, Pre, pre_of}
 use Rattle.plan.specs.Run.{Sunk, Sinks, Measured, RunAt, Begun, BeginningAt}
@@ -86,8 +86,8 @@ module _ {f : List ℕ} {slot n s : ℕ} (S : Sinks f slot n s) where
     abbrev here : Sunk A.edition f A.view A.steps A.top A.tree A.trees n s
     here = S A.edition A.view A.steps A.top A.path A.tree A.trees A.loose A.work A.slot_is
 
-    pub run_slot : (1 ≤ s) × (entry_at s + 4 ≤ length f)
-    run_slot = let T = stands here in let e = here.slot in (omega (arith, T.low), rw e at T.entry)
+    pub run_slot : Entered f s
+    run_slot = let T = stands here in let e = here.slot in record { some = omega (arith, T.low); entry = rw e at T.entry }
 
     pub run_place : high_of f s ≡ 2 → {o : ℕ} → o ≡ place_of f s → o + 128 ≤ length f
     run_place k eo = (sunk_bounds here k eo refl).0

@@ -3,8 +3,6 @@ ghost use Rattle.std.specs.Prelude.{◌<◌};
 ghost use Rattle.plan.specs.Run.{RunAt, Measured};
 
 use fields::body::Prefix;
-use layout::entry::Entry;
-use layout::kind::Kind;
 
 // The bytes of the chain at a slot; none where no Prefix is.
 pub fn long(f: &[u8], slot: usize) -> usize
@@ -13,13 +11,9 @@ pub fn long(f: &[u8], slot: usize) -> usize
 {
     let mut s = slot;
     let mut n = 0;
-    // a `loop`: it follows slots down the chain, and no index is stepped
-    loop {
-        let e = Entry::read(f, s);
-        if e.high != Kind::PREFIX {
-            return n;
-        }
-        n += Prefix::length(f, e.place);
-        s = Prefix::child(f, e.place);
+    while let Some(place) = chain::prefix_at(f, s) {
+        n += Prefix::length(f, place);
+        s = Prefix::child(f, place);
     }
+    n
 }

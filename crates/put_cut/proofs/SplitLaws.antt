@@ -31,7 +31,7 @@ use Rattle.between.proofs.HoleLaws.{steps_under}
 use Rattle.between.proofs.SinceLaws.{since_take, since_write}
 use Rattle.between.proofs.WorkLaws.{work_path, work_sum, work_take, work_write, work_above, make_prefix, entries_first, first_owns}
 use Rattle.prefix_body.specs.Prefix.{Longer, Elsewhere}
-use Rattle.chain.specs.Row.{bodies_of, bytes_of}
+use Rattle.chain.specs.Row.{Entered, bodies_of, bytes_of}
 use Rattle.chain.proofs.TakeLaws.{prefix_kind_lem}
 use Rattle.chain.proofs.ReadLaws.{tree_stood}
 use Rattle.chain.proofs.RunLaws.{node_run}
@@ -55,11 +55,11 @@ module _ {f : List ℕ} {o q : ℕ} (A : Splits f o q) where
   pub split_room : o + 128 ≤ length f
   split_room = (body_at A.splitting).room
 
-  pub split_entry : {c : ℕ} → c ≡ le 4 f (o + prefix_child) → (1 ≤ c) × (entry_at c + 4 ≤ length f)
+  pub split_entry : {c : ℕ} → c ≡ le 4 f (o + prefix_child) → Entered f c
   split_entry e =
       let S = tree_stood (path_of A.steps ++ A.bytes) A.trees A.loose A.below A.splitting.work in
       let z = e ∙ (body_at A.splitting).child in
-      (omega (arith, S.low), omega (arith, S.entry, ap entry_at z))
+      record { some = omega (arith, S.low); entry = omega (arith, S.entry, ap entry_at z) }
 
 -- ---- no byte of the Prefix: what is below stays as it is
 

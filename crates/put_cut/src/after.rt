@@ -60,8 +60,7 @@ pub fn drop_first(f: &mut [u8], slot: usize, place: usize) -> Rest
             spare: true,
         };
     }
-    let e = Entry::read(f, child);
-    if e.high == Kind::PREFIX {
+    if chain::prefix_at(f, child).is_some() {
         return move_up(f, slot, place);
     }
     prefix_body::drop_first(f, place);
@@ -92,8 +91,7 @@ pub fn split_off(f: &mut [u8], place: usize, q: usize) -> usize
     if Prefix::length(f, place) == q {
         return child;
     }
-    let e = Entry::read(f, child);
-    if e.high == Kind::PREFIX {
+    if chain::prefix_at(f, child).is_some() {
         return move_down(f, place, q);
     }
     let s = heap::take(f, Kind::PREFIX);

@@ -3,8 +3,8 @@ use Prim.Native.Nat.{◌-◌, ◌<◌}
 use Rattle.plan.specs.Run.{Sinks}
 use Rattle.plan.proofs.run.long.Given as goal
 
-abbrev pub invariant-loop-e : goal.invariant-loop-e
-invariant-loop-e l = (l.n < 65536) × Sinks l.f l.slot l.n l.s
+abbrev pub invariant-loop-place : goal.invariant-loop-place
+invariant-loop-place l = (l.n < 65536) × Sinks l.f l.slot l.n l.s
 
-abbrev pub decreases-loop-e : goal.decreases-loop-e
-decreases-loop-e l = 65536 - l.n
+abbrev pub decreases-loop-place : goal.decreases-loop-place
+decreases-loop-place l = 65536 - l.n
