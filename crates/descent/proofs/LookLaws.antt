@@ -35,7 +35,7 @@ use Rattle.descent.specs.declared.spot.Spot.{Spot}
 use Rattle.descent.specs.declared.lookup.Located.{Located}
 use Rattle.descent.specs.declared.lookup.Held.{Held}
 use Rattle.descent.proofs.EndLaws.{by_end}
-use Rattle.descent.specs.Spot.{Way, Spotted, InTree, SpotAt, Going}
+use Rattle.descent.specs.Spot.{Way, Spotted, InTree, SpotAt, Standing, Going}
 use Rattle.descent.specs.Lookup.{value_in, Looked, shifted, Handed}
 use Rattle.descent.proofs.SeatLaws.{text_right, Seat, hole, seated}
 use Rattle.keys.proofs.KeyLaws.{text_part}
@@ -182,3 +182,9 @@ module _ (E : Edition) where
 
     pub value_none : {here : ℕ × ℕ} {part : List ℕ} → v.value ≡ None → here ≡ shifted start 0 → part ≡ [] → Handed f start (found_of (find_at E r k) (visits_in E (root_art r) k)) here part
     value_none e h p = rw (← L.at, e) (record { stands = h; bytes = p })
+
+-- the Leaf of the key has its room, whatever the edition is called
+pub found_room : {E E' : Edition} {f k : List ℕ} {s : Spot} → E' ≡ E → Standing E f → ((st : State) (W : Stands E' f st) → SpotAt E' k W.root s) → s.end ≡ end.Found → s.here.place + 16 ≤ length f
+found_room {E} {E'} {f} e Z D q =
+    let y : Standing E' f = rw e Z in
+    (found_leaf E' y.stands (D y.st y.stands) q).room

@@ -1,5 +1,5 @@
 // Look-up: the place, length and stamp of a key's value with the slots visited, and the value itself as that part of the frame.
-ghost use Rattle.model.specs.Edition.{edition_of, Legal};
+ghost use Rattle.model.specs.Edition.{Legal};
 ghost use Rattle.model.specs.State.{State};
 ghost use Rattle.model.specs.Visits.{visits_in};
 ghost use Rattle.model.specs.Frame.{Stands, root_art};
@@ -10,6 +10,7 @@ ghost use Rattle.descent.specs.Lookup.{Looked, Handed};
 
 use crate::spot::End;
 use crate::walk;
+use editions::Editioned;
 use fields::body::Leaf;
 
 // Where a value stands, counted from the frame's start, how long it is, and its stamp.
@@ -29,11 +30,11 @@ pub struct Held {
 }
 
 // Where a legal key's value stands in a good frame.
-pub fn find(f: &[u8], key: &[u8], edition: usize) -> Held
-    requires { Standing (edition_of edition) f.now × Legal (edition_of edition) key.now }
-    ensures { (st : State) (W : Stands (edition_of edition) f.now st) → Looked (edition_of edition) f.now key.now st W.root result }
+pub fn find<E: Editioned>(f: &[u8], key: &[u8], edition: E) -> Held
+    requires { Standing (E.rules edition) f.now × Legal (E.rules edition) key.now }
+    ensures { (st : State) (W : Stands (E.rules edition) f.now st) → Looked (E.rules edition) f.now key.now st W.root result }
 {
-    let s = walk::spot_of(f, key, edition);
+    let s = walk::spot_of(f, key, edition.edition());
     match s.end {
         End::Found => {
             let slots = s.visited;
@@ -56,9 +57,9 @@ pub fn find(f: &[u8], key: &[u8], edition: usize) -> Held
 }
 
 // The value as a part of the frame; for an absent key the empty part at its start.
-pub fn value<'a>(f: &'a [u8], key: &[u8], edition: usize) -> &'a [u8]
-    requires { Standing (edition_of edition) f.now × Legal (edition_of edition) key.now }
-    ensures { (st : State) (W : Stands (edition_of edition) f.now st) → Handed f.now f.entry.ref_ptr (found_of (find_at (edition_of edition) W.root key.now) (visits_in (edition_of edition) (root_art W.root) key.now)) result.ref_ptr result.now }
+pub fn value<'a, E: Editioned>(f: &'a [u8], key: &[u8], edition: E) -> &'a [u8]
+    requires { Standing (E.rules edition) f.now × Legal (E.rules edition) key.now }
+    ensures { (st : State) (W : Stands (E.rules edition) f.now st) → Handed f.now f.entry.ref_ptr (found_of (find_at (E.rules edition) W.root key.now) (visits_in (E.rules edition) (root_art W.root) key.now)) result.ref_ptr result.now }
 {
     match find(f, key, edition).value {
         Some(v) => &f[v.place..v.place + v.length],

@@ -1,11 +1,13 @@
 // The descent: from the root slot a step at a time, by the key's walked string.
 ghost use Rattle.std.specs.Prelude.{◌≡◌, List, ℕ};
-ghost use Rattle.model.specs.Edition.{Edition, edition_of, Legal};
+ghost use Rattle.model.specs.Edition.{Edition as Rules, edition2, Legal};
 ghost use Rattle.model.specs.State.{State};
 ghost use Rattle.model.specs.Frame.{Stands};
+ghost use Rattle.editions.specs.Rules.{rules_of};
 ghost use Rattle.descent.specs.Spot.{SpotAt, Standing, Sought, Underway, AtLeaf, AtPrefix, AtNode, Stepped, SomeDescent};
 
 use crate::spot::{End, Spot};
+use editions::{Edition, Editioned};
 use fields::body::{Leaf, Prefix};
 use fields::header::Header;
 use inner::look;
@@ -13,9 +15,9 @@ use layout::entry::Entry;
 use layout::kind::Kind;
 
 // At a Leaf: "Trusting the path without comparing the whole key at the Leaf" is an error.
-fn at_leaf(f: &[u8], key: &[u8], s: Spot, place: usize, edition: usize) -> Spot
-    requires { AtLeaf (edition_of edition) f.now key.now s place }
-    ensures { Stepped (edition_of edition) f.now key.now s result }
+fn at_leaf(f: &[u8], key: &[u8], s: Spot, place: usize, edition: Edition) -> Spot
+    requires { AtLeaf (rules_of edition) f.now key.now s place }
+    ensures { Stepped (rules_of edition) f.now key.now s result }
 {
     let from = Leaf::extent(f, place);
     let n = Leaf::key_length(f, place);
@@ -29,7 +31,7 @@ fn at_leaf(f: &[u8], key: &[u8], s: Spot, place: usize, edition: usize) -> Spot
 
 fn at_prefix(f: &[u8], word: &[u8], s: Spot, place: usize) -> Spot
     requires { SomeDescent (λ E k. AtPrefix E f.now k word.now s place) }
-    ensures { (E : Edition) (k : List ℕ) → AtPrefix E f.now k word.now s place → Stepped E f.now k s result }
+    ensures { (E : Rules) (k : List ℕ) → AtPrefix E f.now k word.now s place → Stepped E f.now k s result }
 {
     let n = Prefix::length(f, place);
     let q = keys::matched(Prefix::bytes(f, place, n), word, s.depth);
@@ -42,7 +44,7 @@ fn at_prefix(f: &[u8], word: &[u8], s: Spot, place: usize) -> Spot
 
 fn at_node(f: &[u8], word: &[u8], s: Spot, place: usize, kind: usize) -> Spot
     requires { SomeDescent (λ E k. AtNode E f.now k word.now s place kind) }
-    ensures { (E : Edition) (k : List ℕ) → AtNode E f.now k word.now s place kind → Stepped E f.now k s result }
+    ensures { (E : Rules) (k : List ℕ) → AtNode E f.now k word.now s place kind → Stepped E f.now k s result }
 {
     let b = keys::at(word, s.depth);
     let seat = look::seat(f, place, kind, b);
@@ -53,9 +55,9 @@ fn at_node(f: &[u8], word: &[u8], s: Spot, place: usize, kind: usize) -> Spot
 }
 
 // One step: deeper, or to the end.
-fn step(f: &[u8], key: &[u8], word: &[u8], s: Spot, edition: usize) -> Spot
-    requires { Underway (edition_of edition) f.now key.now s × Sought (edition_of edition) key.now word.now }
-    ensures { Stepped (edition_of edition) f.now key.now s result }
+fn step(f: &[u8], key: &[u8], word: &[u8], s: Spot, edition: Edition) -> Spot
+    requires { Underway (rules_of edition) f.now key.now s × Sought (rules_of edition) key.now word.now }
+    ensures { Stepped (rules_of edition) f.now key.now s result }
 {
     let e = Entry::read(f, s.here.slot);
     if e.high == Kind::LEAF {
@@ -68,9 +70,9 @@ fn step(f: &[u8], key: &[u8], word: &[u8], s: Spot, edition: usize) -> Spot
 }
 
 // Where the way of a legal key through a good frame ends; `word` is what is read of it on the way.
-pub fn descend(f: &[u8], key: &[u8], word: &[u8], edition: usize) -> Spot
-    requires { Standing (edition_of edition) f.now × Sought (edition_of edition) key.now word.now }
-    ensures { (st : State) (W : Stands (edition_of edition) f.now st) → SpotAt (edition_of edition) key.now W.root result }
+pub fn descend(f: &[u8], key: &[u8], word: &[u8], edition: Edition) -> Spot
+    requires { Standing (rules_of edition) f.now × Sought (rules_of edition) key.now word.now }
+    ensures { (st : State) (W : Stands (rules_of edition) f.now st) → SpotAt (rules_of edition) key.now W.root result }
 {
     let slot = Header::root(f);
     let e = Entry::read(f, slot);
@@ -93,10 +95,11 @@ pub const SHORT_KEY: usize = 31;
 pub const SHORT_WORD: usize = 64;
 
 // The same in edition 2 by the walked string of any key, written out in a word of its own.
-pub fn descend_long(f: &[u8], key: &[u8], edition: usize) -> Spot
-    requires { Standing (edition_of edition) f.now × Legal (edition_of edition) key.now × (edition ≡ 2) }
-    ensures { (st : State) (W : Stands (edition_of edition) f.now st) → SpotAt (edition_of edition) key.now W.root result }
+pub fn descend_long<E: Editioned>(f: &[u8], key: &[u8], edition: E) -> Spot
+    requires { Standing (E.rules edition) f.now × Legal (E.rules edition) key.now × (E.rules edition ≡ edition2) }
+    ensures { (st : State) (W : Stands (E.rules edition) f.now st) → SpotAt (E.rules edition) key.now W.root result }
 {
+    let edition = edition.edition();
     let mut word: [u8; keys::LONGEST_WORD] = [0; keys::LONGEST_WORD];
     let n = keys::spell(key, &mut word);
     descend(f, key, &word[0..n], edition)
@@ -104,17 +107,17 @@ pub fn descend_long(f: &[u8], key: &[u8], edition: usize) -> Spot
 
 // Where the way of a legal key through a good frame ends. Edition 2 reads the walked string, written out, and edition 1 the key itself.
 #[inline(always)]
-pub fn spot_of(f: &[u8], key: &[u8], edition: usize) -> Spot
-    requires { Standing (edition_of edition) f.now × Legal (edition_of edition) key.now }
-    ensures { (st : State) (W : Stands (edition_of edition) f.now st) → SpotAt (edition_of edition) key.now W.root result }
+pub fn spot_of(f: &[u8], key: &[u8], edition: Edition) -> Spot
+    requires { Standing (rules_of edition) f.now × Legal (rules_of edition) key.now }
+    ensures { (st : State) (W : Stands (rules_of edition) f.now st) → SpotAt (rules_of edition) key.now W.root result }
 {
-    if edition == keys::SECOND {
-        if key.len() <= SHORT_KEY {
+    match edition {
+        Edition::First => descend(f, key, key, edition),
+        Edition::Second if key.len() <= SHORT_KEY => {
             let mut word: [u8; SHORT_WORD] = [0; SHORT_WORD];
             let n = keys::spell(key, &mut word);
-            return descend(f, key, &word[0..n], edition);
+            descend(f, key, &word[0..n], edition)
         }
-        return descend_long(f, key, edition);
+        Edition::Second => descend_long(f, key, edition),
     }
-    descend(f, key, key, edition)
 }
