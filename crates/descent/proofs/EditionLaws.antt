@@ -7,11 +7,12 @@ use native.Mathlib.Omega.{arith}
 use lib.ListN.{length, take}
 use Rattle.model.specs.Edition.{Legal, Lawful, edition1, edition2, escaped}
 use Rattle.model.proofs.Edition1.{lawful1}
-use Rattle.model.proofs.Edition2.{lawful2}
+use Rattle.model.proofs.Edition2.{lawful2, edition_one, of_two}
 use Rattle.editions.specs.declared.Edition.{Edition}
 use Rattle.editions.specs.declared.Edition.TheVariants as edition
 use Rattle.editions.specs.Rules.{rules_of}
 use Rattle.keys.specs.Word.{Spelt, Spells}
+use Rattle.keys.proofs.KeyLaws.{key_some}
 use Rattle.keys.proofs.WordLaws.{word_fits}
 
 pub lawful_rules : (e : Edition) → Lawful (rules_of e)
@@ -30,3 +31,8 @@ spells_second k g m S =
 
 pub second_fits : (k : List ℕ) → Legal edition2 k → length (escaped k) ≤ 512
 second_fits k l = word_fits lawful2 k l
+
+-- a key that is not refused has a byte
+pub some_byte : (e : Edition) (k : List ℕ) → (rules_of e).key_fault k ≡ 0 → 1 ≤ length k
+some_byte edition.First k h = key_some 1 k (rw edition_one h)
+some_byte edition.Second k h = key_some 2 k (rw (of_two 2 refl) h)

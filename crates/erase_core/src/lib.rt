@@ -1,14 +1,15 @@
 // Erase on a good frame: the spot is found, the needs are compared with the room, and only then is anything written.
 #![tactic(auto)]
 
-ghost use Rattle.answers.specs.Number.{erase_number};
-ghost use Rattle.model.specs.Edition.{Edition, SomeEdition, edition_of};
+ghost use Rattle.answers.specs.Number.{number_of, erased_number};
+ghost use Rattle.model.specs.Edition.{Edition, SomeEdition};
 ghost use Rattle.erase_remove.specs.Erase.{EraseAt, EraseStep};
 ghost use Rattle.erase_core.specs.Core.{Asked, EraseMade};
 
-use answers::{Erase, Refusal};
+use answers::{Erased, Refusal};
 use descent::spot::{End, Spot};
 use descent::walk;
+use editions::Editioned;
 use erase_join::join;
 use erase_remove::{only, remove, shrink};
 use inner::look;
@@ -34,23 +35,23 @@ fn apply(f: &mut [u8], key: &[u8], spot: Spot)
 }
 
 // The record of a legal key goes.
-pub fn erase(f: &mut [u8], key: &[u8], edition: usize) -> Erase
-    requires { Asked (edition_of edition) f.old key.now }
-    ensures { EraseMade (edition_of edition) f.old key.now (erase_number result) f.new }
+pub fn erase<E: Editioned>(f: &mut [u8], key: &[u8], edition: E) -> Result<Erased, Refusal>
+    requires { Asked (E.rules edition) f.old key.now }
+    ensures { EraseMade (E.rules edition) f.old key.now (number_of erased_number result) f.new }
 {
-    let spot = walk::spot_of(f, key, edition);
+    let spot = walk::spot_of(f, key, edition.edition());
     if spot.end != End::Found {
-        return Erase::Absent;
+        return Ok(Erased::Absent);
     }
     // the only record needs nothing
     if spot.node.slot == 0 {
         only::erase_only(f);
-        return Erase::Done;
+        return Ok(Erased::Done);
     }
     let needs = plan::erase::erase_needs(f, key, spot);
     if !fit::fits(left::room_for(f, needs), needs) {
-        return Erase::Refused(Refusal::Room);
+        return Err(Refusal::Room);
     }
     apply(f, key, spot);
-    Erase::Done
+    Ok(Erased::Done)
 }

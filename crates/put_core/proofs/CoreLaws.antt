@@ -34,7 +34,9 @@ use Rattle.put_split.specs.Split.{AtOther}
 use Rattle.put_cut.specs.Cut.{AtPart}
 use Rattle.plan.specs.Plan.{PutFrom, PutPlan}
 use Rattle.plan.proofs.PutLaws.{node_room, last_end}
-use Rattle.put_core.specs.Core.{AtSpot, PutSpot, AtNode, Written, Left, WriteMade}
+use Rattle.put_core.specs.declared.Way.{Way}
+use Rattle.put_core.specs.declared.Way.TheVariants as way
+use Rattle.put_core.specs.Core.{way_of, AtSpot, PutSpot, AtNode, Tried, Left, WriteMade}
 use Rattle.put_core.proofs.ChangeLaws.{fresh_found, fresh_absent}
 
 differ : ◌≡◌ {A = Bool} false true → ⊥
@@ -109,10 +111,10 @@ module _ {E : Edition} {f k word : List ℕ} {v : Value} {p : Spot} (A : AtSpot 
           spot = S a.st a.stands;
         }
 
-    pub no_room : b ≡ false → Written E f k v false f
+    pub no_room : b ≡ false → Tried E f k v false f
     no_room e = record { room = λ s w. sym e ∙ room_any s w; done = λ z. absurd (differ z); kept = λ z. refl }
 
-    pub there_was : {f' : List ℕ} → b ≡ true → PutStep E f k v f' → Written E f k v true f'
+    pub there_was : {f' : List ℕ} → b ≡ true → PutStep E f k v f' → Tried E f k v true f'
     there_was e T = record { room = λ s w. sym e ∙ room_any s w; done = λ z. T; kept = λ z. absurd (differ (sym z)) }
 
 -- ---- put, replacement and either of them, where the descent ended at p
@@ -143,7 +145,7 @@ module _ {E : Edition} {f k word : List ℕ} {v : Value} {p : Spot} (A : AtSpot 
   idle : (a : Write) (n : ℕ) → changes n ≡ false → ((s : State) → Stands E f s → call_write E a s k v ≡ done n s) → WriteMade E a f k v n f
   idle a n z is = record { answer = λ s w. sym (ap (λ (d : Done). d.answer) (is s w)); after = λ s w. left_same E k v n w z (is s w); kept = λ q. refl }
 
-  module _ {b : Bool} {f' : List ℕ} (W : Written E f k v b f') where
+  module _ {b : Bool} {f' : List ℕ} (W : Tried E f k v b f') where
     full : b ≡ false → (a : Write) → ((s : State) → Stands E f s → call_write E a s k v ≡ call_put E s k v) → WriteMade E a f k v 6 f'
     full e a is = subst (WriteMade E a f k v 6) (sym (W.kept e)) (idle a 6 refl (λ s w. is s w ∙ rw (sym (W.room s w) ∙ e) refl))
 
@@ -159,34 +161,29 @@ module _ {E : Edition} {f k word : List ℕ} {v : Value} {p : Spot} (A : AtSpot 
         answer : (s : State) → Stands E f s → (call_put E s k v).answer ≡ pick (put_change E s k v).fresh 0 9
         answer s w = rw (sym (W.room s w) ∙ e) refl
 
-    pub either_full : b ≡ false → WriteMade E either f k v 6 f'
-    either_full e = full e either (λ s w. refl)
+    -- a put of an absent key is document 01's, unless it is to replace one
+    as_fresh : (a : Way) → (a ≡ way.Replacing → ⊥) → (p.end ≡ end.Found → ⊥) → (s : State) → Stands E f s → call_write E (way_of a) s k v ≡ call_put E s k v
+    as_fresh way.New n h s w = rw (absent_is s w ∙ missing h s w) refl
+    as_fresh way.Replacing n h s w = absurd (n refl)
+    as_fresh way.Either n h s w = refl
 
-    pub either_new : b ≡ true → (p.end ≡ end.Found → ⊥) → WriteMade E either f k v 0 f'
-    either_new e h = made e either (λ s w. refl) true (missing h)
+    pub fresh_full : (a : Way) → (a ≡ way.Replacing → ⊥) → (p.end ≡ end.Found → ⊥) → b ≡ false → WriteMade E (way_of a) f k v 6 f'
+    fresh_full a n h e = full e (way_of a) (as_fresh a n h)
 
-    pub either_there : b ≡ true → p.end ≡ end.Found → WriteMade E either f k v 9 f'
-    either_there e h = made e either (λ s w. refl) false (found h)
+    pub fresh_made : (a : Way) → (a ≡ way.Replacing → ⊥) → (p.end ≡ end.Found → ⊥) → b ≡ true → WriteMade E (way_of a) f k v 0 f'
+    fresh_made a n h e = made e (way_of a) (as_fresh a n h) true (missing h)
 
-    -- a put of an absent key is document 01's
-    as_new : (p.end ≡ end.Found → ⊥) → (s : State) → Stands E f s → call_write E new s k v ≡ call_put E s k v
-    as_new h s w = rw (absent_is s w ∙ missing h s w) refl
+    -- and so is a replacement of a present one, unless it is to be new
+    as_there : (a : Way) → (a ≡ way.New → ⊥) → p.end ≡ end.Found → (s : State) → Stands E f s → call_write E (way_of a) s k v ≡ call_put E s k v
+    as_there way.New n h s w = absurd (n refl)
+    as_there way.Replacing n h s w = rw (absent_is s w ∙ found h s w) refl
+    as_there way.Either n h s w = refl
 
-    pub new_full : b ≡ false → (p.end ≡ end.Found → ⊥) → WriteMade E new f k v 6 f'
-    new_full e h = full e new (as_new h)
+    pub there_full : (a : Way) → (a ≡ way.New → ⊥) → p.end ≡ end.Found → b ≡ false → WriteMade E (way_of a) f k v 6 f'
+    there_full a n h e = full e (way_of a) (as_there a n h)
 
-    pub new_made : b ≡ true → (p.end ≡ end.Found → ⊥) → WriteMade E new f k v 0 f'
-    new_made e h = made e new (as_new h) true (missing h)
-
-    -- and so is a replacement of a present one
-    as_there : p.end ≡ end.Found → (s : State) → Stands E f s → call_write E replacing s k v ≡ call_put E s k v
-    as_there h s w = rw (absent_is s w ∙ found h s w) refl
-
-    pub there_full : b ≡ false → p.end ≡ end.Found → WriteMade E replacing f k v 6 f'
-    there_full e h = full e replacing (as_there h)
-
-    pub there_made : b ≡ true → p.end ≡ end.Found → WriteMade E replacing f k v 9 f'
-    there_made e h = made e replacing (as_there h) false (found h)
+    pub there_made : (a : Way) → (a ≡ way.New → ⊥) → p.end ≡ end.Found → b ≡ true → WriteMade E (way_of a) f k v 9 f'
+    there_made a n h e = made e (way_of a) (as_there a n h) false (found h)
 
   pub new_present : p.end ≡ end.Found → WriteMade E new f k v 11 f
   new_present h = idle new 11 refl (λ s w. rw (absent_is s w ∙ found h s w) refl)

@@ -1,16 +1,30 @@
--- Put, replacement and either of them on a good frame: what they count on, and what they leave.
-use Rattle.std.specs.Prelude.{ℕ, ◌≡◌, List, ◌++◌, Bool, true, false, length, ltb}
+-- A record that is written on a good frame, as a new one, as a replacement or as either: what they count on, and what they leave.
+use Rattle.std.specs.Prelude.{ℕ, ◌≡◌, List, ◌++◌, Bool, true, false, length, ltb, Result, Ok, Err}
 use Rattle.model.specs.Edition.{Edition, Lawful, Legal, LegalValue, Value}
-use Rattle.model.specs.State.{State, Done, put_change, Write, call_write}
+use Rattle.model.specs.State.{State, Done, put_change, Write, new, replacing, either, call_write}
 use Rattle.model.specs.State as state
 use Rattle.model.specs.Frame.{Stands}
 use Rattle.model.specs.Touch.{Outside, put_touch, find_at, extent_at, dying}
 use Rattle.model.specs.Promise.{changes}
+use Rattle.answers.specs.declared.Refusal.{Refusal}
 use Rattle.keys.specs.Word.{Spells}
 use Rattle.descent.specs.declared.spot.End.TheVariants as end
 use Rattle.descent.specs.declared.spot.Spot.{Spot}
 use Rattle.descent.specs.Spot.{SpotAt}
 use Rattle.leaf_new.specs.Put.{PutReady, PutStep}
+use Rattle.put_core.specs.declared.Way.{Way}
+use Rattle.put_core.specs.declared.Way.TheVariants as way
+
+-- the model's word for what is asked
+abbrev pub way_of : Way → Write
+way_of way.New = new
+way_of way.Replacing = replacing
+way_of way.Either = either
+
+-- whether it was done
+abbrev pub went : Result (Unit {0}) Refusal → Bool
+went (Ok x) = true
+went (Err r) = false
 
 module _ (E : Edition) where
   -- a good frame, and a legal key and value
@@ -39,7 +53,7 @@ module _ (E : Edition) where
     pub ends : p.end ≡ end.Missing
 
   -- there was room, and the record is written; or there was none, and nothing has changed
-  pub record Written (f k : List ℕ) (v : Value) (r : Bool) (f' : List ℕ) : Type 0 where
+  pub record Tried (f k : List ℕ) (v : Value) (r : Bool) (f' : List ℕ) : Type 0 where
     pub room : (s : State) → Stands E f s → r ≡ state.room s (put_change E s k v)
     pub done : r ≡ true → PutStep E f k v f'
     pub kept : r ≡ false → f' ≡ f

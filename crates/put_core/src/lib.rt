@@ -1,27 +1,38 @@
-// Put, replacement and either of them on a good frame: the spot is found, the needs are compared with the room, and only then is anything
-// written. Edition 2 writes the walked string out first; edition 1 reads the key itself.
+// A record is written on a good frame: the spot is found, the needs are compared with the room, and only then is anything written. Edition 2 writes
+// the walked string out first; edition 1 reads the key itself.
 #![tactic(auto)]
 
-ghost use Rattle.answers.specs.Number.{put_number, replace_number, put_or_replace_number};
-ghost use Rattle.model.specs.Edition.{Edition, edition_of, SomeEdition};
-ghost use Rattle.model.specs.State.{new, replacing, either};
+ghost use Rattle.std.specs.Prelude.{◌≡◌, IfErr};
+ghost use Rattle.answers.specs.Number.{refusal_number, number_of, written_number};
+ghost use Rattle.model.specs.Edition.{Edition as Rules, SomeEdition};
+ghost use Rattle.editions.specs.Rules.{rules_of};
 ghost use Rattle.keys.specs.Word.{Spells};
 ghost use Rattle.leaf_new.specs.Make.{stamped, value_of};
 ghost use Rattle.leaf_new.specs.Put.{PutStep};
-ghost use Rattle.put_core.specs.Core.{Asked, AtSpot, PutSpot, AtNode, Written, WriteMade};
+ghost use Rattle.put_core.specs.Core.{Asked, AtSpot, PutSpot, AtNode, Tried, WriteMade, way_of, went};
 
-use answers::{Put, PutOrReplace, Refusal, Replace};
+use answers::{Refusal, Written};
 use descent::spot::{End, Spot};
 use descent::walk;
+use editions::{Edition, Editioned};
 use inner::look;
 use layout::kind;
 use leaf_new::Record;
 use room::{fit, left};
 
+// What is asked for: "a plain put on a present key gives a new answer, 11, and changes nothing", "replacing is a call of its own and keeps the old
+// behaviour, 8 if the key is absent", and document 01's put does either.
+#[derive(Clone, Copy, Debug, PartialEq, Eq)]
+pub enum Way {
+    New,
+    Replacing,
+    Either,
+}
+
 // "an inner node without that byte: nothing if not full, else the next kind"
 fn add(f: &mut [u8], r: Record, spot: Spot)
     requires { SomeEdition (λ E. AtNode E f.old r.key.now r.word.now (value_of r) spot) }
-    ensures { (E : Edition) → AtNode E f.old r.entry.key.now r.entry.word.now (value_of r.entry) spot → PutStep E f.old r.entry.key.now (value_of r.entry) f.new }
+    ensures { (E : Rules) → AtNode E f.old r.entry.key.now r.entry.word.now (value_of r.entry) spot → PutStep E f.old r.entry.key.now (value_of r.entry) f.new }
 {
     let here = spot.here;
     if look::count(f, here.place) < kind::most_children(here.kind) {
@@ -32,9 +43,9 @@ fn add(f: &mut [u8], r: Record, spot: Spot)
 }
 
 // The edit that the spot calls for.
-fn apply(f: &mut [u8], r: Record, spot: Spot, edition: usize)
-    requires { PutSpot (edition_of edition) f.old r.key.now r.word.now (value_of r) spot }
-    ensures { PutStep (edition_of edition) f.old r.entry.key.now (value_of r.entry) f.new }
+fn apply(f: &mut [u8], r: Record, spot: Spot, edition: Edition)
+    requires { PutSpot (rules_of edition) f.old r.key.now r.word.now (value_of r) spot }
+    ensures { PutStep (rules_of edition) f.old r.entry.key.now (value_of r.entry) f.new }
 {
     match spot.end {
         End::Found => put_replace::replace(f, r, spot),
@@ -45,148 +56,73 @@ fn apply(f: &mut [u8], r: Record, spot: Spot, edition: usize)
     }
 }
 
-// The record is written where the spot says, if there is room; tells whether there was.
-fn write(f: &mut [u8], r: Record, spot: Spot, edition: usize) -> bool
-    requires { AtSpot (edition_of edition) f.old r.key.now r.word.now (value_of r) spot }
-    ensures { Written (edition_of edition) f.old r.entry.key.now (value_of r.entry) result f.new }
+// The record is written where the spot says, if there is room.
+fn make(f: &mut [u8], r: Record, spot: Spot, edition: Edition) -> Result<(), Refusal>
+    requires { AtSpot (rules_of edition) f.old r.key.now r.word.now (value_of r) spot }
+    ensures tried { Tried (rules_of edition) f.old r.entry.key.now (value_of r.entry) (went result) f.new }
+    ensures refused { IfErr result (λ e. refusal_number e ≡ 6) }
 {
     let needs = plan::put::put_needs(f, r.key, r.value, spot);
     if !fit::fits(left::room_for(f, needs), needs) {
-        return false;
+        return Err(Refusal::Room);
     }
     apply(f, r, spot, edition);
-    true
+    Ok(())
 }
 
-// ---- a put of a new key
-
-fn new_by(f: &mut [u8], r: Record, edition: usize) -> Put
-    requires { Asked (edition_of edition) f.old r.key.now (value_of r) × Spells (edition_of edition) r.key.now r.word.now }
-    ensures { WriteMade (edition_of edition) new f.old r.entry.key.now (value_of r.entry) (put_number result) f.new }
+// The record is written if the way that is asked for allows it, by whether the key is there.
+fn write_by(f: &mut [u8], r: Record, way: Way, edition: Edition) -> Result<Written, Refusal>
+    requires { Asked (rules_of edition) f.old r.key.now (value_of r) × Spells (rules_of edition) r.key.now r.word.now }
+    ensures { WriteMade (rules_of edition) (way_of way) f.old r.entry.key.now (value_of r.entry) (number_of written_number result) f.new }
 {
     let spot = walk::descend(f, r.key, r.word, edition);
     match spot.end {
-        End::Found => Put::Present,
-        _ => {
-            if !write(f, r, spot, edition) {
-                return Put::Refused(Refusal::Room);
+        End::Found => match way {
+            Way::New => Ok(Written::Present),
+            _ => {
+                make(f, r, spot, edition)?;
+                Ok(Written::Replaced)
             }
-            Put::New
-        }
-    }
-}
-
-// "a plain put on a present key gives a new answer, 11, and changes nothing"
-pub fn put_new(f: &mut [u8], key: &[u8], value: &[u8], stamp: usize, edition: usize) -> Put
-    requires { Asked (edition_of edition) f.old key.now (stamped value.now stamp) }
-    ensures { WriteMade (edition_of edition) new f.old key.now (stamped value.now stamp) (put_number result) f.new }
-{
-    if edition == keys::SECOND {
-        let mut word: [u8; keys::LONGEST_WORD] = [0; keys::LONGEST_WORD];
-        let n = keys::spell(key, &mut word);
-        let r = Record {
-            key,
-            word: &word[0..n],
-            value,
-            stamp,
-        };
-        return new_by(f, r, edition);
-    }
-    let r = Record {
-        key,
-        word: key,
-        value,
-        stamp,
-    };
-    new_by(f, r, edition)
-}
-
-// ---- a replacement
-
-fn replace_by(f: &mut [u8], r: Record, edition: usize) -> Replace
-    requires { Asked (edition_of edition) f.old r.key.now (value_of r) × Spells (edition_of edition) r.key.now r.word.now }
-    ensures { WriteMade (edition_of edition) replacing f.old r.entry.key.now (value_of r.entry) (replace_number result) f.new }
-{
-    let spot = walk::descend(f, r.key, r.word, edition);
-    match spot.end {
-        End::Found => {
-            if !write(f, r, spot, edition) {
-                return Replace::Refused(Refusal::Room);
+        },
+        _ => match way {
+            Way::Replacing => Ok(Written::Absent),
+            _ => {
+                make(f, r, spot, edition)?;
+                Ok(Written::New)
             }
-            Replace::Done
-        }
-        _ => Replace::Absent,
+        },
     }
 }
 
-// "replacing is a call of its own and keeps the old behaviour, 8 if the key is absent"
-pub fn replace(f: &mut [u8], key: &[u8], value: &[u8], stamp: usize, edition: usize) -> Replace
-    requires { Asked (edition_of edition) f.old key.now (stamped value.now stamp) }
-    ensures { WriteMade (edition_of edition) replacing f.old key.now (stamped value.now stamp) (replace_number result) f.new }
-{
-    if edition == keys::SECOND {
-        let mut word: [u8; keys::LONGEST_WORD] = [0; keys::LONGEST_WORD];
-        let n = keys::spell(key, &mut word);
-        let r = Record {
-            key,
-            word: &word[0..n],
-            value,
-            stamp,
-        };
-        return replace_by(f, r, edition);
-    }
-    let r = Record {
-        key,
-        word: key,
-        value,
-        stamp,
-    };
-    replace_by(f, r, edition)
-}
-
-// ---- either of them
-
-fn either_by(f: &mut [u8], r: Record, edition: usize) -> PutOrReplace
-    requires { Asked (edition_of edition) f.old r.key.now (value_of r) × Spells (edition_of edition) r.key.now r.word.now }
-    ensures { WriteMade (edition_of edition) either f.old r.entry.key.now (value_of r.entry) (put_or_replace_number result) f.new }
-{
-    let spot = walk::descend(f, r.key, r.word, edition);
-    if !write(f, r, spot, edition) {
-        return PutOrReplace::Refused(Refusal::Room);
-    }
-    match spot.end {
-        End::Found => PutOrReplace::Replaced,
-        _ => PutOrReplace::New,
-    }
-}
-
-// Document 01's put, for those who ask for either.
-pub fn put_or_replace(
+// A legal key and value are written in a good frame.
+pub fn write<E: Editioned>(
     f: &mut [u8],
     key: &[u8],
     value: &[u8],
     stamp: usize,
-    edition: usize,
-) -> PutOrReplace
-    requires { Asked (edition_of edition) f.old key.now (stamped value.now stamp) }
-    ensures { WriteMade (edition_of edition) either f.old key.now (stamped value.now stamp) (put_or_replace_number result) f.new }
+    way: Way,
+    edition: E,
+) -> Result<Written, Refusal>
+    requires { Asked (E.rules edition) f.old key.now (stamped value.now stamp) }
+    ensures { WriteMade (E.rules edition) (way_of way) f.old key.now (stamped value.now stamp) (number_of written_number result) f.new }
 {
-    if edition == keys::SECOND {
-        let mut word: [u8; keys::LONGEST_WORD] = [0; keys::LONGEST_WORD];
-        let n = keys::spell(key, &mut word);
-        let r = Record {
-            key,
-            word: &word[0..n],
-            value,
-            stamp,
-        };
-        return either_by(f, r, edition);
-    }
-    let r = Record {
+    let edition = edition.edition();
+    let plain = Record {
         key,
         word: key,
         value,
         stamp,
     };
-    either_by(f, r, edition)
+    match edition {
+        Edition::First => write_by(f, plain, way, edition),
+        Edition::Second => {
+            let mut word: [u8; keys::LONGEST_WORD] = [0; keys::LONGEST_WORD];
+            let n = keys::spell(key, &mut word);
+            let spelt = Record {
+                word: &word[0..n],
+                ..plain
+            };
+            write_by(f, spelt, way, edition)
+        }
+    }
 }

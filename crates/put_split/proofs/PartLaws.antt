@@ -10,7 +10,7 @@ use Rattle.layout.specs.Number.{le}
 use Rattle.layout.specs.Place.{entry_at, leaf_extent, leaf_key}
 use Rattle.layout.specs.Kind.{leaf_kind, node4_kind}
 use Rattle.layout.specs.Entry.{place_of}
-use Rattle.model.specs.Edition.{edition_of, Value, text_of}
+use Rattle.model.specs.Edition.{Edition, Value, text_of}
 use Rattle.model.specs.Item.{body}
 use Rattle.model.specs.Body.{InnerAt, LeafAt, look_kid}
 use Rattle.model.proofs.UniqueLaws.{look_nil}
@@ -64,8 +64,8 @@ module _ {f : List ℕ} {o from m : ℕ} (ee : from ≡ le 4 f (o + leaf_extent)
       let l : m ≡ length k = en ∙ L.key_length in
       rw (q, l) (text_part f e k (omega (arith, L.room)) (text_left f e k (text_of v) L.text))
 
-  pub byte_of : (n d : ℕ) {r : ℕ} → r ≡ get_or ((edition_of n).walked (take m (drop from f))) d 0 → (e : ℕ) (k : List ℕ) (v : Value) → LeafAt f o e k v → r ≡ get_or ((edition_of n).walked k) d 0
-  byte_of n d er e k v L = er ∙ ap (λ y. get_or ((edition_of n).walked y) d 0) (key_part e k v L)
+  pub byte_of : (E : Edition) (d : ℕ) {r : ℕ} → r ≡ get_or (E.walked (take m (drop from f))) d 0 → (e : ℕ) (k : List ℕ) (v : Value) → LeafAt f o e k v → r ≡ get_or (E.walked k) d 0
+  byte_of E d er e k v L = er ∙ ap (λ y. get_or (E.walked y) d 0) (key_part e k v L)
 
 -- ---- the Node4 with a new Leaf
 

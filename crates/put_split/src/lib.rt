@@ -4,20 +4,20 @@
 
 pub mod parts;
 
-ghost use Rattle.model.specs.Edition.{edition_of};
 ghost use Rattle.leaf_new.specs.Make.{value_of};
 ghost use Rattle.leaf_new.specs.Put.{PutStep};
 ghost use Rattle.put_split.specs.Split.{AtOther};
 
 use descent::spot::Spot;
+use editions::Editioned;
 use layout::kind::Kind;
 use leaf_new::Record;
 use room::heap;
 
 // A Leaf of another key: a Node4 has both Leaves, under a row of Prefixes of the walked bytes that the keys share from there.
-pub fn split_leaf(f: &mut [u8], r: Record, spot: Spot, edition: usize)
-    requires { AtOther (edition_of edition) f.old r.key.now r.word.now (value_of r) spot }
-    ensures { PutStep (edition_of edition) f.old r.entry.key.now (value_of r.entry) f.new }
+pub fn split_leaf<E: Editioned>(f: &mut [u8], r: Record, spot: Spot, edition: E)
+    requires { AtOther (E.rules edition) f.old r.key.now r.word.now (value_of r) spot }
+    ensures { PutStep (E.rules edition) f.old r.entry.key.now (value_of r.entry) f.new }
 {
     let here = spot.here;
     let from = spot.depth;
