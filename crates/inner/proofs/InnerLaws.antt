@@ -60,12 +60,6 @@ module _ {f : List ℕ} {o kind : ℕ} {ks : List (ℕ × ℕ)} where
   pub of_256 : kind ≡ 7 → Node256At f o ks → InnerAt f o kind ks
   of_256 e N = record { range = omega arith; four = λ z. absurd (omega arith); five = λ z. absurd (omega arith); six = λ z. absurd (omega arith); seven = λ z. N }
 
-  pub large_kind : InnerAt f o kind ks → (kind ≡ 4 → ⊥) → (kind ≡ 5 → ⊥) → 5 < kind
-  large_kind N a b = let r = N.range in omega arith
-
-  pub last_kind : InnerAt f o kind ks → 5 < kind → (kind ≡ 6 → ⊥) → kind ≡ 7
-  last_kind N a b = let r = N.range in omega arith
-
 -- ---- what every kind has
 
 module _ {f : List ℕ} {o kind : ℕ} (ks : List (ℕ × ℕ)) (N : InnerAt f o kind ks) where

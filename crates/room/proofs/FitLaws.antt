@@ -4,7 +4,6 @@ use mathlib.Core.Path.{◌≡◌, refl, sym, ap, ◌∙◌}
 use mathlib.Core.List.{List, [], ◌∷◌, map}
 use mathlib.Core.Bool.{Bool, true, false}
 use native.Mathlib.Omega.{arith}
-use native.Mathlib.Nat.{mul-le-mul}
 use native.Mathlib.Numerals.{add-one}
 use native.Mathlib.Decide.{ℕ_discrete}
 use lib.Dec.{leb, eqb}
@@ -36,11 +35,6 @@ nine P a b c d e f g h i (suc (suc (suc (suc (suc (suc (suc (suc (suc k)))))))))
 pub kinds_at : (g : ℕ → ℕ) (k : ℕ) → k < 9 → get_or (map g kinds) k 0 ≡ g k
 kinds_at g = nine (λ k. get_or (map g kinds) k 0 ≡ g k) refl refl refl refl refl refl refl refl refl
 
-pub size_most : (k : ℕ) → k < 9 → body_size k ≤ 1032
-size_most =
-    nine (λ k. body_size k ≤ 1032) (omega arith) (omega arith) (omega arith) (omega arith) (omega arith) (omega arith) (omega arith) (omega arith)
-    (omega arith)
-
 -- the sum of a table over the kinds below n, as a loop makes it
 unfoldable pub up_to : (ℕ → ℕ) → ℕ → ℕ
 up_to g zero = 0
@@ -66,10 +60,6 @@ module _ (needs free : List ℕ) (k : ℕ) (all : k ≡ 9) where
   pub all_bytes : (s : ℕ) → s ≡ up_to (λ j. lacking needs free j * body_size j) k → s ≡ bytes_needed needs free
   unfolding bytes_needed
   all_bytes s e = e ∙ rw all (up_to_all (λ j. lacking needs free j * body_size j))
-
--- the fresh bodies of one kind and their bytes, with needs that are small
-pub few_bytes : (fresh k : ℕ) → fresh < 65536 → k < 9 → fresh * body_size k ≤ 67633152
-few_bytes fresh k h l = let a : fresh ≤ 65536 = omega arith in mul-le-mul a (size_most k l)
 
 -- ---- tallies
 

@@ -53,7 +53,7 @@ module _ {f : List ℕ} {h : View} (k : ℕ) (P : Heap f h) (k1 : 1 ≤ k) (k8 :
         let m : length A.rest ≡ 0 = ap length none in
         record { at_most = l; lacks = omega (arith, A.long) }
 
-    pub along_most : (most : ℕ) → n ≡ most → Listed h k most n
+    pub along_most : (most : ℕ) → n ≡ most → Listed h k most most
     along_most most e = record { at_most = omega arith; lacks = omega (arith, A.long) }
 
     module _ (some : s ≡ 0 → ⊥) where

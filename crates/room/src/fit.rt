@@ -1,25 +1,25 @@
-// Whether there is room: the room state carries an array of free counts, needs are an array by kind, and they are compared before
-// anything is written.
-ghost use Rattle.std.specs.Prelude.{◌≡◌, true, List, [], ◌∷◌, ℕ, ◌-◌, ◌<◌};
+// Whether there is room: the room state carries an array of free counts, needs are an array by kind (place 0 of both is no kind's), and they
+// are compared before anything is written.
+ghost use Rattle.std.specs.Prelude.{◌≡◌, true, List, [], ◌∷◌, ℕ};
+ghost use Rattle.layout.specs.Kind.{number_of};
 ghost use Rattle.room.specs.Fit.{Fit, Small, Asks};
 
-use layout::kind;
 use layout::kind::Kind;
 
-#[derive(Clone, Copy)]
+#[derive(Clone, Copy, Debug, PartialEq, Eq)]
 pub struct Room {
     // bodies on each kind's list
-    pub free: [usize; 9],
+    pub free: [usize; Kind::TABLE],
     // N - U
     pub slots: usize,
     // F - B
     pub bytes: usize,
 }
 
-#[derive(Clone, Copy)]
+#[derive(Clone, Copy, Debug, PartialEq, Eq)]
 pub struct Needs {
     // bodies of each kind
-    pub bodies: [usize; 9],
+    pub bodies: [usize; Kind::TABLE],
     // bytes of the extent
     pub extent: usize,
 }
@@ -29,18 +29,18 @@ impl Needs {
         ensures { Asks result [] 0 }
     {
         Needs {
-            bodies: [0; 9],
+            bodies: [0; Kind::TABLE],
             extent: 0,
         }
     }
 
     // One more body of a kind.
-    pub fn with(self, kind: usize) -> Needs
-        requires { (kind < 9) × Small self }
-        ensures { (takes : List ℕ) (x : ℕ) → Asks self takes x → Asks result (kind ∷ takes) x }
+    pub fn with(self, kind: Kind) -> Needs
+        requires { Small self }
+        ensures { (takes : List ℕ) (x : ℕ) → Asks self takes x → Asks result (number_of kind ∷ takes) x }
     {
         let mut next = self;
-        next.bodies[kind] = next.bodies[kind] + 1;
+        next.bodies[kind.number()] += 1;
         next
     }
 
@@ -48,39 +48,20 @@ impl Needs {
     pub fn with_extent(self, n: usize) -> Needs
         ensures { (takes : List ℕ) (x : ℕ) → Asks self takes x → Asks result takes n }
     {
-        let mut next = self;
-        next.extent = n;
-        next
+        Needs { extent: n, ..self }
     }
-}
-
-// What a need lacks of what is free.
-fn lack(need: usize, free: usize) -> usize
-    ensures { result ≡ need - free }
-{
-    if need <= free {
-        return 0;
-    }
-    need - free
 }
 
 pub fn fits(room: Room, needs: Needs) -> bool
     requires { Small needs }
     ensures { (result ≡ true → Fit room needs) × (Fit room needs → result ≡ true) }
 {
-    let mut slots = 0;
+    let mut slots = needs.bodies[0].saturating_sub(room.free[0]);
     let mut bytes = 0;
-    let mut k = 0;
-    while k < Kind::TABLE {
-        let fresh = lack(needs.bodies[k], room.free[k]);
+    for k in 1..Kind::TABLE {
+        let fresh = needs.bodies[k].saturating_sub(room.free[k]);
         slots += fresh;
-        bytes += fresh * kind::body_size(k);
-        k += 1;
+        bytes += fresh * Kind::known(k).body_size();
     }
-    if slots <= room.slots {
-        if bytes + needs.extent <= room.bytes {
-            return true;
-        }
-    }
-    false
+    slots <= room.slots && bytes + needs.extent <= room.bytes
 }

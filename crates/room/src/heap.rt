@@ -3,7 +3,7 @@
 ghost use Rattle.std.specs.Prelude.{◌≡◌, ℕ, ◌+◌, ◌≤◌, ◌<◌, List, ◌∷◌, length};
 ghost use Rattle.layout.specs.Number.{le, put};
 ghost use Rattle.layout.specs.Place.{at_b, at_u, at_head, entry_at};
-ghost use Rattle.layout.specs.Kind.{body_size};
+ghost use Rattle.layout.specs.Kind.{number_of, body_size};
 ghost use Rattle.layout.specs.Entry.{entry_of, place_of, high_of};
 ghost use Rattle.model.specs.Tree.{up8};
 ghost use Rattle.model.specs.Item.{Item, body, extent, Same};
@@ -14,39 +14,39 @@ ghost use Rattle.room.specs.Step.{Takes, Took, Frees, Freed, Extends, Extended, 
 use fields::body::Leaf;
 use fields::header::Header;
 use layout::entry::Entry;
-use layout::kind;
+use layout::kind::Kind;
 use moves::{clear, fill};
 
 // The first slot of a kind's list leaves it and is live again.
-fn pop(f: &mut [u8], kind: usize, s: usize)
-    requires { (1 ≤ kind) × (kind ≤ 8) × (64 ≤ length f.old) × (1 ≤ s) × (entry_at s + 4 ≤ length f.old) }
+fn pop(f: &mut [u8], kind: Kind, s: usize)
+    requires { (64 ≤ length f.old) × (1 ≤ s) × (entry_at s + 4 ≤ length f.old) }
     ensures { (high_of f.old s < 32768)
-        × (f.new ≡ put 4 (put 2 f.old (at_head kind) (high_of f.old s)) (entry_at s) (entry_of kind (place_of f.old s))) }
+        × (f.new ≡ put 4 (put 2 f.old (at_head (number_of kind)) (high_of f.old s)) (entry_at s) (entry_of (number_of kind) (place_of f.old s))) }
 {
     let e = Entry::read(f, s);
     Header::set_list_head(f, kind, e.high);
-    Entry::write(f, s, kind, e.place);
+    Entry::write(f, s, kind.number(), e.place);
 }
 
 // Slot U + 1 and bytes at B.
-fn fresh(f: &mut [u8], kind: usize) -> usize
-    requires { (1 ≤ kind) × (kind ≤ 8) × (entry_at (le 4 f.old at_u + 1) + 4 ≤ length f.old) × (le 4 f.old at_b + body_size kind ≤ 524288) }
+fn fresh(f: &mut [u8], kind: Kind) -> usize
+    requires { (entry_at (le 4 f.old at_u + 1) + 4 ≤ length f.old) × (le 4 f.old at_b + body_size (number_of kind) ≤ 524288) }
     ensures { (result ≡ le 4 f.old at_u + 1)
-        × (f.new ≡ put 4 (put 4 (put 4 f.old at_u result) at_b (le 4 f.old at_b + body_size kind)) (entry_at result) (entry_of kind (le 4 f.old at_b))) }
+        × (f.new ≡ put 4 (put 4 (put 4 f.old at_u result) at_b (le 4 f.old at_b + body_size (number_of kind))) (entry_at result) (entry_of (number_of kind) (le 4 f.old at_b))) }
 {
     let s = Header::slots_given(f) + 1;
     let o = Header::next_byte(f);
-    let n = kind::body_size(kind);
+    let n = kind.body_size();
     Header::set_slots_given(f, s);
     Header::set_next_byte(f, o + n);
-    Entry::write(f, s, kind, o);
+    Entry::write(f, s, kind.number(), o);
     s
 }
 
 // A body of a kind: its slot. From its list if that isn't empty, else a fresh one.
-pub fn take(f: &mut [u8], kind: usize) -> usize
-    requires { Takes f.old kind }
-    ensures { (h : View) → Heap f.old h → Roomy h kind → Took f.old f.new h kind result }
+pub fn take(f: &mut [u8], kind: Kind) -> usize
+    requires { Takes f.old (number_of kind) }
+    ensures { (h : View) → Heap f.old h → Roomy h (number_of kind) → Took f.old f.new h (number_of kind) result }
 {
     let s = Header::list_head(f, kind);
     if s == 0 {
@@ -57,14 +57,14 @@ pub fn take(f: &mut [u8], kind: usize) -> usize
 }
 
 // A body goes on its kind's list: zero is written over it.
-pub fn release(f: &mut [u8], s: usize, kind: usize)
-    requires { Frees f.old s kind }
-    ensures { (h : View) (o : ℕ) (rest : List Item) → Heap f.old h → Same h.owned (body s kind o ∷ rest) → place_of f.old s ≡ o
-        → Freed f.old f.new h s kind o rest }
+pub fn release(f: &mut [u8], s: usize, kind: Kind)
+    requires { Frees f.old s (number_of kind) }
+    ensures { (h : View) (o : ℕ) (rest : List Item) → Heap f.old h → Same h.owned (body s (number_of kind) o ∷ rest) → place_of f.old s ≡ o
+        → Freed f.old f.new h s (number_of kind) o rest }
 {
     let next = Header::list_head(f, kind);
     let e = Entry::read(f, s);
-    clear(f, e.place, kind::body_size(kind));
+    clear(f, e.place, kind.body_size());
     Entry::write(f, s, next, e.place);
     Header::set_list_head(f, kind, s);
 }

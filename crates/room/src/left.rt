@@ -1,5 +1,5 @@
 // The room that a good frame has for some needs: N - U, F - B, and of each kind's list as many bodies as are asked for.
-ghost use Rattle.std.specs.Prelude.{ℕ, ◌≤◌};
+ghost use Rattle.layout.specs.Kind.{number_of};
 ghost use Rattle.model.specs.Edition.{Edition};
 ghost use Rattle.model.specs.State.{State};
 ghost use Rattle.model.specs.Frame.{View, Heap, Stands};
@@ -12,41 +12,35 @@ use layout::entry::Entry;
 use layout::kind::Kind;
 
 // Of the first `most` bodies on a kind's list, how many there are.
-fn listed(f: &[u8], kind: usize, most: usize) -> usize
-    requires { HasHeap f.now × (1 ≤ kind) × (kind ≤ 8) }
-    ensures { (h : View) → Heap f.now h → Listed h kind most result }
+fn listed(f: &[u8], kind: Kind, most: usize) -> usize
+    requires { HasHeap f.now }
+    ensures { (h : View) → Heap f.now h → Listed h (number_of kind) most result }
 {
     if most == 0 {
         return 0;
     }
     let mut s = Header::list_head(f, kind);
-    let mut n = 0;
-    while n < most {
+    for n in 0..most {
         if s == 0 {
             return n;
         }
-        let e = Entry::read(f, s);
-        s = e.high;
-        n += 1;
+        s = Entry::read(f, s).high;
     }
-    n
+    most
 }
 
 pub fn room_for(f: &[u8], needs: Needs) -> Room
     requires { HasHeap f.now }
     ensures { (E : Edition) (s : State) → Stands E f.now s → RoomOf result s needs }
 {
-    let mut free: [usize; Kind::TABLE] = [0; Kind::TABLE];
-    let mut kind = 1;
-    while kind < Kind::TABLE {
-        let n = listed(f, kind, needs.bodies[kind]);
-        free[kind] = n;
-        kind += 1;
+    let mut free = [0; Kind::TABLE];
+    for k in 1..Kind::TABLE {
+        free[k] = listed(f, Kind::known(k), needs.bodies[k]);
     }
     let capacity = Header::slot_capacity(f);
     let given = Header::slots_given(f);
     Room {
-        free: free,
+        free,
         slots: capacity - given,
         bytes: f.len() - Header::next_byte(f),
     }

@@ -1,5 +1,5 @@
--- `fits` answers whether needs fit the room. The invariant: the sums are those of the kinds below k, and small. Assumes nothing.
-use Prim.Native.Nat.{◌-◌, ◌*◌, ◌≤◌}
+-- `fits` answers whether needs fit the room. The invariant: the sums are those of the places below k, and small. Assumes nothing.
+use Prim.Native.Nat.{◌*◌, ◌≤◌}
 use mathlib.Core.Path.{◌≡◌}
 use Rattle.layout.specs.Kind.{body_size}
 use Rattle.room.specs.Fit.{lacking}
@@ -8,11 +8,7 @@ use Rattle.room.proofs.fit.fits.Given as goal
 
 abbrev pub invariant-loop-k : goal.invariant-loop-k
 invariant-loop-k l =
-    (l.k ≤ 9)
-    × (l.slots ≡ up_to (lacking l.needs.bodies l.room.free) l.k)
+    (l.slots ≡ up_to (lacking l.needs.bodies l.room.free) l.k)
     × (l.bytes ≡ up_to (λ j. lacking l.needs.bodies l.room.free j * body_size j) l.k)
     × (l.slots ≤ l.k * 65536)
     × (l.bytes ≤ l.k * 67633152)
-
-abbrev pub decreases-loop-k : goal.decreases-loop-k
-decreases-loop-k l = 9 - l.k

@@ -5,4 +5,4 @@ use Rattle.room.proofs.heap.pop.Goals as goal
 
 pub returns : goal.returns
 returns c =
-    (search rules, pop_writes _ _ _ c.read-e.ensures.0 c.read-e.ensures.1 c.set_list_head.ensures c.write.ensures)
+    (search rules, pop_writes _ _ _ c.read-e.ensures.0 c.read-e.ensures.1 c.set_list_head.ensures (rw c.number.ensures.value at c.write.ensures))

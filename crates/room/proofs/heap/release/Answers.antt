@@ -10,7 +10,7 @@ read-e-requires c = let Z = release_ok c.requires in (Z.0, Z.1)
 pub clear-requires : goal.clear-requires
 clear-requires c =
     let Z = release_ok c.requires in
-    omega (arith, Z.3, c.body_size.ensures, c.read-e.ensures)
+    omega (arith, Z.3, c.body_size.ensures.value, c.read-e.ensures)
 
 pub write-requires : goal.write-requires
 write-requires c =
@@ -19,4 +19,4 @@ write-requires c =
 
 pub returns : goal.returns
 returns c h o rest P own eo =
-    release_law _ P c.requires.kind _ o rest own eo c.list_head-next.ensures.0 c.read-e.ensures.1 c.body_size.ensures c.clear.ensures c.write.ensures c.set_list_head.ensures
+    release_law _ P c.requires.kind _ o rest own eo c.list_head-next.ensures.0 c.read-e.ensures.1 c.body_size.ensures.value c.clear.ensures c.write.ensures c.set_list_head.ensures
