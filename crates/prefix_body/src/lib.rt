@@ -44,7 +44,7 @@ pub fn front(f: &mut [u8], o: usize, b: u8)
 {
     let n = Prefix::length(f, o);
     let at = o + Prefix::BYTES;
-    moves::open_byte(f, at, at + n, b);
+    moves::open::<1>(f, at, at + n, usize::from(b));
     Prefix::set_length(f, o, n + 1);
 }
 
@@ -104,7 +104,7 @@ pub fn drop_first(f: &mut [u8], o: usize)
 {
     let n = Prefix::length(f, o);
     let at = o + Prefix::BYTES;
-    moves::close_byte(f, at, at + n);
+    moves::close::<1>(f, at, at + n);
     Prefix::set_length(f, o, n - 1);
 }
 
@@ -150,6 +150,6 @@ pub fn turn(f: &mut [u8], o: usize, b: u8) -> u8
 {
     let last = Prefix::byte(f, o, Prefix::MOST - 1);
     let at = o + Prefix::BYTES;
-    moves::open_byte(f, at, at + (Prefix::MOST - 1), b);
+    moves::open::<1>(f, at, at + (Prefix::MOST - 1), usize::from(b));
     last
 }
