@@ -25,7 +25,7 @@ use Rattle.between.proofs.BookedLaws.{booked_free}
 use Rattle.chain.specs.Row.{Entered, run_many, bodies_of, bytes_of, tip_of}
 use Rattle.chain.specs.Shift.{Freed, RunFreed, Frees}
 use Rattle.chain.proofs.TakeLaws.{prefix_kind_lem}
-use Rattle.chain.proofs.ReadLaws.{tree_stood}
+use Rattle.chain.proofs.ReadLaws.{tree_stood, entered_at}
 use Rattle.chain.proofs.RunLaws.{Release}
 use Rattle.chain.proofs.FillLaws.{Opens, opens_of}
 
@@ -89,10 +89,7 @@ module _ {f : List ℕ} {slot : ℕ} where
   -- what the code counts on
   module _ {left : ℕ} (Z : Frees f slot left) where
     pub frees_slot : Entered f slot
-    frees_slot =
-        let S = tree_stood Z.path Z.trees Z.loose Z.tree Z.work in
-        let e = Z.slot_is in
-        record { some = omega (arith, S.low); entry = omega (arith, S.entry) }
+    frees_slot = entered_at (tree_stood Z.path Z.trees Z.loose Z.tree Z.work) Z.slot_is
 
     module _ {low : ℕ} (kind : high_of f slot ≡ 2) (el : low ≡ place_of f slot) where
       O : Opens Z.tree slot low

@@ -32,7 +32,7 @@ use Rattle.prefix_body.specs.Prefix.{Two, Joins, Draws, Drawn}
 use Rattle.chain.specs.Row.{Entered, row_items, bodies_of, bytes_of, tip_of}
 use Rattle.chain.specs.Shift.{Filling, Filled, RunFilled, Fills}
 use Rattle.chain.proofs.TakeLaws.{prefix_kind_lem}
-use Rattle.chain.proofs.ReadLaws.{pre_of, tree_stood}
+use Rattle.chain.proofs.ReadLaws.{pre_of, tree_stood, entered_at}
 use Rattle.chain.proofs.RunLaws.{Release, below_not_leaf, below_full, below_short, below_other, node_run, run_sum, run_not_leaf, run_art, run_chained}
 
 -- what `onto` says
@@ -247,10 +247,7 @@ module _ {f : List ℕ} {o slot : ℕ} where
   -- what the code counts on
   module _ {left : ℕ} (Z : Fills f o slot left) where
     pub fills_slot : Entered f slot
-    fills_slot =
-        let S = tree_stood (Z.path ++ Z.text) Z.trees (body Z.number prefix_kind o ∷ Z.loose) Z.tree Z.filling.work in
-        let e = Z.slot_is in
-        record { some = omega (arith, S.low); entry = omega (arith, S.entry) }
+    fills_slot = entered_at (tree_stood (Z.path ++ Z.text) Z.trees (body Z.number prefix_kind o ∷ Z.loose) Z.tree Z.filling.work) Z.slot_is
 
     pub fills_room : o + 128 ≤ length f
     fills_room = Z.filling.at.room

@@ -37,7 +37,7 @@ use Rattle.prefix_body.specs.Prefix.{Spare, Full}
 use Rattle.chain.specs.Row.{Entered, row_items, run_many, bodies_of, bytes_of, tip_of}
 use Rattle.chain.specs.Shift.{lacks, Pushing, Pushed, RunPushed, Pushes}
 use Rattle.chain.proofs.TakeLaws.{prefix_kind_lem}
-use Rattle.chain.proofs.ReadLaws.{Stood, tree_stood}
+use Rattle.chain.proofs.ReadLaws.{Stood, tree_stood, entered_at}
 use Rattle.chain.proofs.RunLaws.{below_not_leaf, below_short, node_run, run_not_leaf, run_art}
 use Rattle.chain.proofs.FillLaws.{Opens, opens_of}
 
@@ -335,7 +335,7 @@ module _ {f : List ℕ} {slot b at : ℕ} where
     stands = tree_stood (path_of Z.steps ++ b ∷ []) Z.trees Z.loose Z.tree Z.pushing.work
 
     pub pushes_slot : Entered f slot
-    pushes_slot = let e = Z.slot_is in record { some = omega (arith, stands.low); entry = omega (arith, stands.entry) }
+    pushes_slot = entered_at stands Z.slot_is
 
     pub pushes_link : (64 ≤ length f) × (at + 4 ≤ length f)
     pushes_link = link_ok at Z.pushing.work Z.pushing.link_is

@@ -51,6 +51,7 @@ pub record Stood (f : List ℕ) (t : Lay) : Type 0 where
   pub low : 1 ≤ slot_of t
   pub entry : entry_at (slot_of t) + 4 ≤ length f
   pub small : slot_of t < 65536
+  pub live : (1 ≤ high_of f (slot_of t)) × (high_of f (slot_of t) ≤ 8)
   pub other : (high_of f (slot_of t) ≡ 2 → ⊥) → run_many t ≡ 0
   pub same : high_of f (slot_of t) ≡ 2 → 1 ≤ run_many t
 
@@ -62,7 +63,7 @@ module _ {E : Edition} {f : List ℕ} {h : View} {xs : List Step} {s : ℕ} wher
       let c = H.slot_cap in
       let bi = H.bump_in in
       let e = (entries_first f (slot_of t) k o rest W.entries).0.kind_is in
-      record { low = L.low; entry = omega (arith, L.table, H.size); small = omega (arith, L.table); other = λ n. b (λ z. n (e ∙ z)); same = λ z. a (sym e ∙ z) }
+      record { low = L.low; entry = omega (arith, L.table, H.size); small = omega (arith, L.table); live = (omega arith, omega arith); other = λ n. b (λ z. n (e ∙ z)); same = λ z. a (sym e ∙ z) }
 
   pub tree_stood : (path : List ℕ) (ts : List (List ℕ × Lay)) (loose : List Item) (t : Lay) → Work E f h xs s ((path, t) ∷ ts) loose → Stood f t
   tree_stood path ts loose (leaf n o e k v) W = stood (leaf n o e k v) o _ ts (omega arith) (omega arith) (open_leaf path ts loose n o e k v W).0 (λ z. absurd (omega arith)) (λ z. refl)
@@ -71,6 +72,10 @@ module _ {E : Edition} {f : List ℕ} {h : View} {xs : List Step} {s : ℕ} wher
       let O = open_node path ts loose n o kind ks W in
       let r = O.1.inner.range in
       stood (node n o kind ks) o _ _ (omega arith) (omega arith) O.0 (λ z. absurd (omega arith)) (λ z. refl)
+
+-- its entry, by any name of the slot
+pub entered_at : {f : List ℕ} {t : Lay} {s : ℕ} → Stood f t → slot_of t ≡ s → Entered f s
+entered_at {f} S e = subst (Entered f) e (record { some = S.low; entry = S.entry; least = S.live.0; most = S.live.1 })
 
 -- where no Prefix was found, none is
 pub not_there : (f : List ℕ) (s : ℕ) (r : Option ℕ) {b : Bool} → PrefixThere f s r → b ≡ is_some r → b ≡ false → high_of f s ≡ 2 → ⊥
@@ -192,10 +197,7 @@ module _ {f row row' bytes bytes' : List ℕ} {slot have long count n r : ℕ} (
     now_at = Z W.edition W.view W.steps W.top W.path W.tree W.trees W.held W.loose W.work W.named W.many W.slot_is
 
     pub read_slot : Entered f r
-    read_slot =
-        let S = tree_stood (W.path ++ now_at.p) W.trees (row_items now_at.more (row_items W.held W.loose)) now_at.tip now_at.work in
-        let e = now_at.slot in
-        record { some = omega (arith, S.low); entry = omega (arith, S.entry, ap entry_at e) }
+    read_slot = entered_at (tree_stood (W.path ++ now_at.p) W.trees (row_items now_at.more (row_items W.held W.loose)) now_at.tip now_at.work) now_at.slot
 
     module _ (kind : high_of f r ≡ 2) where
       pub read_room : place_of f r + 128 ≤ length f

@@ -18,10 +18,12 @@ use Rattle.between.specs.Edit.{Booked}
 
 -- ---- a slot
 
--- its entry stands in the frame
+-- its entry stands in the frame, and names a kind
 pub record Entered (f : List ℕ) (s : ℕ) : Type 0 where
   pub some : 1 ≤ s
   pub entry : entry_at s + 4 ≤ length f
+  pub least : 1 ≤ high_of f s
+  pub most : high_of f s ≤ 8
 
 -- where a Prefix stands, if the entry says so
 abbrev pub PrefixThere : List ℕ → ℕ → Option ℕ → Type 0

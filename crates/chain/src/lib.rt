@@ -43,10 +43,10 @@ pub fn prefix_at(f: &[u8], slot: usize) -> Option<usize>
     ensures { PrefixThere f.now slot result }
 {
     let e = Entry::read(f, slot);
-    if e.high == Kind::PREFIX {
-        return Some(e.place);
+    match e.kind() {
+        Kind::Prefix => Some(e.place),
+        _ => None,
     }
-    None
 }
 
 // The bodies of a row become the chain of these bytes above a child: its first slot. The last piece is written first, so that each names the next.
@@ -73,7 +73,7 @@ pub fn take_row(f: &mut [u8], row: &mut [usize], have: usize, need: usize)
     ensures { RowTaken f.old f.new row.old row.new have (need - have) (need - have) }
 {
     for i in have..need {
-        row[i] = heap::take(f, Kind::PREFIX);
+        row[i] = heap::take(f, Kind::Prefix);
     }
 }
 
@@ -83,7 +83,7 @@ pub fn free_row(f: &mut [u8], row: &[usize], keep: usize, have: usize)
     ensures { RowFreed f.old f.new row.now have keep }
 {
     for i in (keep..have).rev() {
-        heap::release(f, row[i], Kind::PREFIX);
+        heap::release(f, row[i], Kind::Prefix);
     }
 }
 

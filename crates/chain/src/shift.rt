@@ -17,7 +17,7 @@ pub fn free(f: &mut [u8], slot: usize)
             return;
         };
         let below = Prefix::child(f, place);
-        heap::release(f, top, Kind::PREFIX);
+        heap::release(f, top, Kind::Prefix);
         top = below;
     }
 }
@@ -39,7 +39,7 @@ pub fn fill(f: &mut [u8], o: usize, slot: usize)
         }
         if n + Prefix::length(f, place) <= Prefix::MOST {
             prefix_body::onto(f, at, place);
-            heap::release(f, s, Kind::PREFIX);
+            heap::release(f, s, Kind::Prefix);
             return;
         }
         prefix_body::draw(f, at, place);
@@ -70,7 +70,7 @@ pub fn push(f: &mut [u8], slot: usize, b: u8, at: usize)
         name = place + Prefix::CHILD;
         s = Prefix::child(f, place);
     }
-    let new = heap::take(f, Kind::PREFIX);
+    let new = heap::take(f, Kind::Prefix);
     let body = Entry::read(f, new);
     prefix_body::fresh(f, body.place, byte, s);
     link::relink(f, name, new);
