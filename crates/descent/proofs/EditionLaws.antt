@@ -1,23 +1,18 @@
--- The two editions by name: both are lawful, and what a descent reads of a key in each. Assumes nothing.
+-- The two editions by name: what a descent reads of a key in each. Assumes nothing.
 use Prim.Native.Nat.{ℕ, ◌-◌, ◌≤◌}
 use mathlib.Core.Path.{◌≡◌, refl, sym, ◌∙◌}
 use mathlib.Core.List.{List, [], ◌∷◌, append-nil}
 use mathlib.Core.Logic.{inl, inr}
 use native.Mathlib.Omega.{arith}
 use lib.ListN.{length, take}
-use Rattle.model.specs.Edition.{Legal, Lawful, edition1, edition2, escaped}
-use Rattle.model.proofs.Edition1.{lawful1}
-use Rattle.model.proofs.Edition2.{lawful2, edition_one, of_two}
+use Rattle.model.specs.Edition.{Legal, edition1, edition2, escaped}
+use Rattle.model.proofs.Edition2.{lawful2}
 use Rattle.editions.specs.declared.Edition.{Edition}
-use Rattle.editions.specs.declared.Edition.TheVariants as edition
 use Rattle.editions.specs.Rules.{rules_of}
+use Rattle.editions.proofs.RulesLaws.{number_names}
 use Rattle.keys.specs.Word.{Spelt, Spells}
 use Rattle.keys.proofs.KeyLaws.{key_some}
 use Rattle.keys.proofs.WordLaws.{word_fits}
-
-pub lawful_rules : (e : Edition) → Lawful (rules_of e)
-lawful_rules edition.First = lawful1
-lawful_rules edition.Second = lawful2
 
 -- edition 1 lends the key itself
 pub spells_first : (k : List ℕ) → Spells edition1 k k
@@ -34,5 +29,4 @@ second_fits k l = word_fits lawful2 k l
 
 -- a key that is not refused has a byte
 pub some_byte : (e : Edition) (k : List ℕ) → (rules_of e).key_fault k ≡ 0 → 1 ≤ length k
-some_byte edition.First k h = key_some 1 k (rw edition_one h)
-some_byte edition.Second k h = key_some 2 k (rw (of_two 2 refl) h)
+some_byte e k h = key_some (rules_of e).number k (rw (number_names e) h)

@@ -12,6 +12,7 @@ use lib.Seq.{get_or-drop}
 use lib.Dec.{eqb}
 use borrow.Author.Tests.{ne_eqb}
 use Rattle.layout.specs.Number.{le}
+use Rattle.layout.specs.Kind.{number_of}
 use Rattle.layout.specs.Place.{leaf_extent, leaf_value, leaf_stamp}
 use Rattle.model.specs.Strings.{pick, same, shared}
 use Rattle.model.specs.Edition.{Edition, Value, text_of}
@@ -137,7 +138,7 @@ module _ (E : Edition) where
         let w = E.walked k in
         let z : s.depth + 0 ≡ s.depth = omega arith in
         let b : get_or w s.depth 0 ≡ F.byte = ap (λ n. get_or w n 0) (sym z) ∙ sym (get_or-drop s.depth w 0 0) ∙ ap (λ x. get_or x 0 0) F.next in
-        find_there S.way (node s.here.slot s.here.place s.here.kind F.kids) F.is ∙ no_kid F.kids s.depth F.byte k b (look_none F.byte F.kids F.absent)
+        find_there S.way (node s.here.slot s.here.place (number_of s.here.kind) F.kids) F.is ∙ no_kid F.kids s.depth F.byte k b (look_none F.byte F.kids F.absent)
 
     parted_none : s.end ≡ end.Parted → find_lay E l 0 k ≡ none
     parted_none e =

@@ -7,6 +7,7 @@ use lib.ListN.{length}
 use Rattle.layout.specs.Number.{le}
 use Rattle.layout.specs.Place.{at_root, entry_at}
 use Rattle.layout.specs.Kind.{empty_root_kind}
+use Rattle.layout.specs.declared.kind.Kind.TheVariants as kinds
 use Rattle.layout.specs.Entry.{place_of, high_of}
 use Rattle.model.specs.Edition.{Edition}
 use Rattle.model.specs.State.{State}
@@ -27,6 +28,7 @@ use Rattle.descent.proofs.SeatLaws.{seat}
 record RootSeat (f : List ℕ) (r : Root) : Type 0 where
   low : 1 ≤ root_slot r
   table : entry_at (root_slot r) + 4 ≤ length f
+  kinds : (1 ≤ high_of f (root_slot r)) × (high_of f (root_slot r) ≤ 8)
   empty : high_of f (root_slot r) ≡ 8 → r ≡ bare (root_slot r) (place_of f (root_slot r))
   full : (high_of f (root_slot r) ≡ 8 → ⊥) → (l : Lay) × (r ≡ tree l)
 
@@ -57,11 +59,11 @@ module _ (E : Edition) where
       let L = lies s empty_root_kind o [] H (λ w. bare_sum w s o) (omega arith) (omega arith) in
       let b = H.header.bump_in in
       let z = H.header.size in
-      record { low = L.low; table = omega (arith, L.table); empty = λ q. ap (bare s) (sym Y.place_is); full = λ q. absurd (q Y.kind_is) }
+      record { low = L.low; table = omega (arith, L.table); kinds = (omega (arith, Y.kind_is), omega (arith, Y.kind_is)); empty = λ q. ap (bare s) (sym Y.place_is); full = λ q. absurd (q Y.kind_is) }
   at_root_lem {f} n ls (tree l) H R =
       let H' : Heap f (view_of n ls (tree (plug [] l))) = rw (plug_none l) H in
       let S = seat E [] [] l H' (root_tree f l R) in
-      record { low = S.low; table = S.table; empty = λ q. absurd (omega (arith, S.entry.kind_is, S.kinds.1)); full = λ q. (l, refl) }
+      record { low = S.low; table = S.table; kinds = (omega (arith, S.entry.kind_is, S.kinds.0), omega (arith, S.entry.kind_is, S.kinds.1)); empty = λ q. absurd (omega (arith, S.entry.kind_is, S.kinds.1)); full = λ q. (l, refl) }
 
   module _ {f : List ℕ} (W : Standing E f) where
     its_slot : le 2 f at_root ≡ root_slot W.stands.root
@@ -78,6 +80,13 @@ module _ (E : Edition) where
 
     pub root_entry : (s : ℕ) → s ≡ le 2 f at_root → (1 ≤ s) × (entry_at s + 4 ≤ length f)
     root_entry s e = let q = its_slot in let S = its_seat in (omega (arith, S.low), omega (arith, S.table))
+
+    -- the kind that its entry says is one
+    pub root_kind : {s h : ℕ} → s ≡ le 2 f at_root → h ≡ high_of f s → (1 ≤ h) × (h ≤ 8)
+    root_kind {s} e p =
+        let q : s ≡ root_slot W.stands.root = e ∙ its_slot in
+        let K = its_seat.kinds in
+        let y = p ∙ ap (high_of f) q in (omega (arith, K.0, y), omega (arith, K.1, y))
 
   module _ {f : List ℕ} (k : List ℕ) (W : Standing E f) (s : ℕ) (e : s ≡ le 2 f at_root) where
     from_root : s ≡ root_slot W.stands.root
@@ -115,7 +124,7 @@ module _ (E : Edition) where
         let G = starting n in
         record { going = G; count = record { left = omega arith; few = omega arith; short = omega arith } }
 
-    pub start_empty : (o : ℕ) → high_of f s ≡ 8 → o ≡ place_of f s → (st : State) (T : Stands E f st) → SpotAt E k T.root (end_at (start_at s at_root) end.Empty o 8 0)
+    pub start_empty : (o : ℕ) → high_of f s ≡ 8 → o ≡ place_of f s → (st : State) (T : Stands E f st) → SpotAt E k T.root (end_at (start_at s at_root) end.Empty o kinds.EmptyRoot 0)
     start_empty o h p st T =
         let q = from_root in
         let x = (its_seat W).empty (rw q at h) in

@@ -10,7 +10,9 @@ use borrow.Author.Tests.{eq-eqb}
 use lib.Seq.{get_or-append-add}
 use Rattle.layout.specs.Number.{le}
 use Rattle.layout.specs.Place.{entry_at, leaf_extent, leaf_key, prefix_length, prefix_bytes}
-use Rattle.layout.specs.Kind.{leaf_kind, prefix_kind, body_size}
+use Rattle.layout.specs.Kind.{leaf_kind, prefix_kind, body_size, number_of}
+use Rattle.layout.specs.declared.kind.Kind.{Kind}
+use Rattle.layout.specs.declared.kind.Kind.TheVariants as kinds
 use Rattle.layout.specs.Entry.{place_of, high_of}
 use Rattle.model.specs.Strings.{shared}
 use Rattle.model.specs.Edition.{Edition, Lawful, Legal, Value, text_of}
@@ -43,6 +45,38 @@ pub text_right : (f : List ℕ) (o : ℕ) (p q : List ℕ) → Text f o (p ++ q)
 text_right f o p q T = λ i h.
     let e : o + length p + i ≡ o + (length p + i) = omega arith in
     rw e (T (length p + i) (omega (arith, length-append p q)) ∙ get_or-append-add p q i 0)
+
+-- ---- kinds by their numbers
+
+pub not_leaf : (k : Kind) → (k ≡ kinds.Leaf → ⊥) → number_of k ≡ 1 → ⊥
+not_leaf kinds.Leaf n e = n refl
+not_leaf kinds.Prefix n e = absurd (let z : 2 ≡ 1 = e in omega arith)
+not_leaf kinds.Crossing n e = absurd (let z : 3 ≡ 1 = e in omega arith)
+not_leaf kinds.Node4 n e = absurd (let z : 4 ≡ 1 = e in omega arith)
+not_leaf kinds.Node16 n e = absurd (let z : 5 ≡ 1 = e in omega arith)
+not_leaf kinds.Node48 n e = absurd (let z : 6 ≡ 1 = e in omega arith)
+not_leaf kinds.Node256 n e = absurd (let z : 7 ≡ 1 = e in omega arith)
+not_leaf kinds.EmptyRoot n e = absurd (let z : 8 ≡ 1 = e in omega arith)
+
+pub not_prefix : (k : Kind) → (k ≡ kinds.Prefix → ⊥) → number_of k ≡ 2 → ⊥
+not_prefix kinds.Leaf n e = absurd (let z : 1 ≡ 2 = e in omega arith)
+not_prefix kinds.Prefix n e = n refl
+not_prefix kinds.Crossing n e = absurd (let z : 3 ≡ 2 = e in omega arith)
+not_prefix kinds.Node4 n e = absurd (let z : 4 ≡ 2 = e in omega arith)
+not_prefix kinds.Node16 n e = absurd (let z : 5 ≡ 2 = e in omega arith)
+not_prefix kinds.Node48 n e = absurd (let z : 6 ≡ 2 = e in omega arith)
+not_prefix kinds.Node256 n e = absurd (let z : 7 ≡ 2 = e in omega arith)
+not_prefix kinds.EmptyRoot n e = absurd (let z : 8 ≡ 2 = e in omega arith)
+
+pub not_empty : (k : Kind) → (k ≡ kinds.EmptyRoot → ⊥) → number_of k ≡ 8 → ⊥
+not_empty kinds.Leaf n e = absurd (let z : 1 ≡ 8 = e in omega arith)
+not_empty kinds.Prefix n e = absurd (let z : 2 ≡ 8 = e in omega arith)
+not_empty kinds.Crossing n e = absurd (let z : 3 ≡ 8 = e in omega arith)
+not_empty kinds.Node4 n e = absurd (let z : 4 ≡ 8 = e in omega arith)
+not_empty kinds.Node16 n e = absurd (let z : 5 ≡ 8 = e in omega arith)
+not_empty kinds.Node48 n e = absurd (let z : 6 ≡ 8 = e in omega arith)
+not_empty kinds.Node256 n e = absurd (let z : 7 ≡ 8 = e in omega arith)
+not_empty kinds.EmptyRoot n e = n refl
 
 -- ---- where a body lies
 
@@ -130,6 +164,12 @@ module _ (E : Edition) where
 
     pub going_entry : (1 ≤ s.here.slot) × (entry_at s.here.slot + 4 ≤ length f)
     going_entry = let q = G.way.slot_is in let S = seated in (omega (arith, S.low), omega (arith, S.table))
+
+    -- the kind that the entry says is one
+    pub going_kind : {h : ℕ} → h ≡ high_of f s.here.slot → (1 ≤ h) × (h ≤ 8)
+    going_kind p =
+        let Y = rw G.way.slot_is at seated.entry in
+        let K = seated.kinds in (omega (arith, p, Y.kind_is, K.0), omega (arith, p, Y.kind_is, K.1))
 
     -- the entry's words and the subtree's are the same
     same_entry : (kind o : ℕ) → kind ≡ high_of f s.here.slot → o ≡ place_of f s.here.slot → (kind_in G.way.sub ≡ kind) × (place_in G.way.sub ≡ o)

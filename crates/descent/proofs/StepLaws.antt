@@ -2,13 +2,16 @@
 use Prim.Native.Nat.{ℕ, suc, ◌+◌, ◌<◌, ◌≤◌}
 use mathlib.Core.Path.{◌≡◌, refl, sym, ap, ◌∙◌}
 use mathlib.Core.List.{List, [], ◌∷◌, ◌++◌}
-use mathlib.Core.Option.{Option, none, some}
+use mathlib.Core.Option.{none, some}
 use native.Mathlib.Omega.{arith}
 use native.Mathlib.Decide.{ℕ_discrete}
 use lib.ListN.{length, get_or, drop, length-append}
 use lib.Seq.{get_or_at}
 use borrow.Author.Tests.{eq-eqb, ne_eqb}
 use Rattle.layout.specs.Place.{prefix_child}
+use Rattle.layout.specs.Kind.{number_of}
+use Rattle.layout.specs.declared.kind.Kind.{Kind}
+use Rattle.layout.specs.declared.kind.Kind.TheVariants as kinds
 use Rattle.model.specs.Strings.{shared}
 use Rattle.model.specs.Edition.{Edition}
 use Rattle.model.specs.Body.{look_kid}
@@ -18,7 +21,7 @@ use Rattle.model.specs.Frame.Lay.{leaf, node}
 use Rattle.model.specs.Frame.LayKids.{kid}
 use Rattle.model.proofs.StringLaws.{shared_left, clash}
 use Rattle.model.proofs.ChainLaws.{below_hung}
-use Rattle.node.specs.Kids.{or_zero, place_of}
+use Rattle.node.specs.Kids.{place_of}
 use Rattle.inner.specs.Inner.{link_at, place_at}
 use Rattle.inner.proofs.InnerLaws.{inner_asc}
 use Rattle.between.specs.Hole.{Step, under, among, app, plug, plug1, path_of, Link}
@@ -57,14 +60,6 @@ link_under s o p xs = refl
 
 -- ---- at an inner node
 
-or_none : (x : Option ℕ) → or_zero x ≡ 0 → (x ≡ some 0 → ⊥) → x ≡ none
-or_none none e n = refl
-or_none (some c) e n = absurd (n (ap some e))
-
-or_some : (x : Option ℕ) (c : ℕ) → c ≡ or_zero x → (c ≡ 0 → ⊥) → x ≡ some c
-or_some none c e n = absurd (n e)
-or_some (some d) c e n = ap some (sym e)
-
 link_among : (s o kind : ℕ) (ls : LayKids) (b j : ℕ) (rs : LayKids) (xs : List Step) (at : ℕ) → at ≡ link_at o kind (length (pairs ls)) j b → Link (among s o kind ls b j rs ∷ xs) at
 unfolding Link
 link_among s o kind ls b j rs xs at e = e
@@ -92,11 +87,11 @@ run_below xs s o p T l = elim (ℕ_discrete (over_of s).slot 0) [
 ]
 
 module _ (E : Edition) where
-  pub way_end : {k : List ℕ} {l : Lay} {s : Spot} (W : Way E k l s) (e : End) (o kind q : ℕ) → Way E k l (end_at s e o kind q)
+  pub way_end : {k : List ℕ} {l : Lay} {s : Spot} (W : Way E k l s) (e : End) (o : ℕ) (kind : Kind) (q : ℕ) → Way E k l (end_at s e o kind q)
   way_end W e o kind q =
       record { steps = W.steps; sub = W.sub; rest = W.rest; whole = W.whole; leads = W.leads; deep = W.deep; slot_is = W.slot_is; link_is = W.link_is; over = W.over }
 
-  module _ {f k : List ℕ} {s : Spot} (G : Going E f k s) (C : Counted E k s G.lay G.way.sub) (e : End) (o kind q : ℕ) where
+  module _ {f k : List ℕ} {s : Spot} (G : Going E f k s) (C : Counted E k s G.lay G.way.sub) (e : End) (o : ℕ) (kind : Kind) (q : ℕ) where
     -- the end has its record, and no other end is claimed; one slot was left
     stop : (e ≡ end.Going → ⊥) × (e ≡ end.Empty → ⊥) → visits E (art G.way.sub) s.depth k ≡ 1 → (e ≡ end.Found → ThisKey k (end_at s e o kind q) G.way.steps G.way.sub) → (e ≡ end.Other → OtherKey E k (end_at s e o kind q) G.way.steps G.way.sub)
         → (e ≡ end.Missing → NoByte E k (end_at s e o kind q) G.way.sub) → (e ≡ end.Parted → PartPrefix E k (end_at s e o kind q) G.way.sub) → Stepped E f k s (end_at s e o kind q)
@@ -114,23 +109,23 @@ module _ (E : Edition) where
         }
 
   module _ {f k : List ℕ} {s : Spot} {o : ℕ} (A : AtLeaf E f k s o) where
-    pub leaf_found : A.key ≡ k → Stepped E f k s (end_at s end.Found o 1 0)
+    pub leaf_found : A.key ≡ k → Stepped E f k s (end_at s end.Found o kinds.Leaf 0)
     leaf_found e =
-        stop A.going A.count end.Found o 1 0 (λ z. clash (cc), λ z. clash (cc)) (rw A.is refl)
+        stop A.going A.count end.Found o kinds.Leaf 0 (λ z. clash (cc), λ z. clash (cc)) (rw A.is refl)
         (λ z. record { extent = A.extent; value = A.value; is = A.is ∙ ap (λ x. leaf s.here.slot o A.extent x A.value) e; kind = refl; free = A.free })
         (λ z. clash (cc)) (λ z. clash (cc)) (λ z. clash (cc))
 
-    pub leaf_other : (q : ℕ) → (A.key ≡ k → ⊥) → q ≡ shared (drop s.depth (E.walked k)) (drop s.depth (E.walked A.key)) → Stepped E f k s (end_at s end.Other o 1 q)
+    pub leaf_other : (q : ℕ) → (A.key ≡ k → ⊥) → q ≡ shared (drop s.depth (E.walked k)) (drop s.depth (E.walked A.key)) → Stepped E f k s (end_at s end.Other o kinds.Leaf q)
     leaf_other q n e =
-        stop A.going A.count end.Other o 1 q (λ z. clash (cc), λ z. clash (cc)) (rw A.is refl)
+        stop A.going A.count end.Other o kinds.Leaf q (λ z. clash (cc), λ z. clash (cc)) (rw A.is refl)
         (λ z. clash (cc))
         (λ z. record { extent = A.extent; key = A.key; value = A.value; is = A.is; kind = refl; free = A.free; differs = λ y. n (sym y); shares = e })
         (λ z. clash (cc)) (λ z. clash (cc))
 
   module _ {f k w : List ℕ} {s : Spot} {o : ℕ} (A : AtPrefix E f k w s o) (q n : ℕ) (e : q ≡ shared A.bytes (drop s.depth (E.walked k))) (m : n ≡ length A.bytes) where
-    pub prefix_parted : q < n → Stepped E f k s (end_at s end.Parted o 2 q)
+    pub prefix_parted : q < n → Stepped E f k s (end_at s end.Parted o kinds.Prefix q)
     prefix_parted h =
-        stop A.going A.count end.Parted o 2 q (λ z. clash (cc), λ z. clash (cc))
+        stop A.going A.count end.Parted o kinds.Prefix q (λ z. clash (cc), λ z. clash (cc))
         (rw A.is (count_parted E A.bytes s.depth k A.at.some A.at.most (art A.below) (omega arith)))
         (λ z. clash (cc)) (λ z. clash (cc)) (λ z. clash (cc))
         (λ z. record { bytes = A.bytes; below = A.below; is = A.is; kind = refl; short = A.short; shares = e; less = omega arith })
@@ -179,39 +174,41 @@ module _ (E : Edition) where
           ends = λ z. absurd (z refl);
         }
 
-  module _ {f k w : List ℕ} {s : Spot} {o kind : ℕ} (A : AtNode E f k w s o kind) (b c : ℕ) (e : b ≡ get_or (E.walked k) s.depth 0) (d : c ≡ or_zero (look_kid b (pairs A.kids))) where
+  module _ {f k w : List ℕ} {s : Spot} {o : ℕ} (kind : Kind) (A : AtNode E f k w s o (number_of kind)) (b : ℕ) (e : b ≡ get_or (E.walked k) s.depth 0) where
+    abbrev n : ℕ
+    n = number_of kind
+
     its_rest : drop s.depth (E.walked k) ≡ A.byte ∷ A.after
     its_rest = rw A.going.way.deep (leads_rest A.going.way.leads ∙ A.next)
 
     its_byte : b ≡ A.byte
     its_byte = e ∙ rw (A.going.way.leads.word ∙ ap (λ r. path_of A.going.way.steps ++ r) A.next) (get_or_at (path_of A.going.way.steps) A.byte A.after 0 s.depth (sym A.going.way.deep))
 
-    pub node_missing : c ≡ 0 → Stepped E f k s (end_at s end.Missing o kind 0)
-    node_missing z =
+    pub node_missing : look_kid b (pairs A.kids) ≡ none → Stepped E f k s (end_at s end.Missing o kind 0)
+    node_missing h =
         let q = its_byte in
-        let h : look_kid b (pairs A.kids) ≡ none = or_none (look_kid b (pairs A.kids)) (sym d ∙ z) (A.live b) in
         stop A.going A.count end.Missing o kind 0 (λ z. clash (cc), λ z. clash (cc))
         (rw A.is (ap suc (count_missing E k s.depth b (sym e) A.kids (look_none b A.kids h))))
         (λ z. clash (cc)) (λ z. clash (cc))
         (λ z. record { kids = A.kids; is = A.is; short = A.short; byte = A.byte; after = A.after; next = its_rest; absent = rw q at h })
         (λ z. clash (cc))
 
-    pub node_below : (at : ℕ) → (c ≡ 0 → ⊥) → at ≡ link_at o kind (place_of b (pairs A.kids)) (place_at f o kind b) b → Stepped E f k s (below_node s o kind b c at)
-    node_below at n l =
+    pub node_below : (c at : ℕ) → look_kid b (pairs A.kids) ≡ some c → at ≡ link_at o n (place_of b (pairs A.kids)) (place_at f o n b) b → Stepped E f k s (below_node s o kind b c at)
+    node_below c at h l =
         let W = A.going.way in
         let sl = s.here.slot in
-        let S = look_split b c A.kids (or_some (look_kid b (pairs A.kids)) c d n) in
+        let S = look_split b c A.kids h in
         let ks = app S.before (kid b S.place S.child S.after) in
-        let N : NodeOf f o kind ks = rw S.is at A.at in
+        let N : NodeOf f o n ks = rw S.is at A.at in
         let asc = inner_asc (pairs ks) N.inner in
         let L : Leads E k W.steps (b ∷ A.after) = rw (A.next ∙ ap (λ x. x ∷ A.after) (sym its_byte)) at W.leads in
-        let x = among sl o kind S.before b S.place S.after in
-        let at1 : at ≡ link_at o kind (place_of b (pairs ks)) (place_at f o kind b) b = rw S.is at l in
-        let at2 = at1 ∙ ap (λ i. link_at o kind i (place_at f o kind b) b) (app_place b S.place S.child 0 S.before S.after asc)
-        ∙ ap (λ j. link_at o kind (length (pairs S.before)) j b) (app_places b S.place S.child f o kind S.before S.after N.places) in
+        let x = among sl o n S.before b S.place S.after in
+        let at1 : at ≡ link_at o n (place_of b (pairs ks)) (place_at f o n b) b = rw S.is at l in
+        let at2 = at1 ∙ ap (λ i. link_at o n i (place_at f o n b) b) (app_place b S.place S.child 0 S.before S.after asc)
+        ∙ ap (λ j. link_at o n (length (pairs S.before)) j b) (app_places b S.place S.child f o n S.before S.after N.places) in
         let sh = A.short in
         let past : visits E (art W.sub) s.depth k ≡ suc (visits E (art S.child) (s.depth + 1) k)
-        = ap (λ t. visits E (art t) s.depth k) (A.is ∙ ap (node sl o kind) S.is)
+        = ap (λ t. visits E (art t) s.depth k) (A.is ∙ ap (node sl o n) S.is)
         ∙ ap suc (count_child E k s.depth b (sym e) S.place S.child S.before S.after (app_left b S.place S.child 0 S.before S.after asc)) in
         record {
           goes = λ z. (
@@ -225,11 +222,11 @@ module _ (E : Edition) where
                   steps = x ∷ W.steps;
                   sub = S.child;
                   rest = A.after;
-                  whole = W.whole ∙ ap (plug W.steps) (A.is ∙ ap (node sl o kind) S.is) ∙ sym (plug_among sl o kind S.before b S.place S.after W.steps S.child);
-                  leads = leads_among sl o kind S.before b S.place S.after W.steps A.after (app_left b S.place S.child 0 S.before S.after asc) L;
-                  deep = omega (arith, W.deep, ap length (path_among sl o kind S.before b S.place S.after W.steps), length-append (path_of W.steps) (b ∷ []));
+                  whole = W.whole ∙ ap (plug W.steps) (A.is ∙ ap (node sl o n) S.is) ∙ sym (plug_among sl o n S.before b S.place S.after W.steps S.child);
+                  leads = leads_among sl o n S.before b S.place S.after W.steps A.after (app_left b S.place S.child 0 S.before S.after asc) L;
+                  deep = omega (arith, W.deep, ap length (path_among sl o n S.before b S.place S.after W.steps), length-append (path_of W.steps) (b ∷ []));
                   slot_is = S.slot;
-                  link_is = link_among sl o kind S.before b S.place S.after W.steps at at2;
+                  link_is = link_among sl o n S.before b S.place S.after W.steps at at2;
                   over = record {
                     free = λ y. absurd (omega (arith, A.low));
                     top = λ y. absurd (omega (arith, A.low));

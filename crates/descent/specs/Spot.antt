@@ -2,7 +2,9 @@
 use Rattle.std.specs.Prelude.{ℕ, ◌+◌, ◌<◌, ◌≤◌, ◌≡◌, List, [], ◌∷◌, ◌++◌, length, drop, eqb}
 use Rattle.std.proofs.Math.Option.{none, some}
 use Rattle.layout.specs.Place.{prefix_child}
-use Rattle.layout.specs.Kind.{prefix_kind}
+use Rattle.layout.specs.Kind.{number_of}
+use Rattle.layout.specs.declared.kind.Kind.{Kind}
+use Rattle.layout.specs.declared.kind.Kind.TheVariants as kinds
 use Rattle.model.specs.Strings.{pick, shared}
 use Rattle.model.specs.Edition.{Edition, Lawful, Legal, Value}
 use Rattle.model.specs.State.{State}
@@ -21,15 +23,15 @@ use Rattle.descent.specs.declared.spot.Spot.{Spot}
 -- ---- the struct, field by field
 
 abbrev pub no_body : Body
-no_body = record { slot = 0; place = 0; kind = 0; link = 0 }
+no_body = record { slot = 0; place = 0; kind = kinds.EmptyRoot; link = 0 }
 
 abbrev pub named : ℕ → ℕ → Body
-named s l = record { slot = s; place = 0; kind = 0; link = l }
+named s l = record { slot = s; place = 0; kind = kinds.EmptyRoot; link = l }
 
 abbrev pub start_at : ℕ → ℕ → Spot
 start_at s l = record { end = end.Going; here = named s l; depth = 0; shared = 0; visited = 0; node = no_body; byte = 0; above = no_body; first = 0; first_link = 0 }
 
-abbrev pub end_at : Spot → End → ℕ → ℕ → ℕ → Spot
+abbrev pub end_at : Spot → End → ℕ → Kind → ℕ → Spot
 end_at s e o kind q = record {
   end = e;
   here = record { slot = s.here.slot; place = o; kind = kind; link = s.here.link };
@@ -62,12 +64,12 @@ below_prefix s o n c = record {
   visited = s.visited + 1;
   node = no_body;
   byte = 0;
-  above = record { slot = s.here.slot; place = o; kind = prefix_kind; link = s.here.link };
+  above = record { slot = s.here.slot; place = o; kind = kinds.Prefix; link = s.here.link };
   first = top_of s;
   first_link = top_link_of s;
 }
 
-abbrev pub below_node : Spot → ℕ → ℕ → ℕ → ℕ → ℕ → Spot
+abbrev pub below_node : Spot → ℕ → Kind → ℕ → ℕ → ℕ → Spot
 below_node s o kind b c l = record {
   end = end.Going;
   here = named c l;
@@ -117,7 +119,7 @@ pub record Holder (xs : List Step) (n : Body) (b : ℕ) (u : Body) (first at : �
   pub place : ℕ
   pub after : LayKids
   pub up : List Step
-  pub is : xs ≡ among n.slot n.place n.kind before b place after ∷ up
+  pub is : xs ≡ among n.slot n.place (number_of n.kind) before b place after ∷ up
   pub link : Link up n.link
   pub top : Topped up u first at
 
@@ -139,7 +141,7 @@ pub record ThisKey (k : List ℕ) (s : Spot) (xs : List Step) (t : Lay) : Type 0
   pub extent : ℕ
   pub value : Value
   pub is : t ≡ leaf s.here.slot s.here.place extent k value
-  pub kind : s.here.kind ≡ 1
+  pub kind : s.here.kind ≡ kinds.Leaf
   pub free : NotUnder xs
 
 module _ (E : Edition) where
@@ -161,7 +163,7 @@ module _ (E : Edition) where
     pub key : List ℕ
     pub value : Value
     pub is : t ≡ leaf s.here.slot s.here.place extent key value
-    pub kind : s.here.kind ≡ 1
+    pub kind : s.here.kind ≡ kinds.Leaf
     pub free : NotUnder xs
     pub differs : k ≡ key → ⊥
     pub shares : s.shared ≡ shared (drop s.depth (E.walked k)) (drop s.depth (E.walked key))
@@ -169,7 +171,7 @@ module _ (E : Edition) where
   -- an inner node without the byte
   pub record NoByte (k : List ℕ) (s : Spot) (t : Lay) : Type 0 where
     pub kids : LayKids
-    pub is : t ≡ node s.here.slot s.here.place s.here.kind kids
+    pub is : t ≡ node s.here.slot s.here.place (number_of s.here.kind) kids
     pub short : s.depth < E.longest
     pub byte : ℕ
     pub after : List ℕ
@@ -181,7 +183,7 @@ module _ (E : Edition) where
     pub bytes : List ℕ
     pub below : Lay
     pub is : t ≡ prefix s.here.slot s.here.place bytes below
-    pub kind : s.here.kind ≡ 2
+    pub kind : s.here.kind ≡ kinds.Prefix
     pub short : s.depth + length bytes < E.longest
     pub shares : s.shared ≡ shared bytes (drop s.depth (E.walked k))
     pub less : s.shared < length bytes

@@ -1,5 +1,6 @@
 // The descent: from the root slot a step at a time, by the key's walked string.
 ghost use Rattle.std.specs.Prelude.{◌≡◌, List, ℕ};
+ghost use Rattle.layout.specs.Kind.{number_of};
 ghost use Rattle.model.specs.Edition.{Edition as Rules, edition2, Legal};
 ghost use Rattle.model.specs.State.{State};
 ghost use Rattle.model.specs.Frame.{Stands};
@@ -22,11 +23,11 @@ fn at_leaf(f: &[u8], key: &[u8], s: Spot, place: usize, edition: Edition) -> Spo
     let from = Leaf::extent(f, place);
     let n = Leaf::key_length(f, place);
     if keys::stands_at(key, f, from, n) {
-        return s.ended(End::Found, place, Kind::LEAF, 0);
+        return s.ended(End::Found, place, Kind::Leaf, 0);
     }
     let to = from + n;
     let q = keys::shared_from(key, &f[from..to], s.depth, edition);
-    s.ended(End::Other, place, Kind::LEAF, q)
+    s.ended(End::Other, place, Kind::Leaf, q)
 }
 
 fn at_prefix(f: &[u8], word: &[u8], s: Spot, place: usize) -> Spot
@@ -36,22 +37,22 @@ fn at_prefix(f: &[u8], word: &[u8], s: Spot, place: usize) -> Spot
     let n = Prefix::length(f, place);
     let q = keys::matched(Prefix::bytes(f, place, n), word, s.depth);
     if q < n {
-        return s.ended(End::Parted, place, Kind::PREFIX, q);
+        return s.ended(End::Parted, place, Kind::Prefix, q);
     }
     let child = Prefix::child(f, place);
     s.below_prefix(place, n, child)
 }
 
-fn at_node(f: &[u8], word: &[u8], s: Spot, place: usize, kind: usize) -> Spot
-    requires { SomeDescent (λ E k. AtNode E f.now k word.now s place kind) }
-    ensures { (E : Rules) (k : List ℕ) → AtNode E f.now k word.now s place kind → Stepped E f.now k s result }
+fn at_node(f: &[u8], word: &[u8], s: Spot, place: usize, kind: Kind) -> Spot
+    requires { SomeDescent (λ E k. AtNode E f.now k word.now s place (number_of kind)) }
+    ensures { (E : Rules) (k : List ℕ) → AtNode E f.now k word.now s place (number_of kind) → Stepped E f.now k s result }
 {
     let b = keys::at(word, s.depth);
     let seat = look::seat(f, place, kind, b);
-    if seat.slot == 0 {
-        return s.ended(End::Missing, place, kind, 0);
+    match seat.slot {
+        None => s.ended(End::Missing, place, kind, 0),
+        Some(child) => s.below_node(place, kind, b, child, seat.link),
     }
-    s.below_node(place, kind, b, seat.slot, seat.link)
 }
 
 // One step: deeper, or to the end.
@@ -60,13 +61,11 @@ fn step(f: &[u8], key: &[u8], word: &[u8], s: Spot, edition: Edition) -> Spot
     ensures { Stepped (rules_of edition) f.now key.now s result }
 {
     let e = Entry::read(f, s.here.slot);
-    if e.high == Kind::LEAF {
-        return at_leaf(f, key, s, e.place, edition);
+    match e.kind() {
+        Kind::Leaf => at_leaf(f, key, s, e.place, edition),
+        Kind::Prefix => at_prefix(f, word, s, e.place),
+        kind => at_node(f, word, s, e.place, kind),
     }
-    if e.high == Kind::PREFIX {
-        return at_prefix(f, word, s, e.place);
-    }
-    at_node(f, word, s, e.place, e.high)
 }
 
 // Where the way of a legal key through a good frame ends; `word` is what is read of it on the way.
@@ -77,8 +76,8 @@ pub fn descend(f: &[u8], key: &[u8], word: &[u8], edition: Edition) -> Spot
     let slot = Header::root(f);
     let e = Entry::read(f, slot);
     let mut s = Spot::start(slot, Header::AT_ROOT);
-    if e.high == Kind::EMPTY_ROOT {
-        return s.ended(End::Empty, e.place, Kind::EMPTY_ROOT, 0);
+    if e.kind() == Kind::EmptyRoot {
+        return s.ended(End::Empty, e.place, Kind::EmptyRoot, 0);
     }
     loop {
         s = step(f, key, word, s, edition);
