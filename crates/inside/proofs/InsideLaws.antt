@@ -1,19 +1,25 @@
 -- Which case the tree at a slot is, by the slot's entry; and the tree of a good frame lies in it. Assumes nothing.
 use Prim.Native.Nat.{ℕ, ◌+◌, ◌-◌, ◌*◌, ◌<◌, ◌≤◌}
 use mathlib.Core.Path.{◌≡◌, refl, sym, ap, ◌∙◌}
-use mathlib.Core.List.{List, ◌++◌}
+use mathlib.Core.List.{List, [], ◌++◌}
 use native.Mathlib.Omega.{arith}
 use native.Mathlib.Decide.{dec_le}
 use lib.ListN.{length}
-use Rattle.layout.specs.Kind.{leaf_kind, prefix_kind, body_size}
+use Rattle.layout.specs.declared.kind.Kind.{Kind as Named}
+use Rattle.layout.specs.declared.kind.Kind.TheVariants as kind
+use Rattle.layout.specs.Number.{Bytes}
+use Rattle.layout.specs.Kind.{number_of, leaf_kind, prefix_kind, body_size}
 use Rattle.layout.specs.Entry.{high_of, place_of}
-use Rattle.model.specs.Edition.{Edition, Value}
+use Rattle.model.specs.Edition.{Edition, Lawful, Value}
 use Rattle.model.specs.State.{State}
 use Rattle.model.specs.Item.{Item, body, on_slot, cover, sum}
-use Rattle.model.specs.Frame.{Lay, LayKids, Root, tree, root_items, slot_of, items, items_all, freed, Entry, Tree, Stands}
+use Rattle.model.specs.Frame.{Lay, LayKids, Root, tree, root_items, slot_of, items, items_all, freed, Below, IsNode, Entry, Tree, Stands}
 use Rattle.model.specs.Frame.Lay.{leaf, prefix, node}
 use Rattle.model.specs.Frame.LayKids.{nil, kid}
 use Rattle.model.proofs.ItemLaws.{in_yes, sum_app}
+use Rattle.model.proofs.OneBody.{node_below}
+use Rattle.model.proofs.StandsGood.{below_inside}
+use Rattle.model.proofs.WellLaws.{inside_short}
 use Rattle.inside.specs.Inside.{SlotIn, Inside, InsideAll}
 
 -- ---- which case it is, by the entry
@@ -21,6 +27,40 @@ use Rattle.inside.specs.Inside.{SlotIn, Inside, InsideAll}
 -- the entry of a tree's slot, said of the slot
 pub entry_at_lem : (f : List ℕ) (s' s kind kind' o o' : ℕ) → s' ≡ s → high_of f s ≡ kind' → place_of f s ≡ o' → Entry f s' kind o → (kind ≡ kind') × (o ≡ o')
 entry_at_lem f s' s kind kind' o o' q h p E = let F : Entry f s kind o = rw q at E in (sym F.kind_is ∙ h, sym F.place_is ∙ p)
+
+-- a live slot's entry names a kind
+pub slot_kind : (E : Edition) (f path : List ℕ) (s : ℕ) (l : Lay) → Tree E f path l → slot_of l ≡ s → (1 ≤ high_of f s) × (high_of f s ≤ 8)
+unfolding Tree
+slot_kind E f path s (leaf s' o e k v) T q = let h : high_of f s ≡ leaf_kind = rw q at T.0.kind_is in (omega arith, omega arith)
+slot_kind E f path s (prefix s' o p l) T q = let h : high_of f s ≡ prefix_kind = rw q at T.0.kind_is in (omega arith, omega arith)
+slot_kind E f path s (node s' o kind ks) T q = let h : high_of f s ≡ kind = rw q at T.0.kind_is in let r = T.1.inner.range in (omega arith, omega arith)
+
+-- what is no Leaf by its name is none by its number, nor a Prefix
+pub not_leaf : (k : Named) {h : ℕ} → number_of k ≡ h → (k ≡ kind.Leaf → ⊥) → h ≡ leaf_kind → ⊥
+not_leaf k {h} e n q = n (named k (e ∙ q))
+  where
+    named : (k : Named) → number_of k ≡ leaf_kind → k ≡ kind.Leaf
+    named kind.Leaf e = refl
+    named kind.Prefix e = absurd (omega (arith, e))
+    named kind.Crossing e = absurd (omega (arith, e))
+    named kind.Node4 e = absurd (omega (arith, e))
+    named kind.Node16 e = absurd (omega (arith, e))
+    named kind.Node48 e = absurd (omega (arith, e))
+    named kind.Node256 e = absurd (omega (arith, e))
+    named kind.EmptyRoot e = absurd (omega (arith, e))
+
+pub not_prefix : (k : Named) {h : ℕ} → number_of k ≡ h → (k ≡ kind.Prefix → ⊥) → h ≡ prefix_kind → ⊥
+not_prefix k {h} e n q = n (named k (e ∙ q))
+  where
+    named : (k : Named) → number_of k ≡ prefix_kind → k ≡ kind.Prefix
+    named kind.Leaf e = absurd (omega (arith, e))
+    named kind.Prefix e = refl
+    named kind.Crossing e = absurd (omega (arith, e))
+    named kind.Node4 e = absurd (omega (arith, e))
+    named kind.Node16 e = absurd (omega (arith, e))
+    named kind.Node48 e = absurd (omega (arith, e))
+    named kind.Node256 e = absurd (omega (arith, e))
+    named kind.EmptyRoot e = absurd (omega (arith, e))
 
 pub record IsLeaf (s o : ℕ) (l : Lay) : Type 0 where
   pub extent : ℕ
@@ -55,6 +95,17 @@ unfolding Tree
 inner_lay E f path s (leaf s' o e k v) T q low = absurd (omega (arith, (entry_at_lem f s' s leaf_kind (high_of f s) o (place_of f s) q refl refl T.0).0))
 inner_lay E f path s (prefix s' o b l) T q low = absurd (omega (arith, (entry_at_lem f s' s prefix_kind (high_of f s) o (place_of f s) q refl refl T.0).0))
 inner_lay E f path s (node s' o kind ks) T q low = let w = entry_at_lem f s' s kind (high_of f s) o (place_of f s) q refl refl T.0 in let y = w.0 in let z = w.1 in record { kids = ks; is = cc }
+
+-- ---- the path to what may stand below a Prefix, and to an inner node, is no whole word
+
+module _ {E : Edition} (L : Lawful E) (f path : List ℕ) where
+  pub below_short : (p : List ℕ) (l : Lay) → Bytes f → Below p l → Tree E f path l → length path < E.longest
+  below_short p l B H T = inside_short L path (below_inside L f path p l B H T)
+
+  pub node_short : (l : Lay) → Bytes f → IsNode l → Tree E f path l → length path < E.longest
+  node_short l B I T = below_short [] l B (node_below [] l I) T
+
+-- ---- the tree lies in the frame
 
 -- every slot's entry lies in the frame
 pub slot_in : (f : List ℕ) (s : ℕ) (l : Lay) → Inside f l → slot_of l ≡ s → SlotIn f s

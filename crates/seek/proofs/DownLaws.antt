@@ -5,22 +5,20 @@ use native.Mathlib.Decide.{ℕ_discrete}
 use mathlib.Core.Path.{◌≡◌, refl, sym, ◌∙◌}
 use mathlib.Core.List.{List, [], ◌∷◌, ◌++◌}
 use lib.ListN.{length, length-append}
-use borrow.Author.Tests.{le-ltb}
 use Rattle.layout.specs.Number.{le, Bytes}
 use Rattle.layout.specs.Place.{entry_at, prefix_child, prefix_length}
 use Rattle.layout.specs.Kind.{leaf_kind, prefix_kind, fewest}
 use Rattle.layout.specs.Entry.{high_of, place_of}
 use Rattle.model.specs.Edition.{Edition, Lawful}
-use Rattle.model.specs.Body.{InnerAt, PrefixAt}
+use Rattle.model.specs.Body.{InnerAt, PrefixAt, child_in}
 use Rattle.model.specs.Frame.{Lay, LayKids, slot_of, pairs, Tree, Trees}
 use Rattle.model.specs.Frame.Lay.{leaf, prefix, node}
 use Rattle.model.specs.Frame.LayKids.{nil, kid}
-use Rattle.node.specs.Kids.{next_kid}
-use Rattle.inner.specs.Inner.{NodeSome}
+use Rattle.node.specs.Kids.{Reached}
+use Rattle.inner.specs.Inner.{Visit}
 use Rattle.listing.specs.Seek.{Leafy, leaves, leaves_all, first_leaf}
 use Rattle.inside.specs.Inside.{Inside, InsideAll}
-use Rattle.inside.proofs.InsideLaws.{entry_at_lem, slot_in}
-use Rattle.audit.proofs.TreeLaws.{below_short, node_short}
+use Rattle.inside.proofs.InsideLaws.{entry_at_lem, slot_kind, slot_in, below_short, node_short}
 use Rattle.seek.specs.Sub.{Sub, Placed, FirstAt, Down}
 
 -- ---- a node has two children or more, so every tree has a Leaf
@@ -64,6 +62,9 @@ mutual
 
 pub sub_slot : {E : Edition} {f : List ℕ} {s d : ℕ} → Sub E f s d → (1 ≤ s) × (entry_at s + 4 ≤ length f)
 sub_slot {E} {f} {s} S = let i = slot_in f s S.lay S.inside S.slot_is in (i.first, i.last)
+
+pub sub_kind : {E : Edition} {f : List ℕ} {s d : ℕ} → Sub E f s d → (1 ≤ high_of f s) × (high_of f s ≤ 8)
+sub_kind {E} {f} {s} S = slot_kind E f S.path s S.lay S.tree S.slot_is
 
 -- ---- the end: a Leaf
 
@@ -114,33 +115,38 @@ down_to D W = record { sub = W.sub; same = λ path l T q. D.same path l T q ∙ 
 
 -- ---- an inner node
 
-first_kid : (E : Edition) (L : Lawful E) (f path : List ℕ) (ks : LayKids) (d o b c : ℕ) → length path ≡ d → d < E.longest → Bytes f → InsideAll f ks → Trees E f path ks → 2 ≤ length (pairs ks) → (b ≡ (next_kid 0 (pairs ks)).0) × (c ≡ (next_kid 0 (pairs ks)).1)
+first_kid : (E : Edition) (L : Lawful E) (f path : List ℕ) (ks : LayKids) (d c : ℕ) → length path ≡ d → d < E.longest → Bytes f → InsideAll f ks → Trees E f path ks → 2 ≤ length (pairs ks) → c ≡ child_in (pairs ks) 0
     → (S : Sub E f c (d + 1)) × (first_leaf (leaves_all ks) ≡ first_leaf (leaves S.lay))
-unfolding Trees InsideAll pairs next_kid
-first_kid E L f path nil d o b c D m B I T h e = absurd (omega arith)
-first_kid E L f path (kid x j l ks) d o b c D m B I T h e =
-    let z : c ≡ slot_of l = e.1 ∙ rw (le-ltb x 0 (omega arith)) in (
-      record { lawful = L; lay = l; path = path ++ x ∷ []; tree = T.0; slot_is = sym z; inside = I.0; bytes = B; deep = omega (arith, length-append path (x ∷ [])); short = omega arith },
-      first_append (leaves l) (leaves_all ks) (tree_full E f (path ++ x ∷ []) l T.0),
-    )
+unfolding Trees InsideAll pairs
+first_kid E L f path nil d c D m B I T h e = absurd (omega arith)
+first_kid E L f path (kid x j l ks) d c D m B I T h e = (
+  record { lawful = L; lay = l; path = path ++ x ∷ []; tree = T.0; slot_is = sym e; inside = I.0; bytes = B; deep = omega (arith, length-append path (x ∷ [])); short = omega arith },
+  first_append (leaves l) (leaves_all ks) (tree_full E f (path ++ x ∷ []) l T.0),
+)
 
-pub node_some : (E : Edition) (f path : List ℕ) (s o kind : ℕ) (l : Lay) → Tree E f path l → slot_of l ≡ s → (high_of f s ≡ leaf_kind → ⊥) → (high_of f s ≡ prefix_kind → ⊥) → high_of f s ≡ kind → place_of f s ≡ o → NodeSome f o kind
+pub reached_first : (ks : List (ℕ × ℕ)) → Reached ks 0 0
+reached_first ks = record { past = λ j l. absurd (omega arith); ahead = λ l. omega arith }
+
+-- a walk through the children of an inner node stands before the first
+pub node_visit : (E : Edition) (f path : List ℕ) (s o kind : ℕ) (l : Lay) → Tree E f path l → slot_of l ≡ s → (high_of f s ≡ leaf_kind → ⊥) → (high_of f s ≡ prefix_kind → ⊥) → high_of f s ≡ kind → place_of f s ≡ o → Visit f o kind 0 0
 unfolding Tree
-node_some E f path s o kind (leaf s' o' e k v) T q x y h p = absurd (x (rw q at T.0.kind_is))
-node_some E f path s o kind (prefix s' o' b l) T q x y h p = absurd (y (rw q at T.0.kind_is))
-node_some E f path s o kind (node s' o' kind' ks) T q x y h p =
+node_visit E f path s o kind (leaf s' o' e k v) T q x y h p = absurd (x (rw q at T.0.kind_is))
+node_visit E f path s o kind (prefix s' o' b l) T q x y h p = absurd (y (rw q at T.0.kind_is))
+node_visit E f path s o kind (node s' o' kind' ks) T q x y h p =
     let e = entry_at_lem f s' s kind' kind o' o q h p T.0 in
-    record { kids = pairs ks; node = rw (e.0, e.1) at T.1.inner }
+    let r = T.1.inner.range in
+    let n = two_least kind' (length (pairs ks)) r.0 r.1 T.1.least in
+    record { kids = pairs ks; node = rw (e.0, e.1) at T.1.inner; inside = omega arith; reached = reached_first (pairs ks); low = omega arith }
 
-pub node_below : (E : Edition) (L : Lawful E) (f path : List ℕ) (s d o kind b c : ℕ) (l : Lay) → Bytes f → length path ≡ d → Inside f l → Tree E f path l → slot_of l ≡ s → (high_of f s ≡ leaf_kind → ⊥) → (high_of f s ≡ prefix_kind → ⊥) → high_of f s ≡ kind → place_of f s ≡ o
-    → ((ks : List (ℕ × ℕ)) → InnerAt f o kind ks → (b ≡ (next_kid 0 ks).0) × (c ≡ (next_kid 0 ks).1)) → Below E f d o l c 1
+pub node_below : (E : Edition) (L : Lawful E) (f path : List ℕ) (s d o kind c : ℕ) (l : Lay) → Bytes f → length path ≡ d → Inside f l → Tree E f path l → slot_of l ≡ s → (high_of f s ≡ leaf_kind → ⊥) → (high_of f s ≡ prefix_kind → ⊥) → high_of f s ≡ kind → place_of f s ≡ o
+    → ((ks : List (ℕ × ℕ)) → InnerAt f o kind ks → Reached ks 0 0 → c ≡ child_in ks 0) → Below E f d o l c 1
 unfolding Tree Inside
-node_below E L f path s d o kind b c (leaf s' o' e k v) B D I T q x y h p N = absurd (x (rw q at T.0.kind_is))
-node_below E L f path s d o kind b c (prefix s' o' r l) B D I T q x y h p N = absurd (y (rw q at T.0.kind_is))
-node_below E L f path s d o kind b c (node s' o' kind' ks) B D I T q x y h p N =
+node_below E L f path s d o kind c (leaf s' o' e k v) B D I T q x y h p N = absurd (x (rw q at T.0.kind_is))
+node_below E L f path s d o kind c (prefix s' o' r l) B D I T q x y h p N = absurd (y (rw q at T.0.kind_is))
+node_below E L f path s d o kind c (node s' o' kind' ks) B D I T q x y h p N =
     let e = entry_at_lem f s' s kind' kind o' o q h p T.0 in
     let A : InnerAt f o kind (pairs ks) = rw (e.0, e.1) at T.1.inner in
     let r = T.1.inner.range in
     let m = node_short L f path (node s' o' kind' ks) B tt T in
-    let K = first_kid E L f path ks d o b c D (omega arith) B I.1 T.2 (two_least kind' (length (pairs ks)) r.0 r.1 T.1.least) (N (pairs ks) A) in
+    let K = first_kid E L f path ks d c D (omega arith) B I.1 T.2 (two_least kind' (length (pairs ks)) r.0 r.1 T.1.least) (N (pairs ks) A (reached_first (pairs ks))) in
     record { sub = K.0; first = K.1; falls = omega arith }

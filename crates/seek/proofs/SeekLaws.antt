@@ -1,9 +1,9 @@
 -- One law for each way that the seek goes in a frame. Assumes nothing.
-use Prim.Native.Nat.{ℕ, suc, ◌+◌, ◌<◌, ◌≤◌}
+use Prim.Native.Nat.{ℕ, suc, ◌+◌, ◌<◌}
 use native.Mathlib.Omega.{arith}
 use mathlib.Core.Path.{◌≡◌, refl, sym, ap, ◌∙◌}
 use mathlib.Core.List.{List, [], ◌∷◌, ◌++◌, append_assoc}
-use mathlib.Core.Option.{none}
+use mathlib.Core.Option.{none, some}
 use lib.ListN.{length, length-append, drop, take-append-drop}
 use Rattle.layout.specs.Number.{Bytes}
 use Rattle.model.specs.Edition.{Edition, Lawful}
@@ -11,12 +11,11 @@ use Rattle.model.specs.Body.{Asc, look_kid}
 use Rattle.model.specs.Frame.{Lay, LayKids, slot_of, pairs, Tree, Trees}
 use Rattle.model.specs.Frame.Lay.{leaf, prefix, node}
 use Rattle.model.specs.Frame.LayKids.{nil, kid}
-use Rattle.model.proofs.StringLaws.{eqb_cases, ltb_cases}
-use Rattle.node.specs.Kids.{next_kid, or_zero}
+use Rattle.model.proofs.StringLaws.{eqb_cases, ltb_cases, clash}
+use Rattle.node.specs.Kids.{next_kid}
 use Rattle.listing.specs.Seek.{leaves, leaves_all, first_leaf, kids_from, leaves_at, AllL, From, Under, Kept}
 use Rattle.listing.proofs.SeekLaws.{all_append, all_map}
 use Rattle.inside.specs.Inside.{Inside, InsideAll}
-use Rattle.inside.proofs.InsideLaws.{slot_in}
 use Rattle.seek.specs.Sub.{Sub}
 use Rattle.seek.proofs.DownLaws.{tree_full, first_append}
 
@@ -69,16 +68,16 @@ module _ (E : Edition) (L : Lawful E) (f path : List ℕ) (d : ℕ) (B : Bytes f
       (λ t o. rw t (kids_some (suc b) x ks A.3 T.1 I.1 (rw t at e)))
       (λ t o. rw t (sub_of b l T.0 I.0, first_append (leaves l) (leaves_all ks) (tree_full E f (path ++ b ∷ []) l T.0)))
 
-  pub kid_gone : (x : ℕ) (ks : LayKids) → Trees E f path ks → InsideAll f ks → or_zero (look_kid x (pairs ks)) ≡ 0 → leaves_at x ks ≡ []
+  pub kid_gone : (x : ℕ) (ks : LayKids) → Trees E f path ks → InsideAll f ks → none ≡ look_kid x (pairs ks) → leaves_at x ks ≡ []
   unfolding pairs look_kid Trees InsideAll
   kid_gone x nil T I e = refl
   kid_gone x (kid b j l ks) T I e = eqb_cases b x
-      (λ t q. let z : slot_of l ≡ 0 = rw t at e in let y = (slot_in f (slot_of l) l I.0 refl).first in absurd (omega arith))
+      (λ t q. clash (let z = rw t at e in cc))
       (λ t n. rw t (kid_gone x ks T.1 I.1 (rw t at e)))
 
-  pub kid_there : (x : ℕ) (ks : LayKids) → Trees E f path ks → InsideAll f ks → 1 ≤ or_zero (look_kid x (pairs ks)) → (S : Sub E f (or_zero (look_kid x (pairs ks))) (d + 1)) × (S.path ≡ path ++ x ∷ []) × (leaves_at x ks ≡ leaves S.lay)
+  pub kid_there : (x c : ℕ) (ks : LayKids) → Trees E f path ks → InsideAll f ks → some c ≡ look_kid x (pairs ks) → (S : Sub E f c (d + 1)) × (S.path ≡ path ++ x ∷ []) × (leaves_at x ks ≡ leaves S.lay)
   unfolding pairs look_kid Trees InsideAll
-  kid_there x nil T I e = absurd (omega arith)
-  kid_there x (kid b j l ks) T I e = eqb_cases b x
-      (λ t q. rw t (sub_of b l T.0 I.0, ap (λ (y : ℕ). path ++ y ∷ []) q, refl))
-      (λ t n. rw t (kid_there x ks T.1 I.1 (rw t at e)))
+  kid_there x c nil T I e = clash (cc)
+  kid_there x c (kid b j l ks) T I e = eqb_cases b x
+      (λ t q. let z : some c ≡ some (slot_of l) = rw t at e in let v : slot_of l ≡ c = cc in rw (t, ← v) (sub_of b l T.0 I.0, ap (λ (y : ℕ). path ++ y ∷ []) q, refl))
+      (λ t n. rw t (kid_there x c ks T.1 I.1 (rw t at e)))

@@ -21,16 +21,14 @@ use Rattle.model.specs.Frame.Lay.{leaf, prefix, node}
 use Rattle.model.proofs.StringLaws.{bool_cases}
 use Rattle.model.proofs.StandsGood.{bytes_text}
 use Rattle.model.proofs.UniqueLaws.{tree_unique}
-use Rattle.node.specs.Kids.{next_kid, or_zero}
+use Rattle.node.specs.Kids.{next_kid}
 use Rattle.keys.proofs.KeyLaws.{text_part}
 use Rattle.listing.specs.Seek.{Leafy, leaves, leaves_all, weigh, reach, first_from, first_leaf, or_else, kids_from, leaves_at, Kept}
 use Rattle.listing.proofs.SeekLaws.{weigh_append, weigh_byte, seek_above, seek_below, node_tail, node_byte}
 use Rattle.std.specs.Prelude.{Option as Optional, Some, None}
 use Rattle.seek.specs.declared.Spare.{Spare}
 use Rattle.inside.specs.Inside.{Inside, InsideAll}
-use Rattle.inside.proofs.InsideLaws.{entry_at_lem}
-use Rattle.audit.proofs.TreeLaws.{below_short, node_short}
-use Rattle.seek.specs.Sub.{Sub}
+use Rattle.inside.proofs.InsideLaws.{entry_at_lem, below_short, node_short}
 use Rattle.seek.specs.Seek.{Fallback, Falls, Is, SoughtAt, Guided, Seeking, Nearer, LeafSome}
 use Rattle.seek.proofs.DownLaws.{Full, tree_full}
 use Rattle.seek.proofs.LeafLaws.{key_there}
@@ -283,20 +281,18 @@ module _ {E : Edition} {f g w : List ℕ} {t s s' d : ℕ} {p : Optional Spare} 
           ∙ rw (at_node.leaves_are, node_byte K.guides K.sub.path K.undecided 0 at_node.kids (get_or w d 0) (drop (suc d) w) kept next_byte) (or_assoc (first_from g t (leaves_at (get_or w d 0) at_node.kids)) (first_leaf (leaves_all (kids_from (suc (get_or w d 0)) at_node.kids))) K.spare)
 
       -- no child has the byte
-      pub node_miss : {r : Optional ℕ} {c : ℕ} → ((ks : List (ℕ × ℕ)) → InnerAt f o kind ks → c ≡ or_zero (look_kid (get_or w d 0) ks)) → c ≡ 0
+      pub node_miss : {r : Optional ℕ} → ((ks : List (ℕ × ℕ)) → InnerAt f o kind ks → none ≡ look_kid (get_or w d 0) ks)
           → Is (or_else (first_leaf (leaves_all (kids_from (suc (get_or w d 0)) at_node.kids))) K.spare) r → SoughtAt E f g t s r
-      node_miss {r} {c} C z i path l T j =
+      node_miss {r} C i path l T j =
           as_is (first_from g t (leaves l)) (or_else (first_leaf (leaves_all (kids_from (suc (get_or w d 0)) at_node.kids))) K.spare)
-          (split path l T j ∙ rw (kid_gone E K.sub.lawful f K.sub.path d K.sub.bytes K.sub.deep at_node.short (get_or w d 0) at_node.kids at_node.trees at_node.inside (sym (C (pairs at_node.kids) at_node.inner) ∙ z))) i
+          (split path l T j ∙ rw (kid_gone E K.sub.lawful f K.sub.path d K.sub.bytes K.sub.deep at_node.short (get_or w d 0) at_node.kids at_node.trees at_node.inside (C (pairs at_node.kids) at_node.inner))) i
 
       -- one has
-      pub node_on : {p' : Optional Spare} {c : ℕ} → Nearer f o kind (suc (get_or w d 0)) d p p' → ((ks : List (ℕ × ℕ)) → InnerAt f o kind ks → c ≡ or_zero (look_kid (get_or w d 0) ks)) → (c ≡ 0 → ⊥) → Seeking E f g w t s c (d + 1) p'
-      node_on {p'} {c} N C n =
-          let u = C (pairs at_node.kids) at_node.inner in
-          let S = kid_there E K.sub.lawful f K.sub.path d K.sub.bytes K.sub.deep at_node.short (get_or w d 0) at_node.kids at_node.trees at_node.inside (omega arith) in
-          let S' : Sub E f c (d + 1) = record { lawful = K.sub.lawful; lay = S.0.lay; path = S.0.path; tree = S.0.tree; slot_is = S.0.slot_is ∙ sym u; inside = S.0.inside; bytes = S.0.bytes; deep = S.0.deep; short = S.0.short } in
+      pub node_on : {p' : Optional Spare} {c : ℕ} → Nearer f o kind (suc (get_or w d 0)) d p p' → ((ks : List (ℕ × ℕ)) → InnerAt f o kind ks → some c ≡ look_kid (get_or w d 0) ks) → Seeking E f g w t s c (d + 1) p'
+      node_on {p'} {c} N C =
+          let S = kid_there E K.sub.lawful f K.sub.path d K.sub.bytes K.sub.deep at_node.short (get_or w d 0) c at_node.kids at_node.trees at_node.inside (C (pairs at_node.kids) at_node.inner) in
           record {
-            sub = S';
+            sub = S.0;
             guides = K.guides;
             undecided = ap (λ (x : List ℕ). weigh w t x) S.1 ∙ weigh_byte w t K.sub.path (get_or w d 0) (drop (suc d) w) (get_or w d 0) K.undecided next_byte ∙ rw (le-ltb (get_or w d 0) (get_or w d 0) (omega arith), eq-eqb (get_or w d 0) (get_or w d 0) refl);
             spare = or_else (first_leaf (leaves_all (kids_from (suc (get_or w d 0)) at_node.kids))) K.spare;

@@ -4,6 +4,7 @@
 
 ghost use Rattle.std.specs.Prelude.{◌≡◌, ℕ, ◌+◌, ◌≤◌, ◌<◌, length, take, drop, List};
 ghost use Rattle.std.specs.Ordering.{ordering_index};
+ghost use Rattle.layout.specs.Kind.{number_of};
 ghost use Rattle.inner.specs.Inner.{NodeSome};
 ghost use Rattle.seek.specs.Sub.{Sub, FirstAt};
 ghost use Rattle.model.specs.Edition.{Edition, SomeEdition, Value};
@@ -27,9 +28,6 @@ pub struct Spare {
 // The tail of a bound past all keys that begin with its text. A tail stays a number: bytes are compared with it, and an enum is no plainer.
 const PAST_ALL: usize = 256;
 
-// what `next_child` gives for a byte where there is no child
-const NO_BYTE: usize = 256;
-
 // The first Leaf, in byte order, of the tree at a slot to which `depth` bytes lead: down the lowest children. The place of its body.
 pub fn first(f: &[u8], slot: usize, depth: usize) -> usize
     requires { SomeEdition (λ E. Sub E f.now slot depth) }
@@ -41,17 +39,17 @@ pub fn first(f: &[u8], slot: usize, depth: usize) -> usize
     // It follows slots and steps no index: a `for` is no plainer.
     loop {
         let e = Entry::read(f, s);
-        if e.high == Kind::LEAF {
-            return e.place;
+        match e.kind() {
+            Kind::Leaf => return e.place,
+            Kind::Prefix => {
+                s = Prefix::child(f, e.place);
+                d += Prefix::length(f, e.place);
+            }
+            kind => {
+                s = visit::child_at(f, e.place, kind, 0, 0).slot;
+                d += 1;
+            }
         }
-        if e.high == Kind::PREFIX {
-            s = Prefix::child(f, e.place);
-            d += Prefix::length(f, e.place);
-            continue;
-        }
-        let k = visit::next_child(f, e.place, e.high, 0);
-        s = k.slot;
-        d += 1;
     }
 }
 
@@ -91,18 +89,17 @@ pub fn weigh_bytes(f: &[u8], at: usize, n: usize, text: &[u8], d: usize, tail: u
 }
 
 // The first child of a node from byte b on, as what a seek falls back on.
-fn nearer(f: &[u8], o: usize, kind: usize, b: usize, d: usize, old: Option<Spare>) -> Option<Spare>
-    requires { NodeSome f.now o kind × (b ≤ 256) × (d ≤ 512) }
-    ensures { Nearer f.now o kind b d old result }
+fn nearer(f: &[u8], o: usize, kind: Kind, b: usize, d: usize, old: Option<Spare>) -> Option<Spare>
+    requires { NodeSome f.now o (number_of kind) × (b ≤ 256) × (d ≤ 512) }
+    ensures { Nearer f.now o (number_of kind) b d old result }
 {
-    let k = visit::next_child(f, o, kind, b);
-    if k.byte == NO_BYTE {
-        return old;
+    match visit::next_child(f, o, kind, b) {
+        Some(child) => Some(Spare {
+            slot: child.slot,
+            depth: d + 1,
+        }),
+        None => old,
     }
-    Some(Spare {
-        slot: k.slot,
-        depth: d + 1,
-    })
 }
 
 // The first Leaf of what the seek falls back on.
@@ -149,34 +146,38 @@ pub fn seek(f: &[u8], root: usize, text: &[u8], word: &[u8], tail: usize) -> Opt
     // It follows slots and steps no index: a `for` is no plainer.
     loop {
         let e = Entry::read(f, s);
-        if e.high == Kind::LEAF {
-            if leaf_reaches(f, e.place, text, tail) {
-                return Some(e.place);
+        match e.kind() {
+            Kind::Leaf => {
+                if leaf_reaches(f, e.place, text, tail) {
+                    return Some(e.place);
+                }
+                return fall_back(f, spare);
             }
-            return fall_back(f, spare);
-        }
-        if e.high == Kind::PREFIX {
-            let n = Prefix::length(f, e.place);
-            match weigh_bytes(f, e.place + Prefix::BYTES, n, word, d, tail) {
-                Ordering::Greater => return fall_back(f, Some(Spare { slot: s, depth: d })),
-                Ordering::Less => return fall_back(f, spare),
-                Ordering::Equal => {
-                    s = Prefix::child(f, e.place);
-                    d += n;
-                    continue;
+            Kind::Prefix => {
+                let n = Prefix::length(f, e.place);
+                match weigh_bytes(f, e.place + Prefix::BYTES, n, word, d, tail) {
+                    Ordering::Greater => return fall_back(f, Some(Spare { slot: s, depth: d })),
+                    Ordering::Less => return fall_back(f, spare),
+                    Ordering::Equal => {
+                        s = Prefix::child(f, e.place);
+                        d += n;
+                    }
+                }
+            }
+            kind => {
+                if word.len() <= d {
+                    return fall_back(f, nearer(f, e.place, kind, tail, d, spare));
+                }
+                let b = word[d];
+                spare = nearer(f, e.place, kind, usize::from(b) + 1, d, spare);
+                match look::seat(f, e.place, kind, b).slot {
+                    Some(slot) => {
+                        s = slot;
+                        d += 1;
+                    }
+                    None => return fall_back(f, spare),
                 }
             }
         }
-        if word.len() <= d {
-            return fall_back(f, nearer(f, e.place, e.high, tail, d, spare));
-        }
-        let b = word[d];
-        spare = nearer(f, e.place, e.high, usize::from(b) + 1, d, spare);
-        let k = look::seat(f, e.place, e.high, b);
-        if k.slot == 0 {
-            return fall_back(f, spare);
-        }
-        s = k.slot;
-        d += 1;
     }
 }
