@@ -23,8 +23,7 @@ pub fn within(at: usize, left: usize) -> usize
     requires { 1 ≤ left }
     ensures { Run at left result }
 {
-    let room = WORD - at % WORD;
-    if left < room { left } else { room }
+    left.min(WORD - at % WORD)
 }
 
 // Units that stand in one word.
@@ -49,6 +48,7 @@ fn claim_across(map: &mut [u64], from: usize, count: usize) -> bool
 {
     let mut at = from;
     let mut left = count;
+    // the steps are of changing length, a part of a word and then whole words: a range is no plainer
     while left > 0 {
         let n = within(at, left);
         let bits = mask(at % WORD, n);

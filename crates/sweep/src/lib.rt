@@ -35,6 +35,7 @@ fn units(f: &[u8], bits: u64, from: usize) -> bool
 {
     let mut joined = 0;
     let mut left = bits;
+    // it steps over digits and no index: a range is no plainer
     while left != 0 {
         joined = joined | eight(f, from + UNIT * lowest(left));
         left = but_lowest(left);
@@ -61,6 +62,7 @@ pub fn swept(f: &[u8], map: &[u64], d: usize, b: usize) -> bool
 {
     let mut at = d / UNIT;
     let mut left = (b - d) / UNIT;
+    // the steps are of changing length: a range is no plainer
     while left > 0 {
         let n = within(at, left);
         if !run(f, map[at / WORD], at, n) {
