@@ -21,14 +21,12 @@ fn rising(f: &[u8], at: usize, cap: usize, n: usize) -> bool
 {
     // the least that the next byte may be
     let mut low = 0;
-    let mut i = 0;
-    while i < n {
+    for i in 0..n {
         let b = Rows::byte(f, at, i);
         if b < low {
             return false;
         }
         low = b + 1;
-        i += 1;
     }
     true
 }
@@ -38,15 +36,13 @@ fn unused(f: &[u8], at: usize, cap: usize, n: usize) -> bool
     requires { (n ≤ cap) × (at + 5 * cap ≤ length f.now) }
     ensures { Decides (Unused f.now at cap n cap) result }
 {
-    let mut i = n;
-    while i < cap {
+    for i in n..cap {
         if Rows::byte(f, at, i) != 0 {
             return false;
         }
         if Rows::child(f, at + cap, i) != 0 {
             return false;
         }
-        i += 1;
     }
     true
 }
@@ -65,10 +61,11 @@ fn sorted_good(f: &[u8], at: usize, cap: usize, n: usize) -> bool
 // ---- Node48 and Node256
 
 // 1 for a child or an entry that is in use, 0 for one that is 0. A loop that counts so goes one way, whatever the bytes are.
+#[tactic(auto, using(crate::proofs::KidsLaws::in_use_zero, crate::proofs::KidsLaws::in_use_other))]
 fn in_use(x: usize) -> usize
     ensures { (result ≡ in_use x) × (result ≤ 1) }
 {
-    if x == 0 { 0 } else { 1 }
+    usize::from(x != 0)
 }
 
 // ---- Node48
@@ -78,16 +75,13 @@ fn unmarked(f: &[u8], o: usize, seen: &[u8]) -> bool
     requires { (o + 456 ≤ length f.now) × (length seen.now ≡ 256) }
     ensures { Decides (Unmarked f.now (o + node48_children) seen.now) result }
 {
-    let mut p = 0;
-    while p < Node48::PLACES {
+    for p in 0..Node48::PLACES {
         if seen[p + 1] != 0 {
-            p += 1;
             continue;
         }
         if Node48::child(f, o, p) != 0 {
             return false;
         }
-        p += 1;
     }
     true
 }
@@ -102,13 +96,11 @@ fn indexed_good(f: &[u8], o: usize, n: usize) -> bool
     // not 0 once a place has been named again
     let mut twice: u8 = 0;
     let mut used: usize = 0;
-    let mut b = 0;
-    while b < Node::BYTE_VALUES {
+    for b in 0..Node::BYTE_VALUES {
         let p = Node48::entry(f, o, b);
-        twice = twice | seen[p];
+        twice |= seen[p];
         seen[p] = p as u8;
         used += in_use(p);
-        b += 1;
     }
     if twice != 0 {
         return false;
@@ -131,10 +123,8 @@ fn direct_good(f: &[u8], o: usize, n: usize) -> bool
     ensures { Decides (length (kids256 f.now o) ≡ n) result }
 {
     let mut used: usize = 0;
-    let mut b = 0;
-    while b < Node::BYTE_VALUES {
+    for b in 0..Node::BYTE_VALUES {
         used += in_use(Node256::child(f, o, b));
-        b += 1;
     }
     used == n
 }

@@ -8,8 +8,8 @@ use Rattle.shape_inner.proofs.direct_good.Goals as goal
 
 pub loop-b-preserved : goal.loop-b-preserved
 loop-b-preserved c = let a = c.args in let e = c.in_use-used.ensures.0 ∙ ap in_use c.child.ensures.0 in
-    (omega arith, omega arith, rw e (direct_more a.f.now a.o c.loop-b.b c.loop-b.used (omega arith) c.loop-b.invariant.2))
+    (omega arith, rw e (direct_more a.f.now a.o c.loop-b.b c.loop-b.used (omega arith) c.loop-b.invariant.1))
 
 pub returns : goal.returns
-returns c = let a = c.args in let e = counted_end (child256 a.f.now a.o) c.loop-b.b c.loop-b.used (omega arith) c.loop-b.invariant.2 in
+returns c = let a = c.args in let e = counted_end (child256 a.f.now a.o) c.loop-b.b c.loop-b.used (omega arith) c.loop-b.invariant.1 in
     by_eq c.loop-b.used a.n (λ q. sym e ∙ q) (λ q. e ∙ q)

@@ -5,17 +5,16 @@ use Rattle.shape_inner.proofs.SortedLaws.{left_all, left_more, left_low, left_en
 use Rattle.shape_inner.proofs.rising.Goals as goal
 
 pub loop-i-init : goal.loop-i-init
-loop-i-init c = let a = c.args in (omega arith, omega arith, left_all a.f.now a.at a.cap a.n)
+loop-i-init c = let a = c.args in (omega arith, left_all a.f.now a.at a.cap a.n)
 
 pub returns-then-b-low : goal.returns-then-b-low
-returns-then-b-low c = let a = c.args in denied (left_low a.f.now a.at a.cap a.n c.loop-i.i c.loop-i.low (omega arith) c.loop-i.invariant.2 (omega arith))
+returns-then-b-low c = let a = c.args in denied (left_low a.f.now a.at a.cap a.n c.loop-i.i c.loop-i.low (omega arith) c.loop-i.invariant.1 (omega arith))
 
 pub loop-i-preserved : goal.loop-i-preserved
 loop-i-preserved c = let a = c.args in (
   omega arith,
-  omega arith,
-  rw c.byte-b.ensures.0 (left_more a.f.now a.at a.cap a.n c.loop-i.i c.loop-i.low (λ k. (c.shared_slice_known-1.given k).fits) (omega arith) (omega arith) c.loop-i.invariant.2),
+  rw c.byte-b.ensures.0 (left_more a.f.now a.at a.cap a.n c.loop-i.i c.loop-i.low (λ k. (c.shared_slice_known-1.given k).fits) (omega arith) (omega arith) c.loop-i.invariant.1),
 )
 
 pub returns : goal.returns
-returns c = let a = c.args in granted (left_end a.f.now a.at a.cap a.n c.loop-i.i c.loop-i.low (omega arith) c.loop-i.invariant.2)
+returns c = let a = c.args in granted (left_end a.f.now a.at a.cap a.n c.loop-i.i c.loop-i.low (omega arith) c.loop-i.invariant.1)
