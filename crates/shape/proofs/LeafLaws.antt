@@ -1,12 +1,13 @@
 -- The test of a Leaf against its path, exit by exit. Assumes nothing.
 use Prim.Native.Nat.{ℕ, ◌+◌, ◌-◌, ◌<◌, ◌≤◌}
 use mathlib.Core.Path.{◌≡◌, refl, sym, ap, ◌∙◌}
-use mathlib.Core.List.{List, [], ◌∷◌}
-use mathlib.Core.Bool.{Bool, true, false}
+use mathlib.Core.List.{List, ◌∷◌, []}
+use mathlib.Core.Bool.{Bool}
 use mathlib.Core.Logic.{⊎_elim}
 use native.Mathlib.Omega.{arith}
 use lib.ListN.{length, get_or, take, drop, length-append, length-take, length-drop, get_or-eq_default}
-use lib.Seq.{get_or-take, get_or-drop, length-take-le}
+use lib.Seq.{get_or-take, get_or-drop}
+use Rattle.std.specs.Prelude.{Some, None}
 use Rattle.layout.specs.Number.{byte_at, le, Bytes}
 use Rattle.layout.specs.Place.{leaf_extent, leaf_key, leaf_value, leaf_stamp}
 use Rattle.layout.proofs.NumberLaws.{lt_or_le, le_lt}
@@ -27,46 +28,41 @@ use Rattle.shape.proofs.BytesLaws.{bytes_from, bytes_long, bytes_append, text_le
 
 -- ---- the key
 
--- no path at all
-pub under_lone : {E : Edition} {key : List ℕ} → E.key_fault key ≡ 0 → Under E [] key
-under_lone e = record { legal = e; begins = refl }
-
--- the k bytes from e are a legal key of edition 1, and its walked string begins with the first depth bytes of a path: by their places
-pub record PlainHere (f : List ℕ) (e k : ℕ) (path : List ℕ) (depth : ℕ) : Type 0 where
+-- the k bytes from e are a legal key of edition 1, and its walked string begins with a path: by their places
+pub record PlainHere (f : List ℕ) (e k : ℕ) (path : List ℕ) : Type 0 where
   pub some : 1 ≤ k
   pub most : k ≤ 112
-  pub short : depth ≤ k + 1
+  pub short : length path ≤ k + 1
   pub clean : Clean f e (e + k)
-  pub same : (i : ℕ) → i < depth → i < k → byte_at f (e + i) ≡ get_or path i 0
-  pub end : k < depth → get_or path k 0 ≡ 0
+  pub same : (i : ℕ) → i < length path → i < k → byte_at f (e + i) ≡ get_or path i 0
+  pub end : k < length path → get_or path k 0 ≡ 0
 
-module _ (f : List ℕ) (e k : ℕ) (path : List ℕ) (depth : ℕ) where
-  pub plain_end : PlainHere f e k path depth → Ends path k depth
+module _ (f : List ℕ) (e k : ℕ) (path : List ℕ) where
+  pub plain_end : PlainHere f e k path → Ends path k (length path)
   plain_end K = record { short = K.short; end = K.end }
 
-  pub plain_follows : (n : ℕ) → n ≤ depth → n ≤ k → PlainHere f e k path depth → Alike f e path 0 n
+  pub plain_follows : (n : ℕ) → n ≤ length path → n ≤ k → PlainHere f e k path → Alike f e path 0 n
   plain_follows n x y K i l = let z : 0 + i ≡ i = omega arith in rw z (K.same i (omega arith) (omega arith))
 
-  plain_here : (n : ℕ) → 1 ≤ k → k ≤ 112 → ((i : ℕ) → i < depth → i < k → i < n) → Ends path k depth → Alike f e path 0 n → Clean f e (e + k) → PlainHere f e k path depth
+  plain_here : (n : ℕ) → 1 ≤ k → k ≤ 112 → ((i : ℕ) → i < length path → i < k → i < n) → Ends path k (length path) → Alike f e path 0 n → Clean f e (e + k) → PlainHere f e k path
   plain_here n a z h E F C =
       record { some = a; most = z; short = E.short; clean = C; same = λ i x y. let z : 0 + i ≡ i = omega arith in rw z at (F i (h i x y)); end = E.end }
 
-  module _ (room : e + k ≤ length f) (deep : depth ≤ length path) where
+  module _ (room : e + k ≤ length f) where
     key_long : length (take k (drop e f)) ≡ k
     key_long = simp (length-take, length-drop) (omega arith)
 
     key_byte : (i : ℕ) → i < k → byte_at f (e + i) ≡ get_or (take k (drop e f)) i 0
     key_byte i l = rw (get_or-take k (drop e f) i 0 l, get_or-drop)
 
-    pub plain_of : PlainUnder (take depth path) (take k (drop e f)) → PlainHere f e k path depth
+    pub plain_of : PlainUnder path (take k (drop e f)) → PlainHere f e k path
     plain_of U =
         let key = take k (drop e f) in
         let m = key_long in
         let chars = zero_free key U.clean in
-        let long = length-take-le depth path deep in
-        let B = begins_at (ended key) (take depth path) U.begins in
-        let W : (i : ℕ) → i < depth → get_or key i 0 ≡ get_or path i 0
-        = λ i l. sym (walked_at key i) ∙ B.same i (omega arith) ∙ get_or-take depth path i 0 l in
+        let B = begins_at (ended key) path U.begins in
+        let W : (i : ℕ) → i < length path → get_or key i 0 ≡ get_or path i 0
+        = λ i l. sym (walked_at key i) ∙ B.same i l in
         record {
           some = omega (arith, U.some);
           most = omega (arith, U.most);
@@ -78,30 +74,29 @@ module _ (f : List ℕ) (e k : ℕ) (path : List ℕ) (depth : ℕ) where
           end = λ l. sym (W k l) ∙ get_or-eq_default key 0 (omega arith);
         }
 
-    plain_is : PlainHere f e k path depth → PlainUnder (take depth path) (take k (drop e f))
+    plain_is : PlainHere f e k path → PlainUnder path (take k (drop e f))
     plain_is K =
         let key = take k (drop e f) in
         let m = key_long in
         let some = K.some in
         let most = K.most in
-        let long = length-take-le depth path deep in
-        let W : (i : ℕ) → i < depth → get_or key i 0 ≡ get_or path i 0
+        let W : (i : ℕ) → i < length path → get_or key i 0 ≡ get_or path i 0
         = λ i l. ⊎_elim (λ h. sym (key_byte i h) ∙ K.same i l h)
         (λ h. get_or-eq_default key 0 (omega arith) ∙ (let short = K.short in let j : i ≡ k = omega arith in rw j (sym (K.end (omega arith))))) (lt_or_le i k) in
-        let B : BeginsAt (ended key) (take depth path)
+        let B : BeginsAt (ended key) path
         = record {
           short = omega (arith, K.short, length-append key (0 ∷ []));
-          same = λ i l. walked_at key i ∙ W i (omega arith) ∙ sym (get_or-take depth path i 0 (omega arith));
+          same = λ i l. walked_at key i ∙ W i l;
         } in
         record {
           some = omega arith;
           most = omega arith;
           clean = free_zero key (at_positive key (λ i l z. K.clean (e + i) (omega arith) (omega arith) (key_byte i (omega arith) ∙ z)));
-          begins = at_begins (ended key) (take depth path) B;
+          begins = at_begins (ended key) path B;
         }
 
     -- where the rest has passed, the test of the key's bytes decides
-    pub plain_by : (n : ℕ) → 1 ≤ k → k ≤ 112 → ((i : ℕ) → i < depth → i < k → i < n) → Ends path k depth → Alike f e path 0 n → {r : Bool} → Decides (Clean f e (e + k)) r → Decides (PlainUnder (take depth path) (take k (drop e f))) r
+    pub plain_by : (n : ℕ) → 1 ≤ k → k ≤ 112 → ((i : ℕ) → i < length path → i < k → i < n) → Ends path k (length path) → Alike f e path 0 n → {r : Bool} → Decides (Clean f e (e + k)) r → Decides (PlainUnder path (take k (drop e f))) r
     plain_by n a z h E F D = handed D (λ C. plain_is (plain_here n a z h E F C)) (λ U. (plain_of U).clean)
 
 -- ---- a legal key of edition 2
@@ -110,13 +105,9 @@ module _ (f : List ℕ) (e k : ℕ) (path : List ℕ) (depth : ℕ) where
 pub fault_two : (key : List ℕ) {r : ℕ} → r ≡ (edition_of 2).key_fault key → r ≡ edition2.key_fault key
 fault_two key e = rw edition_two at e
 
--- its walked string, tested against the path as it is lent
-pub under_legal : {E : Edition} {key : List ℕ} (path : List ℕ) (depth : ℕ) {r : Bool} → E.key_fault key ≡ 0 → Decides (Begins (E.walked key) (take (depth - 0) path)) r → Decides (Under E (take depth path) key) r
-under_legal path depth e D = let z : depth - 0 ≡ depth = omega arith in handed (rw z at D) (λ B. record { legal = e; begins = B }) (λ U. U.begins)
-
--- a part of a slice is lent from its start on, as many bytes as there are to its end
-pub part_is : (E : Edition) (f : List ℕ) (e k : ℕ) → E.key_fault (take (e + k - e) (drop e f)) ≡ E.key_fault (take k (drop e f))
-part_is E f e k = let z : e + k - e ≡ k = omega arith in rw z
+-- its walked string, tested against the path
+pub under_legal : {E : Edition} {key path : List ℕ} {r : Bool} → E.key_fault key ≡ 0 → Decides (Begins (E.walked key) path) r → Decides (Under E path key) r
+under_legal e D = handed D (λ B. record { legal = e; begins = B }) (λ U. U.begins)
 
 -- by the edition
 pub under_part : {E : Edition} (f : List ℕ) {path : List ℕ} (e k : ℕ) {r : Bool} → Decides (Under E path (take (e + k - e) (drop e f))) r → Decides (Under E path (take k (drop e f))) r
@@ -149,14 +140,17 @@ pub record LeafRead (f : List ℕ) (o e k v size : ℕ) : Type 0 where
   pub value_length : v ≡ le 2 f (o + leaf_value)
   pub rounded : size ≡ up8 (k + v)
 
-pub leaf_denied : {E : Edition} {f path : List ℕ} {o d b extent size : ℕ} → ((e n : ℕ) → LeafHere E f path o d b e n → ⊥) → LeafTold E f path o d b false extent size
-leaf_denied n = record { holds = λ e. clash (cc); fails = λ e. n }
+pub leaf_read : {f : List ℕ} {o e k v size : ℕ} → e ≡ le 4 f (o + leaf_extent) → k ≡ le 2 f (o + leaf_key) → v ≡ le 2 f (o + leaf_value) → size ≡ up8 (k + v) → LeafRead f o e k v size
+leaf_read e k v s = record { extent = e; key_length = k; value_length = v; rounded = s }
+
+pub leaf_denied : {E : Edition} {f path : List ℕ} {o d b : ℕ} → ((e n : ℕ) → LeafHere E f path o d b e n → ⊥) → LeafTold E f path o d b None
+leaf_denied n = record { holds = λ x e. clash (cc); fails = λ e. n }
 
 -- the key lies within the extent
 pub leaf_room : {f : List ℕ} {o d b e k v size : ℕ} → LeafRead f o e k v size → b ≤ length f → ExtentFits e size d b → e + k ≤ length f
 leaf_room R room X = let r = R.rounded in let h = X.high in omega arith
 
-module _ {E : Edition} (f path : List ℕ) (o d b e k v size : ℕ) (R : LeafRead f o e k v size) where
+module _ {E : Edition} {f path : List ℕ} {o d b e k v size : ℕ} (R : LeafRead f o e k v size) where
   pub leaf_extent_lem : (x n : ℕ) → LeafHere E f path o d b x n → ExtentFits e size d b
   leaf_extent_lem x n L =
       let at = L.is.at in
@@ -177,7 +171,7 @@ module _ {E : Edition} (f path : List ℕ) (o d b e k v size : ℕ) (R : LeafRea
       let is : take k (drop e f) ≡ key = rw (m, q) at t in
       record { legal = rw is L.is.legal; begins = rw is L.is.begins }
 
-  pub leaf_end : b ≤ length f → ExtentFits e size d b → le 8 f (o + leaf_stamp) < E.stamps → Under E path (take k (drop e f)) → LeafTold E f path o d b true e size
+  pub leaf_end : b ≤ length f → ExtentFits e size d b → le 8 f (o + leaf_stamp) < E.stamps → Under E path (take k (drop e f)) → LeafTold E f path o d b (Some (record { place = e; size = size }))
   leaf_end room X Z U =
       let key = bytes_from f e k in
       let value : Value = record { bytes = bytes_from f (e + k) v; stamp = le 8 f (o + leaf_stamp) } in
@@ -203,4 +197,4 @@ module _ {E : Edition} (f path : List ℕ) (o d b e k v size : ℕ) (R : LeafRea
         low = X.low;
         high = X.high;
       } in
-      record { holds = λ e. l; fails = λ e. clash e }
+      record { holds = λ x q. let z : x ≡ record { place = e; size = size } = cc in rw z l; fails = λ q. clash (cc) }

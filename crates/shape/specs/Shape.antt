@@ -1,5 +1,5 @@
 -- What the tests of single things decide: "A good frame", as far as it speaks of one header, one Leaf, one Prefix.
-use Rattle.std.specs.Prelude.{ℕ, ◌+◌, ◌<◌, ◌≤◌, ◌%◌, ◌≡◌, List, Bool, true, false, length, get_or}
+use Rattle.std.specs.Prelude.{ℕ, ◌+◌, ◌<◌, ◌≤◌, ◌%◌, ◌≡◌, List, Option, Some, None, Bool, true, false, length, get_or}
 use Rattle.layout.specs.Number.{le}
 use Rattle.layout.specs.Place.{at_f, at_n, at_b, at_u, at_r, at_x, at_root, data_start}
 use Rattle.model.specs.Strings.{has_zero}
@@ -8,6 +8,7 @@ use Rattle.model.specs.Tree.{extent_of}
 use Rattle.model.specs.Body.{PrefixAt}
 use Rattle.model.specs.Frame.{Numbers, FrameLength, SlotCapacity, Header, Begins, LeafOf}
 use Rattle.keys.specs.Word.{ended}
+use Rattle.shape.specs.declared.leaf.Extent.{Extent}
 
 -- ---- the header
 
@@ -84,6 +85,6 @@ pub record LeafHere (E : Edition) (f path : List ℕ) (o d b e size : ℕ) : Typ
   pub high : e + size ≤ b
 
 -- such a Leaf stands at o, with the extent told; or none does, whatever the extent
-pub record LeafTold (E : Edition) (f path : List ℕ) (o d b : ℕ) (good : Bool) (extent size : ℕ) : Type 0 where
-  pub holds : good ≡ true → LeafHere E f path o d b extent size
-  pub fails : good ≡ false → (e n : ℕ) → LeafHere E f path o d b e n → ⊥
+pub record LeafTold (E : Edition) (f path : List ℕ) (o d b : ℕ) (r : Option Extent) : Type 0 where
+  pub holds : (x : Extent) → r ≡ Some x → LeafHere E f path o d b x.place x.size
+  pub fails : r ≡ None → (e n : ℕ) → LeafHere E f path o d b e n → ⊥

@@ -1,5 +1,5 @@
 // A Leaf's body and its extent, against the path that leads to it.
-ghost use Rattle.std.specs.Prelude.{ℕ, ◌+◌, ◌≤◌, ◌<◌, [], length, take, drop};
+ghost use Rattle.std.specs.Prelude.{◌+◌, ◌≤◌, ◌<◌, length, take, drop};
 ghost use Rattle.layout.specs.Number.{le};
 ghost use Rattle.layout.specs.Place.{leaf_stamp};
 ghost use Rattle.pieces.specs.Decides.{Decides};
@@ -11,11 +11,10 @@ use fields::body::Leaf;
 // the most bytes that a key of edition 1 has
 const KEY_MOST: usize = 112;
 
-// The answer, and of a good Leaf where its extent lies and how many bytes it has, rounded up.
-#[derive(Clone, Copy)]
-pub struct LeafFound {
-    pub good: bool,
-    pub extent: usize,
+// Where the extent of a good Leaf lies, and how many bytes it has, rounded up.
+#[derive(Clone, Copy, Debug, PartialEq, Eq)]
+pub struct Extent {
+    pub place: usize,
     pub size: usize,
 }
 
@@ -33,30 +32,23 @@ fn extent_fits(e: usize, size: usize, d: usize, b: usize) -> bool
     e + size <= b
 }
 
-// A path of a depth ends within a key of k bytes, or with the byte 0 behind it.
-fn ends(path: &[u8], k: usize, depth: usize) -> bool
-    requires { depth ≤ length path.now }
-    ensures { Decides (Ends path.now k depth) result }
+// A path ends within a key of k bytes, or with the byte 0 behind it.
+fn ends(path: &[u8], k: usize) -> bool
+    ensures { Decides (Ends path.now k (length path.now)) result }
 {
-    if depth <= k {
+    if path.len() <= k {
         return true;
     }
-    if depth != k + 1 {
+    if path.len() != k + 1 {
         return false;
     }
     path[k] == 0
 }
 
-fn lesser(a: usize, b: usize) -> usize
-    ensures { (result ≤ a) × (result ≤ b) × ((i : ℕ) → i < a → i < b → i < result) }
-{
-    if a < b { a } else { b }
-}
-
 // The k bytes at e are a legal key of edition 1, and its walked string, a byte 0 at its end, begins with the path.
-fn plain_good(f: &[u8], e: usize, k: usize, path: &[u8], depth: usize) -> bool
-    requires { (e + k ≤ length f.now) × (depth ≤ length path.now) }
-    ensures { Decides (PlainUnder (take depth path.now) (take k (drop e f.now))) result }
+fn plain_good(f: &[u8], e: usize, k: usize, path: &[u8]) -> bool
+    requires { e + k ≤ length f.now }
+    ensures { Decides (PlainUnder path.now (take k (drop e f.now))) result }
 {
     if k < 1 {
         return false;
@@ -64,10 +56,10 @@ fn plain_good(f: &[u8], e: usize, k: usize, path: &[u8], depth: usize) -> bool
     if k > KEY_MOST {
         return false;
     }
-    if !ends(path, k, depth) {
+    if !ends(path, k) {
         return false;
     }
-    if !pieces::same(f, e, path, 0, lesser(depth, k)) {
+    if !pieces::same(f, e, path, 0, path.len().min(k)) {
         return false;
     }
     if k < pieces::HALF {
@@ -78,25 +70,24 @@ fn plain_good(f: &[u8], e: usize, k: usize, path: &[u8], depth: usize) -> bool
 }
 
 // The key is a legal one of edition 2, and its walked string begins with the path.
-fn escaped_good(key: &[u8], path: &[u8], depth: usize) -> bool
-    requires { depth ≤ length path.now }
-    ensures { Decides (Under edition2 (take depth path.now) key.now) result }
+fn escaped_good(key: &[u8], path: &[u8]) -> bool
+    ensures { Decides (Under edition2 path.now key.now) result }
 {
     if keys::fault(key, keys::SECOND) != 0 {
         return false;
     }
-    keys::escaped_begins(key, &path[0..depth])
+    keys::escaped_begins(key, path)
 }
 
 // The k bytes at e are a legal key, and its walked string begins with the path.
-fn key_good(f: &[u8], e: usize, k: usize, path: &[u8], depth: usize, edition: usize) -> bool
-    requires { (e + k ≤ length f.now) × (depth ≤ length path.now) }
-    ensures { Decides (Under (edition_of edition) (take depth path.now) (take k (drop e f.now))) result }
+fn key_good(f: &[u8], e: usize, k: usize, path: &[u8], edition: usize) -> bool
+    requires { e + k ≤ length f.now }
+    ensures { Decides (Under (edition_of edition) path.now (take k (drop e f.now))) result }
 {
     if edition == keys::SECOND {
-        return escaped_good(&f[e..e + k], path, depth);
+        return escaped_good(&f[e..e + k], path);
     }
-    plain_good(f, e, k, path, depth)
+    plain_good(f, e, k, path)
 }
 
 // The Leaf at o has a stamp of the edition: edition 1 keeps zero there, and in edition 2 every number of eight bytes is one.
@@ -110,68 +101,29 @@ fn stamp_good(f: &[u8], o: usize, edition: usize) -> bool
     Leaf::unstamped(f, o)
 }
 
-// The body at o is a Leaf's whose extent lies between d and b, and the path leads to it.
+// The body at o is a Leaf's whose extent lies between d and b, and the path leads to it. No path at all is the empty one.
 pub fn leaf_good(
     f: &[u8],
     o: usize,
     path: &[u8],
-    depth: usize,
     d: usize,
     b: usize,
     edition: usize,
-) -> LeafFound
-    requires { (o + 16 ≤ length f.now) × (depth ≤ length path.now) × (b ≤ length f.now) }
-    ensures { LeafTold (edition_of edition) f.now (take depth path.now) o d b result.good result.extent result.size }
-{
-    let none = LeafFound {
-        good: false,
-        extent: 0,
-        size: 0,
-    };
-    let e = Leaf::extent(f, o);
-    let k = Leaf::key_length(f, o);
-    let size = Leaf::rounded(k + Leaf::value_length(f, o));
-    if !extent_fits(e, size, d, b) {
-        return none;
-    }
-    if !stamp_good(f, o, edition) {
-        return none;
-    }
-    if !key_good(f, e, k, path, depth, edition) {
-        return none;
-    }
-    LeafFound {
-        good: true,
-        extent: e,
-        size: size,
-    }
-}
-
-// The body at o is a Leaf's whose extent lies between d and b; no path leads to it, so that its key is only to be a legal one.
-pub fn lone_good(f: &[u8], o: usize, d: usize, b: usize, edition: usize) -> LeafFound
+) -> Option<Extent>
     requires { (o + 16 ≤ length f.now) × (b ≤ length f.now) }
-    ensures { LeafTold (edition_of edition) f.now [] o d b result.good result.extent result.size }
+    ensures { LeafTold (edition_of edition) f.now path.now o d b result }
 {
-    let none = LeafFound {
-        good: false,
-        extent: 0,
-        size: 0,
-    };
     let e = Leaf::extent(f, o);
     let k = Leaf::key_length(f, o);
     let size = Leaf::rounded(k + Leaf::value_length(f, o));
     if !extent_fits(e, size, d, b) {
-        return none;
+        return None;
     }
     if !stamp_good(f, o, edition) {
-        return none;
+        return None;
     }
-    if keys::fault(&f[e..e + k], edition) != 0 {
-        return none;
+    if !key_good(f, e, k, path, edition) {
+        return None;
     }
-    LeafFound {
-        good: true,
-        extent: e,
-        size: size,
-    }
+    Some(Extent { place: e, size })
 }

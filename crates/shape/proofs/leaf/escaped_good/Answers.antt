@@ -10,4 +10,4 @@ returns-then-fault-ne0 c =
 
 pub returns : goal.returns
 returns c =
-    let a = c.args in under_legal a.path.now a.depth (sym (fault_two a.key.now c.fault.ensures) ∙ c.if-fault-ne0.false) c.escaped_begins.ensures
+    let a = c.args in under_legal (sym (fault_two a.key.now c.fault.ensures) ∙ c.if-fault-ne0.false) c.escaped_begins.ensures
