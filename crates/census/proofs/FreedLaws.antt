@@ -2,9 +2,9 @@
 use Prim.Native.Nat.{ℕ, suc, ◌+◌, ◌<◌, ◌≤◌}
 use mathlib.Core.Path.{◌≡◌, refl, sym, ap, ◌∙◌}
 use mathlib.Core.List.{List, [], ◌∷◌, ◌++◌}
-use mathlib.Core.Bool.{true, false}
 use native.Mathlib.Omega.{arith}
 use lib.ListN.{length}
+use Rattle.std.specs.Prelude.{Option, Some, None}
 use Rattle.layout.specs.Number.{le}
 use Rattle.layout.specs.Place.{at_head}
 use Rattle.layout.specs.Kind.{crossing_kind}
@@ -15,7 +15,7 @@ use Rattle.model.proofs.ItemLaws.{in_under, sum_app, sum_cons}
 use Rattle.model.proofs.UniqueLaws.{chain_unique}
 use Rattle.claims.specs.Units.{Each}
 use Rattle.census.specs.declared.Sums.{Sums}
-use Rattle.census.specs.Told.{Sited, Tally, BodyTold, Told}
+use Rattle.census.specs.Told.{Sited, Tally, BodyTaken, BodyTold, Told}
 use Rattle.census.specs.Freed.{ChainItems, ListOf, ListItems, ListsOf, FreedItems}
 use Rattle.census.proofs.ToldLaws.{tidy_slot, tidy_part, grown_none, told_no, told_yes, told_as, told_on, told_first, body_sited}
 
@@ -38,22 +38,22 @@ unfolding Chain list_items
 chain_link f kind s o n e h ys C = record { slots = (s, o) ∷ C.slots; chain = (refl, sym e, rw h at C.chain); are = ap (λ (l : List Item). body s kind o ∷ l) C.are }
 
 module _ {f : List ℕ} {d u b kind s : ℕ} {m : List ℕ} {t : Sums} where
-  pub chain_end : s ≡ 0 → Tally u 0 t → Told (ChainItems f kind s) (ChainItems f kind s) f d u b m t m t
+  pub chain_end : s ≡ 0 → Tally u 0 t → Told (ChainItems f kind s) (ChainItems f kind s) f d u b m t m (Some t)
   unfolding Chain list_items
-  chain_end e T = told_yes T.good (record { items = []; are = record { slots = []; chain = e; are = refl }; grown = grown_none; sited = tt; tally = T })
+  chain_end e T = told_yes (record { items = []; are = record { slots = []; chain = e; are = refl }; grown = grown_none; sited = tt; tally = T })
 
   module _ (some : s ≡ 0 → ⊥) where
-    pub chain_past : {m' : List ℕ} {r : Sums} → r.good ≡ false → u < s → Told (ChainItems f kind s) (ChainItems f kind s) f d u b m t m' r
-    chain_past n h =
-        told_no n
+    pub chain_past : {m' : List ℕ} → u < s → Told (ChainItems f kind s) (ChainItems f kind s) f d u b m t m' None
+    chain_past h =
+        told_no
         (λ is B zs C Y.
         let w = chain_first f kind s zs some C in
         let Z = rw w.2 at Y in omega (arith, (tidy_slot s kind (place_of f s) (w.0 ++ is) Z).1))
 
-    module _ {o : ℕ} (at : o ≡ place_of f s) {m' : List ℕ} {t' : Sums} (T : BodyTold d u b kind o m t m' t') where
-      pub chain_bad : {m'' : List ℕ} {r : Sums} → t'.good ≡ false → r.good ≡ false → Told (ChainItems f kind s) (ChainItems f kind s) f d u b m t m'' r
-      chain_bad n k =
-          told_no k
+    module _ {o : ℕ} (at : o ≡ place_of f s) {m' : List ℕ} where
+      pub chain_bad : {m'' : List ℕ} {r : Option Sums} → r ≡ None → BodyTold d u b kind o m t m' r → Told (ChainItems f kind s) (ChainItems f kind s) f d u b m t m'' None
+      chain_bad n T =
+          told_no
           (λ is B zs C Y.
           let w = chain_first f kind s zs some C in
           let ys = w.0 in
@@ -61,31 +61,31 @@ module _ {f : List ℕ} {d u b kind s : ℕ} {m : List ℕ} {t : Sums} where
           T.fails n is B s
           (rw at (tidy_part ys (body s kind o' ∷ is) (λ v. omega (arith, sum_app v zs is, ap (sum v) w.2, sum_cons v (body s kind o') ys, sum_app v ys (body s kind o' ∷ is), sum_cons v (body s kind o') is)) Y)))
 
-      pub chain_more : {n : ℕ} {m'' : List ℕ} {r : Sums} → t'.good ≡ true → s ≤ u → 1 ≤ kind → kind ≤ 8 → n ≡ high_of f s
+      pub chain_more : {n : ℕ} {t' : Sums} {m'' : List ℕ} {r : Option Sums} → BodyTaken d u b kind o m t m' t' → s ≤ u → 1 ≤ kind → kind ≤ 8 → n ≡ high_of f s
           → Told (ChainItems f kind n) (ChainItems f kind n) f d u b m' t' m'' r → Told (ChainItems f kind s) (ChainItems f kind s) f d u b m t m'' r
-      chain_more {n} g l h k e R =
-          told_on (body s kind o ∷ []) (T.grown g s) (body_sited s kind o (omega arith) l (sym at) h k (T.low g) (T.high g), tt)
+      chain_more {n} T l h k e R =
+          told_on (body s kind o ∷ []) (T.grown s) (body_sited s kind o (omega arith) l (sym at) h k T.low T.high, tt)
           (λ ys C. chain_link f kind s o n at e ys C)
           (λ zs is Y C. let w = chain_first f kind s zs some C in (w.0, rw e w.1, rw at w.2)) R
 
 -- ---- one list
 
-module _ {f : List ℕ} {d u b kind : ℕ} {m : List ℕ} {t : Sums} {m' : List ℕ} {r : Sums} where
-  pub list_some : {head : ℕ} → (kind ≡ crossing_kind → ⊥) → head ≡ le 2 f (at_head kind) → Told (ChainItems f kind head) (ChainItems f kind head) f d u b m t m' r
+module _ {f : List ℕ} {d u b kind : ℕ} {m : List ℕ} {t : Sums} {m' : List ℕ} where
+  pub list_some : {head : ℕ} {r : Option Sums} → (kind ≡ crossing_kind → ⊥) → head ≡ le 2 f (at_head kind) → Told (ChainItems f kind head) (ChainItems f kind head) f d u b m t m' r
       → Told (ListItems f kind) (ListItems f kind) f d u b m t m' r
   list_some n e T =
       told_as (λ xs C. record { slots = C.slots; list = record { chain = rw e at C.chain; third = λ q. absurd (n q) }; are = C.are })
       (λ xs L. record { slots = L.slots; chain = rw e L.list.chain; are = L.are }) T
 
-  pub list_third : {head : ℕ} → kind ≡ crossing_kind → head ≡ le 2 f (at_head kind) → (head ≡ 0 → ⊥) → r.good ≡ false → Told (ListItems f kind) (ListItems f kind) f d u b m t m' r
+  pub list_third : {head : ℕ} → kind ≡ crossing_kind → head ≡ le 2 f (at_head kind) → (head ≡ 0 → ⊥) → Told (ListItems f kind) (ListItems f kind) f d u b m t m' None
   unfolding Chain
-  list_third q e n k =
-      told_no k (λ is B xs L Y. n (e ∙ (let z = L.list.third q in let c = L.list.chain in rw z at c)))
+  list_third q e n =
+      told_no (λ is B xs L Y. n (e ∙ (let z = L.list.third q in let c = L.list.chain in rw z at c)))
 
-pub list_none : {f : List ℕ} {d u b kind : ℕ} {m : List ℕ} {t : Sums} {head : ℕ} → head ≡ le 2 f (at_head kind) → head ≡ 0 → Tally u 0 t → Told (ListItems f kind) (ListItems f kind) f d u b m t m t
+pub list_none : {f : List ℕ} {d u b kind : ℕ} {m : List ℕ} {t : Sums} {head : ℕ} → head ≡ le 2 f (at_head kind) → head ≡ 0 → Tally u 0 t → Told (ListItems f kind) (ListItems f kind) f d u b m t m (Some t)
 unfolding Chain list_items
 list_none e z T =
-    told_yes T.good (record { items = []; are = record { slots = []; list = record { chain = sym e ∙ z; third = λ q. refl }; are = refl }; grown = grown_none; sited = tt; tally = T })
+    told_yes (record { items = []; are = record { slots = []; list = record { chain = sym e ∙ z; third = λ q. refl }; are = refl }; grown = grown_none; sited = tt; tally = T })
 
 -- ---- all lists
 
@@ -112,15 +112,15 @@ lists_join f kind next xs ys z L F =
     let g = F.eight in
     record { lists = L.slots ∷ F.lists; eight = omega arith; are = (L.list, rw z at F.are); items = rw L.are (ap (λ (v : List Item). xs ++ v) (rw z at F.items)) }
 
-module _ {f : List ℕ} {d u b kind : ℕ} {m : List ℕ} {t : Sums} {m' : List ℕ} {t' : Sums} (T : Told (ListItems f kind) (ListItems f kind) f d u b m t m' t') where
-  pub lists_bad : {m'' : List ℕ} {r : Sums} → kind < 9 → t'.good ≡ false → r.good ≡ false → Told (FreedItems f kind) (FreedItems f kind) f d u b m t m'' r
-  lists_bad h n k =
-      told_first n k (λ zs is Y F. let w = lists_split f kind zs h F in (list_items kind w.0, record { slots = w.0; list = w.1; are = refl }, w.2, w.4)) T
+module _ {f : List ℕ} {d u b kind : ℕ} {m : List ℕ} {t : Sums} {m' : List ℕ} {r : Option Sums} (T : Told (ListItems f kind) (ListItems f kind) f d u b m t m' r) where
+  pub lists_bad : {m'' : List ℕ} → kind < 9 → r ≡ None → Told (FreedItems f kind) (FreedItems f kind) f d u b m t m'' None
+  lists_bad h n =
+      told_first n (λ zs is Y F. let w = lists_split f kind zs h F in (list_items kind w.0, record { slots = w.0; list = w.1; are = refl }, w.2, w.4)) T
 
-  pub lists_more : {next : ℕ} {m'' : List ℕ} {r : Sums} → t'.good ≡ true → kind < 9 → next ≡ kind + 1
-      → Told (FreedItems f next) (FreedItems f next) f d u b m' t' m'' r → Told (FreedItems f kind) (FreedItems f kind) f d u b m t m'' r
-  lists_more {next} g h e R =
-      let K = T.holds g in
+  pub lists_more : {t' : Sums} {next : ℕ} {m'' : List ℕ} {r' : Option Sums} → r ≡ Some t' → kind < 9 → next ≡ kind + 1
+      → Told (FreedItems f next) (FreedItems f next) f d u b m' t' m'' r' → Told (FreedItems f kind) (FreedItems f kind) f d u b m t m'' r'
+  lists_more {t'} {next} g h e R =
+      let K = T.holds t' g in
       let xs = K.items in
       let L = K.are in
       let l = L.slots in
@@ -135,7 +135,7 @@ module _ {f : List ℕ} {d u b kind : ℕ} {m : List ℕ} {t : Sums} {m' : List 
       (y, rw z w.3, w.4 ∙ ap (λ (v : List Item). v ++ y) (ap (list_items kind) same ∙ L.are)))
       R
 
-pub lists_end : {f : List ℕ} {d u b kind : ℕ} {m : List ℕ} {t : Sums} → kind ≡ 9 → Tally u 0 t → Told (FreedItems f kind) (FreedItems f kind) f d u b m t m t
+pub lists_end : {f : List ℕ} {d u b kind : ℕ} {m : List ℕ} {t : Sums} → kind ≡ 9 → Tally u 0 t → Told (FreedItems f kind) (FreedItems f kind) f d u b m t m (Some t)
 unfolding ListsOf freed
 lists_end e T =
-    told_yes T.good (record { items = []; are = record { lists = []; eight = omega arith; are = tt; items = refl }; grown = grown_none; sited = tt; tally = T })
+    told_yes (record { items = []; are = record { lists = []; eight = omega arith; are = tt; items = refl }; grown = grown_none; sited = tt; tally = T })

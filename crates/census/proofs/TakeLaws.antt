@@ -1,9 +1,9 @@
 -- One body or extent is taken, or refused. Assumes nothing.
 use Prim.Native.Nat.{ℕ, zero, suc, ◌+◌, ◌*◌, ◌/◌, ◌%◌, ◌<◌, ◌≤◌}
-use mathlib.Core.Path.{◌≡◌, sym, ◌∙◌}
+use mathlib.Core.Path.{◌≡◌, ◌∙◌}
 use mathlib.Core.List.{List, [], ◌∷◌}
-use mathlib.Core.Bool.{true, false}
 use native.Mathlib.Omega.{arith}
+use Rattle.std.specs.Prelude.{Some, None}
 use Rattle.layout.specs.Kind.{body_size}
 use Rattle.layout.proofs.KindLaws.{size_least}
 use Rattle.model.specs.Item.{Item, body, extent, inside, cover, bulk, sum}
@@ -13,10 +13,7 @@ use Rattle.claims.specs.Units.{place, Claimed, Taken, Eighth, Fits}
 use Rattle.claims.proofs.BitLaws.{in_same}
 use Rattle.claims.proofs.UnitLaws.{cover_is, body_eighth, extent_eighth, refused_body, refused_extent, fits_item}
 use Rattle.census.specs.declared.Sums.{Sums}
-use Rattle.census.specs.Told.{is_body, is_extent, Tidy, Tally, Book, Grown, BodyTold, ExtentTold}
-
-pub not_both : {A : Type 0} (t : Sums) → t.good ≡ true → t.good ≡ false → A
-not_both t g n = clash (let z = sym g ∙ n in cc)
+use Rattle.census.specs.Told.{is_body, is_extent, Tidy, Tally, Book, Grown, BodyTaken, BodyTold, ExtentTaken, ExtentTold}
 
 pub size_most : (k : ℕ) → k ≤ 8 → body_size k ≤ 1032
 size_most zero h = omega arith
@@ -69,42 +66,44 @@ grown_one i E C a b c =
 
 -- ---- a body
 
-module _ {d u b kind o : ℕ} {m : List ℕ} {t : Sums} {m' : List ℕ} {r : Sums} where
-  body_no : r.good ≡ false → ((is : List Item) → Book m t is → (s : ℕ) → Tidy d u b (body s kind o ∷ is) → ⊥) → BodyTold d u b kind o m t m' r
-  body_no n h = record { tally = λ g. not_both r g n; low = λ g. not_both r g n; high = λ g. not_both r g n; grown = λ g. not_both r g n; fails = λ e. h }
+module _ {d u b kind o : ℕ} {m : List ℕ} {t : Sums} {m' : List ℕ} where
+  body_no : ((is : List Item) → Book m t is → (s : ℕ) → Tidy d u b (body s kind o ∷ is) → ⊥) → BodyTold d u b kind o m t m' None
+  body_no h = record { holds = λ t' e. clash (cc); fails = λ e. h }
 
-  pub body_many : r.good ≡ false → u ≤ t.slots → BodyTold d u b kind o m t m' r
+  pub body_many : u ≤ t.slots → BodyTold d u b kind o m t m' None
   unfolding is_body
-  body_many n h = body_no n (λ is B s T. let e = B.slots in let f = T.few in omega (arith, sum_cons is_body (body s kind o) is))
+  body_many h = body_no (λ is B s T. let e = B.slots in let f = T.few in omega (arith, sum_cons is_body (body s kind o) is))
 
   module _ (least : 1 ≤ kind) (last : kind ≤ 8) where
-    pub body_low : r.good ≡ false → o < d → BodyTold d u b kind o m t m' r
-    body_low n h = body_no n (λ is B s T. omega (arith, (body_in s kind o is least last T).0))
+    pub body_low : o < d → BodyTold d u b kind o m t m' None
+    body_low h = body_no (λ is B s T. omega (arith, (body_in s kind o is least last T).0))
 
-    pub body_high : {n : ℕ} → n ≡ body_size kind → r.good ≡ false → b < o + n → BodyTold d u b kind o m t m' r
-    body_high e n h = body_no n (λ is B s T. omega (arith, (body_in s kind o is least last T).1))
+    pub body_high : {n : ℕ} → n ≡ body_size kind → b < o + n → BodyTold d u b kind o m t m' None
+    body_high e h = body_no (λ is B s T. omega (arith, (body_in s kind o is least last T).1))
 
-  pub body_taken : {n : ℕ} → n ≡ body_size kind → r.good ≡ false → o % 8 ≡ 0 → Taken (o / 8) (n / 8) m → BodyTold d u b kind o m t m' r
-  body_taken e n h T = body_no n (λ is B s Y. refused_body B.seen s kind o h (rw e at T) Y.apart)
+  pub body_taken : {n : ℕ} → n ≡ body_size kind → o % 8 ≡ 0 → Taken (o / 8) (n / 8) m → BodyTold d u b kind o m t m' None
+  body_taken e h T = body_no (λ is B s Y. refused_body B.seen s kind o h (rw e at T) Y.apart)
 
-  pub body_good : {n : ℕ} → n ≡ body_size kind → r.good ≡ true → Tally u 1 r → d ≤ o → o + n ≤ b → o % 8 ≡ 0 → Claimed (o / 8) (n / 8) m m' → r.slots ≡ t.slots + 1
-      → r.bytes ≡ t.bytes + n → r.leaves ≡ t.leaves → BodyTold d u b kind o m t m' r
+  pub body_good : {n : ℕ} {r : Sums} → n ≡ body_size kind → Tally u 1 r → d ≤ o → o + n ≤ b → o % 8 ≡ 0 → Claimed (o / 8) (n / 8) m m' → r.slots ≡ t.slots + 1
+      → r.bytes ≡ t.bytes + n → r.leaves ≡ t.leaves → BodyTold d u b kind o m t m' (Some r)
   unfolding is_body is_extent bulk place
-  body_good w g T l h e C x y z =
-      record {
-        tally = λ q. T;
-        low = λ q. l;
-        high = λ q. omega arith;
-        grown = λ q s. grown_one (body s kind o) (body_eighth s kind o e) (rw w at C) x (omega arith) (omega arith);
-        fails = λ n. not_both r g n;
-      }
+  body_good {r = r} w T l h e C x y z =
+      let B : BodyTaken d u b kind o m t m' r = record {
+        tally = T;
+        low = l;
+        high = omega arith;
+        grown = λ s. grown_one (body s kind o) (body_eighth s kind o e) (rw w at C) x (omega arith) (omega arith);
+      } in
+      record { holds = λ t' q. let i : t' ≡ r = cc in rw i B; fails = λ q. clash (cc) }
 
 -- ---- an extent
 
-module _ {u e n : ℕ} {m : List ℕ} {t : Sums} {m' : List ℕ} {r : Sums} (start : e % 8 ≡ 0) (whole : n % 8 ≡ 0) where
-  pub extent_taken : r.good ≡ false → Taken (e / 8) (n / 8) m → ExtentTold u e n m t m' r
-  extent_taken q T = record { tally = λ g. not_both r g q; grown = λ g. not_both r g q; fails = λ z is B few. refused_extent B.seen e n start whole T few }
+module _ {u e n : ℕ} {m : List ℕ} {t : Sums} {m' : List ℕ} (start : e % 8 ≡ 0) (whole : n % 8 ≡ 0) where
+  pub extent_taken : Taken (e / 8) (n / 8) m → ExtentTold u e n m t m' None
+  extent_taken T = record { holds = λ t' q. clash (cc); fails = λ q is B few. refused_extent B.seen e n start whole T few }
 
-  pub extent_good : r.good ≡ true → Tally u 0 r → Claimed (e / 8) (n / 8) m m' → r.slots ≡ t.slots → r.bytes ≡ t.bytes + n → r.leaves ≡ t.leaves + 1 → ExtentTold u e n m t m' r
+  pub extent_good : {r : Sums} → Tally u 0 r → Claimed (e / 8) (n / 8) m m' → r.slots ≡ t.slots → r.bytes ≡ t.bytes + n → r.leaves ≡ t.leaves + 1 → ExtentTold u e n m t m' (Some r)
   unfolding is_body is_extent bulk place
-  extent_good g T C x y z = record { tally = λ q. T; grown = λ q. grown_one (extent e n) (extent_eighth e n start whole) C (omega arith) y z; fails = λ q. not_both r g q }
+  extent_good {r = r} T C x y z =
+      let X : ExtentTaken u e n m t m' r = record { tally = T; grown = grown_one (extent e n) (extent_eighth e n start whole) C (omega arith) y z } in
+      record { holds = λ t' q. let i : t' ≡ r = cc in rw i X; fails = λ q. clash (cc) }

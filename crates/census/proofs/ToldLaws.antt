@@ -2,9 +2,9 @@
 use Prim.Native.Nat.{ℕ, zero, suc, ◌+◌, ◌*◌, ◌%◌, ◌≤◌}
 use mathlib.Core.Path.{◌≡◌, refl, sym, ap, ◌∙◌}
 use mathlib.Core.List.{List, [], ◌∷◌, ◌++◌}
-use mathlib.Core.Bool.{true, false}
 use native.Mathlib.Omega.{arith}
 use native.Mathlib.Decide.{dec_le}
+use Rattle.std.specs.Prelude.{Option, Some, None}
 use Rattle.layout.specs.Number.{le}
 use Rattle.layout.specs.Place.{entry_at}
 use Rattle.layout.specs.Kind.{body_size}
@@ -12,12 +12,12 @@ use Rattle.layout.specs.Entry.{place_of}
 use Rattle.layout.proofs.KindLaws.{size_least}
 use Rattle.layout.proofs.EntryLaws.{place_eighth}
 use Rattle.model.specs.Item.{Item, body, on_slot, cover, bulk, sum, Same}
+use Rattle.model.proofs.StringLaws.{clash}
 use Rattle.model.proofs.ItemLaws.{in_yes, sum_app, sum_cons}
 use Rattle.claims.specs.Units.{place, Each}
 use Rattle.claims.proofs.UnitLaws.{body_eighth}
 use Rattle.census.specs.declared.Sums.{Sums}
-use Rattle.census.specs.Told.{is_body, is_extent, Tidy, Sited, Tally, Book, Grown, BodyTold, Held, Told}
-use Rattle.census.proofs.TakeLaws.{not_both}
+use Rattle.census.specs.Told.{is_body, is_extent, Tidy, Sited, Tally, Book, Grown, BodyTaken, Held, Told}
 
 -- ---- items in another order, and parts of them
 
@@ -86,42 +86,35 @@ book_on {m} {m'} {t} {t'} {is} xs B G =
 
 -- ---- what is told
 
-module _ {H P : List Item → Type 0} {f : List ℕ} {d u b : ℕ} {m : List ℕ} {t : Sums} {m' : List ℕ} {r : Sums} where
-  pub told_no : r.good ≡ false → ((is : List Item) → Book m t is → (xs : List Item) → P xs → Tidy d u b (xs ++ is) → ⊥) → Told H P f d u b m t m' r
-  told_no n h = record { holds = λ g. not_both r g n; fails = λ e. h }
+module _ {H P : List Item → Type 0} {f : List ℕ} {d u b : ℕ} {m : List ℕ} {t : Sums} {m' : List ℕ} where
+  pub told_no : ((is : List Item) → Book m t is → (xs : List Item) → P xs → Tidy d u b (xs ++ is) → ⊥) → Told H P f d u b m t m' None
+  told_no h = record { holds = λ t' e. clash (cc); fails = λ e. h }
 
-  pub told_yes : r.good ≡ true → Held H f d u b m t m' r → Told H P f d u b m t m' r
-  told_yes g h = record { holds = λ q. h; fails = λ n. not_both r g n }
+  pub told_yes : {t' : Sums} → Held H f d u b m t m' t' → Told H P f d u b m t m' (Some t')
+  told_yes {t'} h = record { holds = λ s e. let i : s ≡ t' = cc in rw i h; fails = λ e. clash (cc) }
 
   -- the same of other items
-  pub told_as : {H' P' : List Item → Type 0} → ((xs : List Item) → H xs → H' xs) → ((xs : List Item) → P' xs → P xs) → Told H P f d u b m t m' r → Told H' P' f d u b m t m' r
+  pub told_as : {H' P' : List Item → Type 0} {r : Option Sums} → ((xs : List Item) → H xs → H' xs) → ((xs : List Item) → P' xs → P xs) → Told H P f d u b m t m' r → Told H' P' f d u b m t m' r
   told_as h p T =
       record {
-        holds = λ g. let q = T.holds g in record { items = q.items; are = h q.items q.are; grown = q.grown; sited = q.sited; tally = q.tally };
+        holds = λ t' g. let q = T.holds t' g in record { items = q.items; are = h q.items q.are; grown = q.grown; sited = q.sited; tally = q.tally };
         fails = λ n is B xs x. T.fails n is B xs (p xs x);
       }
 
-  -- the same from counts rebuilt, and with them
-  pub told_from : {t' : Sums} → t' ≡ t → Told H P f d u b m t' m' r → Told H P f d u b m t m' r
-  told_from e T = rw (sym e) T
-
-  pub told_to : {r' : Sums} → r' ≡ r → Told H P f d u b m t m' r → Told H P f d u b m t m' r'
-  told_to e T = rw e T
-
 -- from what is told of the rest, what is told of the whole
 abbrev pub Leads : (List Item → Type 0) → (List Item → Type 0) → (List Item → Type 0) → (List Item → Type 0) → List ℕ → ℕ → ℕ → ℕ → List ℕ → Sums → List ℕ → Sums → Type 0
-Leads H P H' P' f d u b m t m' t' = (m'' : List ℕ) (r : Sums) → Told H P f d u b m t m'' r → Told H' P' f d u b m' t' m'' r
+Leads H P H' P' f d u b m t m' t' = (m'' : List ℕ) (r : Option Sums) → Told H P f d u b m t m'' r → Told H' P' f d u b m' t' m'' r
 
 module _ {H P H' P' : List Item → Type 0} {f : List ℕ} {d u b : ℕ} {m : List ℕ} {t : Sums} {m' : List ℕ} where
   -- items xs first, then the rest
-  pub told_on : {t' : Sums} {m'' : List ℕ} {r : Sums} (xs : List Item) → Grown m t m' t' xs → Each (Sited f d u b) xs
+  pub told_on : {t' : Sums} {m'' : List ℕ} {r : Option Sums} (xs : List Item) → Grown m t m' t' xs → Each (Sited f d u b) xs
       → ((ys : List Item) → H ys → H' (xs ++ ys))
       → ((zs is : List Item) → Tidy d u b (zs ++ is) → P' zs → (ys : List Item) × P ys × (zs ≡ xs ++ ys))
       → Told H P f d u b m' t' m'' r → Told H' P' f d u b m t m'' r
   told_on xs G S h p T =
       record {
-        holds = λ g.
-            let q = T.holds g in
+        holds = λ s g.
+            let q = T.holds s g in
             record { items = xs ++ q.items; are = h q.items q.are; grown = grown_on xs q.items G q.grown; sited = each_app (Sited f d u b) xs q.items S q.sited; tally = q.tally };
         fails = λ n is B zs z Y.
             let w = p zs is Y z in
@@ -131,11 +124,11 @@ module _ {H P H' P' : List Item → Type 0} {f : List ℕ} {d u b : ℕ} {m : Li
       }
 
   -- the first part is refused, and so is the whole
-  pub told_first : {t' : Sums} {m'' : List ℕ} {r : Sums} → t'.good ≡ false → r.good ≡ false
+  pub told_first : {r : Option Sums} {m'' : List ℕ} → r ≡ None
       → ((zs is : List Item) → Tidy d u b (zs ++ is) → P' zs → (xs : List Item) × P xs × (ys : List Item) × (zs ≡ xs ++ ys))
-      → Told H P f d u b m t m' t' → Told H' P' f d u b m t m'' r
-  told_first n k p T =
-      told_no k
+      → Told H P f d u b m t m' r → Told H' P' f d u b m t m'' None
+  told_first n p T =
+      told_no
       (λ is B zs z Y.
       let w = p zs is Y z in
       let xs = w.0 in
@@ -151,16 +144,13 @@ body_sited {f} s kind o a z e h l low high =
     let q : o % 8 ≡ 0 = sym (ap (λ (x : ℕ). x % 8) e) ∙ place_eighth _ in
     record { eighth = body_eighth s kind o q; within = record { low = low; high = high }; slotted = (a, z, e, omega arith) }
 
-pub tally_to : {u x : ℕ} {t t' : Sums} → t' ≡ t → Tally u x t → Tally u x t'
-tally_to e T = rw e T
-
 -- a body that is no Leaf's, or a freed one, brings no extent
 pub tally_body : {u : ℕ} {t : Sums} → Tally u 1 t → Tally u 0 t
-tally_body T = record { good = T.good; slots = T.slots; bytes = let z = T.bytes in omega arith; leaves = let z = T.leaves in omega arith }
+tally_body T = record { slots = T.slots; bytes = let z = T.bytes in omega arith; leaves = let z = T.leaves in omega arith }
 
-pub body_slots : {d u b kind o : ℕ} {m : List ℕ} {t : Sums} {m' : List ℕ} {t' : Sums} → BodyTold d u b kind o m t m' t' → t'.good ≡ true → t'.slots ≡ t.slots + 1
+pub body_slots : {d u b kind o : ℕ} {m : List ℕ} {t : Sums} {m' : List ℕ} {t' : Sums} → BodyTaken d u b kind o m t m' t' → t'.slots ≡ t.slots + 1
 unfolding sum is_body
-body_slots T g = (T.grown g 0).slots
+body_slots T = (T.grown 0).slots
 
 pub place_whole : (f : List ℕ) (s : ℕ) {o : ℕ} → o ≡ place_of f s → o % 8 ≡ 0
 place_whole f s e = rw e (place_eighth (le 4 f (entry_at s)))

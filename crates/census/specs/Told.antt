@@ -1,5 +1,5 @@
 -- What a part of the exact check tells: items that are there, claimed in the map and counted; or that no good frame has them there.
-use Rattle.std.specs.Prelude.{ℕ, ◌+◌, ◌*◌, ◌<◌, ◌≤◌, ◌≡◌, List, [], ◌∷◌, ◌++◌, true, false, length}
+use Rattle.std.specs.Prelude.{ℕ, ◌+◌, ◌*◌, ◌<◌, ◌≤◌, ◌≡◌, List, [], ◌∷◌, ◌++◌, Option, Some, None, length}
 use Rattle.layout.specs.Number.{Bytes}
 use Rattle.layout.specs.Kind.{body_size}
 use Rattle.layout.specs.Entry.{place_of}
@@ -51,9 +51,8 @@ pub record Sited (f : List ℕ) (d u b : ℕ) (i : Item) : Type 0 where
 
 -- ---- counts
 
--- counts that are good and wrap nothing: at most u bodies, no more extents than bodies, and x of these still to come
+-- counts that wrap nothing: at most u bodies, no more extents than bodies, and x of these still to come
 pub record Tally (u x : ℕ) (t : Sums) : Type 0 where
-  pub good : t.good ≡ true
   pub slots : t.slots ≤ u
   pub bytes : t.bytes + 524288 * x ≤ 1048576 * t.slots
   pub leaves : t.leaves + x ≤ t.slots
@@ -72,17 +71,24 @@ pub record Grown (m : List ℕ) (t : Sums) (m' : List ℕ) (t' : Sums) (xs : Lis
 
 -- ---- one item
 
-pub record BodyTold (d u b kind o : ℕ) (m : List ℕ) (t : Sums) (m' : List ℕ) (t' : Sums) : Type 0 where
-  pub tally : t'.good ≡ true → Tally u 1 t'
-  pub low : t'.good ≡ true → d ≤ o
-  pub high : t'.good ≡ true → o + body_size kind ≤ b
-  pub grown : t'.good ≡ true → (s : ℕ) → Grown m t m' t' (body s kind o ∷ [])
-  pub fails : t'.good ≡ false → (is : List Item) → Book m t is → (s : ℕ) → Tidy d u b (body s kind o ∷ is) → ⊥
+-- a body of whatever slot was claimed and counted, and an extent may follow
+pub record BodyTaken (d u b kind o : ℕ) (m : List ℕ) (t : Sums) (m' : List ℕ) (t' : Sums) : Type 0 where
+  pub tally : Tally u 1 t'
+  pub low : d ≤ o
+  pub high : o + body_size kind ≤ b
+  pub grown : (s : ℕ) → Grown m t m' t' (body s kind o ∷ [])
 
-pub record ExtentTold (u e n : ℕ) (m : List ℕ) (t : Sums) (m' : List ℕ) (t' : Sums) : Type 0 where
-  pub tally : t'.good ≡ true → Tally u 0 t'
-  pub grown : t'.good ≡ true → Grown m t m' t' (extent e n ∷ [])
-  pub fails : t'.good ≡ false → (is : List Item) → Book m t is → ((a : ℕ) → sum (cover a) (extent e n ∷ is) ≤ 1) → ⊥
+pub record BodyTold (d u b kind o : ℕ) (m : List ℕ) (t : Sums) (m' : List ℕ) (r : Option Sums) : Type 0 where
+  pub holds : (t' : Sums) → r ≡ Some t' → BodyTaken d u b kind o m t m' t'
+  pub fails : r ≡ None → (is : List Item) → Book m t is → (s : ℕ) → Tidy d u b (body s kind o ∷ is) → ⊥
+
+pub record ExtentTaken (u e n : ℕ) (m : List ℕ) (t : Sums) (m' : List ℕ) (t' : Sums) : Type 0 where
+  pub tally : Tally u 0 t'
+  pub grown : Grown m t m' t' (extent e n ∷ [])
+
+pub record ExtentTold (u e n : ℕ) (m : List ℕ) (t : Sums) (m' : List ℕ) (r : Option Sums) : Type 0 where
+  pub holds : (t' : Sums) → r ≡ Some t' → ExtentTaken u e n m t m' t'
+  pub fails : r ≡ None → (is : List Item) → Book m t is → ((a : ℕ) → sum (cover a) (extent e n ∷ is) ≤ 1) → ⊥
 
 -- ---- many
 
@@ -95,6 +101,6 @@ pub record Held (H : List Item → Type 0) (f : List ℕ) (d u b : ℕ) (m : Lis
   pub tally : Tally u 0 t'
 
 -- or any of which P holds are too many, overlap, or lie outside
-pub record Told (H P : List Item → Type 0) (f : List ℕ) (d u b : ℕ) (m : List ℕ) (t : Sums) (m' : List ℕ) (t' : Sums) : Type 0 where
-  pub holds : t'.good ≡ true → Held H f d u b m t m' t'
-  pub fails : t'.good ≡ false → (is : List Item) → Book m t is → (xs : List Item) → P xs → Tidy d u b (xs ++ is) → ⊥
+pub record Told (H P : List Item → Type 0) (f : List ℕ) (d u b : ℕ) (m : List ℕ) (t : Sums) (m' : List ℕ) (r : Option Sums) : Type 0 where
+  pub holds : (t' : Sums) → r ≡ Some t' → Held H f d u b m t m' t'
+  pub fails : r ≡ None → (is : List Item) → Book m t is → (xs : List Item) → P xs → Tidy d u b (xs ++ is) → ⊥

@@ -3,36 +3,39 @@ ghost use Rattle.std.specs.Prelude.{◌≡◌, ◌+◌, ◌<◌, ◌≤◌, leng
 ghost use Rattle.census.specs.Told.{Ground, Limits, Tally, Told};
 ghost use Rattle.census.specs.Freed.{ChainItems, ListItems, FreedItems};
 
-use crate::{Bounds, Sums, kept, refused, take};
+use crate::{Bounds, Sums, take};
 use fields::header::Header;
 use layout::entry::Entry;
 use layout::kind::Kind;
 
 // The slots from `head` on, bodies of the kind.
-fn chain(f: &[u8], map: &mut [u64], kind: usize, head: usize, bounds: Bounds, t: Sums) -> Sums
+fn chain(
+    f: &[u8],
+    map: &mut [u64],
+    kind: usize,
+    head: usize,
+    bounds: Bounds,
+    t: Sums,
+) -> Option<Sums>
     requires { Ground f.now bounds.start bounds.given bounds.next × Limits bounds.start bounds.given bounds.next (length map.old) × Tally bounds.given 0 t × (1 ≤ kind) × (kind ≤ 8) }
     ensures { Told (ChainItems f.now kind head) (ChainItems f.now kind head) f.now bounds.start bounds.given bounds.next map.old t map.new result }
 {
-    let given = bounds.given;
     let mut s = head;
-    let mut sums = kept(t);
+    let mut sums = t;
+    // it follows the links of a list and steps no index: a range is no plainer
     while s != 0 {
-        if given < s {
-            return refused();
+        if bounds.given < s {
+            return None;
         }
         let e = Entry::read(f, s);
-        let r = take::body(map, kind, e.place, bounds, sums);
-        if !r.good {
-            return refused();
-        }
-        sums = r;
+        sums = take::body(map, kind, e.place, bounds, sums)?;
         s = e.high;
     }
-    sums
+    Some(sums)
 }
 
 // The list of a kind; "list 3 is empty".
-fn list(f: &[u8], map: &mut [u64], kind: usize, bounds: Bounds, t: Sums) -> Sums
+fn list(f: &[u8], map: &mut [u64], kind: usize, bounds: Bounds, t: Sums) -> Option<Sums>
     requires { Ground f.now bounds.start bounds.given bounds.next × Limits bounds.start bounds.given bounds.next (length map.old) × Tally bounds.given 0 t × (1 ≤ kind) × (kind ≤ 8) }
     ensures { Told (ListItems f.now kind) (ListItems f.now kind) f.now bounds.start bounds.given bounds.next map.old t map.new result }
 {
@@ -41,29 +44,22 @@ fn list(f: &[u8], map: &mut [u64], kind: usize, bounds: Bounds, t: Sums) -> Sums
         return chain(f, map, kind, head, bounds, t);
     }
     if head != 0 {
-        return refused();
+        return None;
     }
-    kept(t)
+    Some(t)
 }
 
 // All eight. An empty list has no slots, and nothing of it is counted.
-pub fn lists(f: &[u8], map: &mut [u64], bounds: Bounds, t: Sums) -> Sums
+pub fn lists(f: &[u8], map: &mut [u64], bounds: Bounds, t: Sums) -> Option<Sums>
     requires { Ground f.now bounds.start bounds.given bounds.next × Limits bounds.start bounds.given bounds.next (length map.old) × Tally bounds.given 0 t }
     ensures { Told (FreedItems f.now 1) (FreedItems f.now 1) f.now bounds.start bounds.given bounds.next map.old t map.new result }
 {
-    let mut sums = kept(t);
-    let mut kind = 1;
-    while kind < Kind::TABLE {
+    let mut sums = t;
+    for kind in 1..Kind::TABLE {
         if Header::list_head(f, kind) == 0 {
-            kind += 1;
             continue;
         }
-        let r = list(f, map, kind, bounds, sums);
-        if !r.good {
-            return r;
-        }
-        sums = r;
-        kind += 1;
+        sums = list(f, map, kind, bounds, sums)?;
     }
-    sums
+    Some(sums)
 }

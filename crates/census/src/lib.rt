@@ -5,12 +5,9 @@
 pub mod freed;
 pub mod take;
 
-ghost use Rattle.std.specs.Prelude.{◌≡◌, true, false};
-
-// What has been counted so far; not good: a refusal, and the counts say nothing.
-#[derive(Clone, Copy)]
+// What has been counted so far. A part that refuses gives none.
+#[derive(Clone, Copy, Debug, PartialEq, Eq)]
 pub struct Sums {
-    pub good: bool,
     // bodies, live and freed
     pub slots: usize,
     // sizes of the bodies and of the live extents
@@ -20,7 +17,7 @@ pub struct Sums {
 }
 
 // What the header says of the frame that is counted.
-#[derive(Clone, Copy)]
+#[derive(Clone, Copy, Debug, PartialEq, Eq)]
 pub struct Bounds {
     // D, where data starts
     pub start: usize,
@@ -28,28 +25,4 @@ pub struct Bounds {
     pub given: usize,
     // B, the first byte never yet given out
     pub next: usize,
-}
-
-pub fn refused() -> Sums
-    ensures { result.good ≡ false }
-{
-    Sums {
-        good: false,
-        slots: 0,
-        bytes: 0,
-        leaves: 0,
-    }
-}
-
-// The same counts, one after the other: a copy of the whole would carry along the bytes between them.
-pub fn kept(t: Sums) -> Sums
-    requires { t.good ≡ true }
-    ensures { result ≡ t }
-{
-    Sums {
-        good: true,
-        slots: t.slots,
-        bytes: t.bytes,
-        leaves: t.leaves,
-    }
 }

@@ -10,7 +10,7 @@ use Rattle.census.proofs.freed.chain.Given as goal
 abbrev pub invariant-loop-s : goal.invariant-loop-s
 invariant-loop-s l =
     (length l.map ≡ length l.initial.map) × Tally l.bounds.given 0 l.sums
-    × Leads (ChainItems l.f l.kind l.s) (ChainItems l.f l.kind l.s) (ChainItems l.f l.kind l.head) (ChainItems l.f l.kind l.head) l.f l.bounds.start l.bounds.given l.bounds.next l.map l.sums l.initial.map l.initial.sums
+    × Leads (ChainItems l.f l.kind l.s) (ChainItems l.f l.kind l.s) (ChainItems l.f l.kind l.head) (ChainItems l.f l.kind l.head) l.f l.bounds.start l.bounds.given l.bounds.next l.map l.sums l.initial.map l.fn.t
 
 abbrev pub decreases-loop-s : goal.decreases-loop-s
 decreases-loop-s l = l.bounds.given - l.sums.slots

@@ -1,6 +1,5 @@
 -- One law for each answer (FreedLaws). Assumes nothing.
 use native.Mathlib.Omega.{arith}
-use Rattle.census.proofs.ToldLaws.{told_to}
 use Rattle.census.proofs.FreedLaws.{list_some, list_third, list_none}
 use Rattle.census.proofs.freed.list.Goals as goal
 
@@ -10,11 +9,8 @@ returns-then-kind-ne-CROSSING c =
 
 pub returns-then-head-ne0 : goal.returns-then-head-ne0
 returns-then-head-ne0 c =
-    list_third (omega (arith, c.if-kind-ne-CROSSING.false)) c.list_head-head.ensures.0 c.if-head-ne0.true c.refused.ensures
-
-pub kept-requires : goal.kept-requires
-kept-requires c = c.requires.2.good
+    list_third (omega (arith, c.if-kind-ne-CROSSING.false)) c.list_head-head.ensures.0 c.if-head-ne0.true
 
 pub returns : goal.returns
 returns c =
-    told_to c.kept.ensures (list_none c.list_head-head.ensures.0 c.if-head-ne0.false c.requires.2)
+    list_none c.list_head-head.ensures.0 c.if-head-ne0.false c.requires.2

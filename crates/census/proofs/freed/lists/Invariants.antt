@@ -1,5 +1,4 @@
 -- The loop's invariant: what is told of the lists from here on tells of all. Assumes nothing.
-use Prim.Native.Nat.{◌-◌, ◌≤◌}
 use mathlib.Core.Path.{◌≡◌}
 use lib.ListN.{length}
 use Rattle.census.specs.Told.{Tally}
@@ -9,8 +8,5 @@ use Rattle.census.proofs.freed.lists.Given as goal
 
 abbrev pub invariant-loop-kind : goal.invariant-loop-kind
 invariant-loop-kind l =
-    (1 ≤ l.kind) × (l.kind ≤ 9) × (length l.map ≡ length l.initial.map) × Tally l.bounds.given 0 l.sums
-    × Leads (FreedItems l.f l.kind) (FreedItems l.f l.kind) (FreedItems l.f 1) (FreedItems l.f 1) l.f l.bounds.start l.bounds.given l.bounds.next l.map l.sums l.initial.map l.initial.sums
-
-abbrev pub decreases-loop-kind : goal.decreases-loop-kind
-decreases-loop-kind l = 9 - l.kind
+    (length l.map ≡ length l.initial.map) × Tally l.bounds.given 0 l.sums
+    × Leads (FreedItems l.f l.kind) (FreedItems l.f l.kind) (FreedItems l.f 1) (FreedItems l.f 1) l.f l.bounds.start l.bounds.given l.bounds.next l.map l.sums l.initial.map l.fn.t
