@@ -1,27 +1,10 @@
 -- What a part of the exact check tells: items that are there, claimed in the map and counted; or that no good frame has them there.
-use Rattle.std.specs.Prelude.{ℕ, ◌+◌, ◌*◌, ◌<◌, ◌≤◌, ◌≡◌, List, [], ◌∷◌, ◌++◌, Option, Some, None, length}
-use Rattle.layout.specs.Number.{Bytes}
+use Rattle.std.specs.Prelude.{ℕ, ◌+◌, ◌*◌, ◌<◌, ◌≤◌, ◌≡◌, List, [], ◌∷◌, ◌++◌, Option, Some, None}
 use Rattle.layout.specs.Kind.{body_size}
 use Rattle.layout.specs.Entry.{place_of}
 use Rattle.model.specs.Item.{Item, body, extent, on_slot, cover, bulk, sum}
 use Rattle.claims.specs.Units.{bit, Each, Eighth, Within, Slotted, Seen}
 use Rattle.census.specs.declared.Sums.{Sums}
-
--- ---- what the header says
-
--- data from d on, u slots given out, first free byte b, in a map of so many words of 64 units
-pub record Limits (d u b words : ℕ) : Type 0 where
-  pub table : 64 + 4 * u ≤ d
-  pub order : d ≤ b
-  pub size : b ≤ 524288
-  pub room : b ≤ 512 * words
-
--- a frame of bytes that holds them
-pub record Ground (f : List ℕ) (d u b : ℕ) : Type 0 where
-  pub bytes : Bytes f
-  pub table : 64 + 4 * u ≤ d
-  pub order : d ≤ b
-  pub inside : b ≤ length f
 
 -- ---- items
 

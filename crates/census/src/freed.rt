@@ -1,6 +1,6 @@
 // The lists of freed slots: "the list it is on tells the kind"; the high 15 bits of an entry are the next slot, and 0 ends a list.
-ghost use Rattle.std.specs.Prelude.{◌≡◌, ◌+◌, ◌<◌, ◌≤◌, length};
-ghost use Rattle.census.specs.Told.{Ground, Limits, Tally, Told};
+ghost use Rattle.std.specs.Prelude.{◌≡◌, ◌+◌, ◌*◌, ◌<◌, ◌≤◌, length};
+ghost use Rattle.census.specs.Told.{Tally, Told};
 ghost use Rattle.census.specs.Freed.{ChainItems, ListItems, FreedItems};
 
 use crate::{Bounds, Sums, take};
@@ -17,7 +17,10 @@ fn chain(
     bounds: Bounds,
     t: Sums,
 ) -> Option<Sums>
-    requires { Ground f.now bounds.start bounds.given bounds.next × Limits bounds.start bounds.given bounds.next (length map.old) × Tally bounds.given 0 t × (1 ≤ kind) × (kind ≤ 8) }
+    requires inside { bounds.next ≤ length f.now }
+    requires room { bounds.next ≤ 512 * length map.old }
+    requires tally { Tally bounds.given 0 t }
+    requires kind { (1 ≤ kind) × (kind ≤ 8) }
     ensures { Told (ChainItems f.now kind head) (ChainItems f.now kind head) f.now bounds.start bounds.given bounds.next map.old t map.new result }
 {
     let mut s = head;
@@ -36,7 +39,10 @@ fn chain(
 
 // The list of a kind; "list 3 is empty".
 fn list(f: &[u8], map: &mut [u64], kind: usize, bounds: Bounds, t: Sums) -> Option<Sums>
-    requires { Ground f.now bounds.start bounds.given bounds.next × Limits bounds.start bounds.given bounds.next (length map.old) × Tally bounds.given 0 t × (1 ≤ kind) × (kind ≤ 8) }
+    requires inside { bounds.next ≤ length f.now }
+    requires room { bounds.next ≤ 512 * length map.old }
+    requires tally { Tally bounds.given 0 t }
+    requires kind { (1 ≤ kind) × (kind ≤ 8) }
     ensures { Told (ListItems f.now kind) (ListItems f.now kind) f.now bounds.start bounds.given bounds.next map.old t map.new result }
 {
     let head = Header::list_head(f, kind);
@@ -51,7 +57,9 @@ fn list(f: &[u8], map: &mut [u64], kind: usize, bounds: Bounds, t: Sums) -> Opti
 
 // All eight. An empty list has no slots, and nothing of it is counted.
 pub fn lists(f: &[u8], map: &mut [u64], bounds: Bounds, t: Sums) -> Option<Sums>
-    requires { Ground f.now bounds.start bounds.given bounds.next × Limits bounds.start bounds.given bounds.next (length map.old) × Tally bounds.given 0 t }
+    requires inside { bounds.next ≤ length f.now }
+    requires room { bounds.next ≤ 512 * length map.old }
+    requires tally { Tally bounds.given 0 t }
     ensures { Told (FreedItems f.now 1) (FreedItems f.now 1) f.now bounds.start bounds.given bounds.next map.old t map.new result }
 {
     let mut sums = t;

@@ -5,6 +5,8 @@
 pub mod freed;
 pub mod take;
 
+ghost use Rattle.std.specs.Prelude.{◌+◌, ◌*◌, ◌≤◌};
+
 // What has been counted so far. A part that refuses gives none.
 #[derive(Clone, Copy, Debug, PartialEq, Eq)]
 pub struct Sums {
@@ -16,7 +18,7 @@ pub struct Sums {
     pub leaves: usize,
 }
 
-// What the header says of the frame that is counted.
+// What the header says of the frame that is counted: data begins behind the table of slots, and ends where B is.
 #[derive(Clone, Copy, Debug, PartialEq, Eq)]
 pub struct Bounds {
     // D, where data starts
@@ -25,4 +27,7 @@ pub struct Bounds {
     pub given: usize,
     // B, the first byte never yet given out
     pub next: usize,
+    ghost table: { 64 + 4 * given ≤ start },
+    ghost order: { start ≤ next },
+    ghost size: { next ≤ 524288 },
 }

@@ -1,6 +1,6 @@
 // One body or extent claims its units of the map, and is counted.
-ghost use Rattle.std.specs.Prelude.{◌≡◌, ◌+◌, ◌%◌, ◌<◌, ◌≤◌, length};
-ghost use Rattle.census.specs.Told.{Limits, Tally, BodyTold, ExtentTold};
+ghost use Rattle.std.specs.Prelude.{◌≡◌, ◌+◌, ◌*◌, ◌%◌, ◌<◌, ◌≤◌, length};
+ghost use Rattle.census.specs.Told.{Tally, BodyTold, ExtentTold};
 
 use crate::{Bounds, Sums};
 use claims::claim;
@@ -8,7 +8,10 @@ use layout::kind;
 
 // A body of the kind at o: it lies between D and B, and there are no more than U.
 pub fn body(map: &mut [u64], kind: usize, o: usize, bounds: Bounds, t: Sums) -> Option<Sums>
-    requires { Limits bounds.start bounds.given bounds.next (length map.old) × Tally bounds.given 0 t × (1 ≤ kind) × (kind ≤ 8) × (o % 8 ≡ 0) × (o < 1048576) }
+    requires room { bounds.next ≤ 512 * length map.old }
+    requires tally { Tally bounds.given 0 t }
+    requires kind { (1 ≤ kind) × (kind ≤ 8) }
+    requires place { (o % 8 ≡ 0) × (o < 1048576) }
     ensures { BodyTold bounds.start bounds.given bounds.next kind o map.old t map.new result }
 {
     if bounds.given <= t.slots {
@@ -33,7 +36,10 @@ pub fn body(map: &mut [u64], kind: usize, o: usize, bounds: Bounds, t: Sums) -> 
 
 // An extent of n bytes at e, between D and B.
 pub fn extent(map: &mut [u64], e: usize, n: usize, bounds: Bounds, t: Sums) -> Option<Sums>
-    requires { Limits bounds.start bounds.given bounds.next (length map.old) × Tally bounds.given 1 t × (e % 8 ≡ 0) × (n % 8 ≡ 0) × (e + n ≤ bounds.next) }
+    requires room { bounds.next ≤ 512 * length map.old }
+    requires tally { Tally bounds.given 1 t }
+    requires whole { (e % 8 ≡ 0) × (n % 8 ≡ 0) }
+    requires within { e + n ≤ bounds.next }
     ensures { ExtentTold bounds.given e n map.old t map.new result }
 {
     if !claim(map, e / 8, n / 8) {

@@ -21,7 +21,7 @@ loop-s-preserved c =
     let T = c.body.ensures.holds _ c.in_ok-sums.was in (
       omega (arith, c.loop-s.invariant.0, c.body.auto),
       tally_body T.tally,
-      λ m r R. c.loop-s.invariant.2 m r (chain_more c.loop-s-test.true c.read-e.ensures.1 T c.if-bounds-s.false c.requires.3 c.requires.4 c.read-e.ensures.0 R),
+      λ m r R. c.loop-s.invariant.2 m r (chain_more c.loop-s-test.true c.read-e.ensures.1 T c.if-bounds-s.false c.requires.kind.0 c.requires.kind.1 c.read-e.ensures.0 R),
     )
 
 pub returns : goal.returns

@@ -13,4 +13,4 @@ returns-then-head-ne0 c =
 
 pub returns : goal.returns
 returns c =
-    list_none c.list_head-head.ensures.0 c.if-head-ne0.false c.requires.2
+    list_none c.list_head-head.ensures.0 c.if-head-ne0.false c.requires.tally

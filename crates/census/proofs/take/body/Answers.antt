@@ -10,23 +10,23 @@ returns-then-bounds-t c = body_many c.if-bounds-t.true
 
 pub returns-then-o-bounds : goal.returns-then-o-bounds
 returns-then-o-bounds c =
-    let p = c.requires in body_low p.2 p.3 c.if-o-bounds.true
+    let k = c.requires.kind in body_low k.0 k.1 c.if-o-bounds.true
 
 pub overflow_add-o : goal.overflow_add-o
 overflow_add-o c =
-    let p = c.requires in omega (arith, c.body_size-size.ensures, size_most c.args.kind p.3)
+    omega (arith, c.body_size-size.ensures, c.requires.place, size_most c.args.kind c.requires.kind.1)
 
 pub returns-then-bounds-o : goal.returns-then-bounds-o
 returns-then-bounds-o c =
-    let p = c.requires in body_high p.2 p.3 c.body_size-size.ensures c.if-bounds-o.true
+    let k = c.requires.kind in body_high k.0 k.1 c.body_size-size.ensures c.if-bounds-o.true
 
 pub returns-then-not-claim : goal.returns-then-not-claim
 returns-then-not-claim c =
-    body_taken c.body_size-size.ensures c.requires.4 (c.claim.ensures.1 (not-true _ c.if-not-claim.true-raw))
+    body_taken c.body_size-size.ensures c.requires.place.0 (c.claim.ensures.1 (not-true _ c.if-not-claim.true-raw))
 
 pub returns : goal.returns
 returns c =
-    let p = c.requires in let T = p.1 in
+    let T = c.requires.tally in
     let e = c.body_size-size.ensures in
-    let h = size_most c.args.kind p.3 in
-    let few = c.if-bounds-t.false in body_good e (record { slots = omega arith; bytes = omega arith; leaves = omega arith }) (omega arith) (omega arith) p.4 (c.claim.ensures.0 (not-false _ c.if-not-claim.false-raw)) refl refl refl
+    let h = size_most c.args.kind c.requires.kind.1 in
+    let few = c.if-bounds-t.false in body_good e (record { slots = omega arith; bytes = omega arith; leaves = omega arith }) (omega arith) (omega arith) c.requires.place.0 (c.claim.ensures.0 (not-false _ c.if-not-claim.false-raw)) refl refl refl

@@ -7,10 +7,10 @@ use Rattle.census.proofs.take.extent.Goals as goal
 
 pub returns-then-not-claim : goal.returns-then-not-claim
 returns-then-not-claim c =
-    let p = c.requires in extent_taken p.2 p.3 (c.claim.ensures.1 (not-true _ c.if-not-claim.true-raw))
+    let w = c.requires.whole in extent_taken w.0 w.1 (c.claim.ensures.1 (not-true _ c.if-not-claim.true-raw))
 
 pub returns : goal.returns
 returns c =
-    let p = c.requires in let T = p.1 in
-    let L = p.0 in
-    extent_good p.2 p.3 (record { slots = omega arith; bytes = omega arith; leaves = omega arith }) (c.claim.ensures.0 (not-false _ c.if-not-claim.false-raw)) refl refl refl
+    let T = c.requires.tally in
+    let w = c.requires.whole in
+    extent_good w.0 w.1 (record { slots = omega arith; bytes = omega arith; leaves = omega arith }) (c.claim.ensures.0 (not-false _ c.if-not-claim.false-raw)) refl refl refl
