@@ -2,8 +2,8 @@
 use Prim.Native.Nat.{ℕ}
 use mathlib.Core.Path.{◌≡◌, refl, sym, ap, ◌∙◌}
 use mathlib.Core.List.{List, [], ◌++◌, append_assoc}
-use mathlib.Core.Bool.{true, false}
 use native.Mathlib.Omega.{arith}
+use Rattle.std.specs.Prelude.{Option, Some}
 use Rattle.model.specs.Edition.{Edition}
 use Rattle.model.specs.Item.{Item, sum}
 use Rattle.model.specs.Frame.{items}
@@ -14,17 +14,12 @@ use Rattle.census.specs.Told.{Tidy, Sited, Told}
 use Rattle.census.proofs.ToldLaws.{tidy_same, tidy_part, each_app, grown_none, grown_on, told_no, told_on}
 use Rattle.audit.specs.Walk.{TreeItems, Fails, Opens}
 
--- counts that are refused
-none : Sums
-none = record { good = false; slots = 0; bytes = 0; leaves = 0 }
-
 module _ {R W : List Item → Type 0} {f : List ℕ} {d u b : ℕ} {m : List ℕ} {t : Sums} {m' : List ℕ} {t' : Sums} (O : Opens R W f d u b m t m' t') where
-  pub opens_told : {m'' : List ℕ} {r : Sums} → Told R R f d u b m' t' m'' r → Told W W f d u b m t m'' r
+  pub opens_told : {m'' : List ℕ} {r : Option Sums} → Told R R f d u b m' t' m'' r → Told W W f d u b m t m'' r
   opens_told T = told_on O.items O.grown O.sited O.join O.split T
 
   pub opens_fails : Fails R d u b m' t' → Fails W d u b m t
-  unfolding none
-  opens_fails h = (opens_told (told_no {m' = m'} {r = none} refl h)).fails refl
+  opens_fails h = (opens_told (told_no {m' = m'} h)).fails refl
 
   -- and then what is left of the rest
   pub opens_on : {S : List Item → Type 0} {m'' : List ℕ} {t'' : Sums} → Opens S R f d u b m' t' m'' t'' → Opens S W f d u b m t m'' t''
@@ -98,10 +93,10 @@ row_back xs r =
     }
 
 -- a tree that was counted
-pub tree_opens : {Ed : Edition} {K : List Item → Type 0} {f path : List ℕ} {s d u b : ℕ} {m : List ℕ} {t : Sums} {m' : List ℕ} {t' : Sums} → Told (TreeItems Ed f path s) (TreeItems Ed f path s) f d u b m t m' t' → t'.good ≡ true
+pub tree_opens : {Ed : Edition} {K : List Item → Type 0} {f path : List ℕ} {s d u b : ℕ} {m : List ℕ} {t : Sums} {m' : List ℕ} {r : Option Sums} {t' : Sums} → Told (TreeItems Ed f path s) (TreeItems Ed f path s) f d u b m t m' r → r ≡ Some t'
     → Opens K (Row (TreeItems Ed f path s) K) f d u b m t m' t'
-tree_opens {Ed} {K} {f} {path} T g =
-    let k = T.holds g in
+tree_opens {Ed} {K} {f} {path} {t' = t'} T g =
+    let k = T.holds t' g in
     record {
       items = k.items;
       grown = k.grown;

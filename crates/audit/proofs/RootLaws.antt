@@ -2,8 +2,8 @@
 use Prim.Native.Nat.{ℕ, ◌≤◌}
 use mathlib.Core.Path.{◌≡◌, refl, sym, ap, ◌∙◌}
 use mathlib.Core.List.{List, [], ◌∷◌, ◌++◌}
-use mathlib.Core.Bool.{true, false}
 use native.Mathlib.Omega.{arith}
+use Rattle.std.specs.Prelude.{Option, Some, None}
 use Rattle.layout.specs.Entry.{place_of, high_of}
 use Rattle.model.specs.Edition.{Edition}
 use Rattle.model.specs.Item.{Item, body}
@@ -11,7 +11,7 @@ use Rattle.model.specs.Body.{Zero}
 use Rattle.model.specs.Frame.{Lay, items, Root, bare, tree, slot_of, Entry, Tree, RootAt, root_slot, root_items}
 use Rattle.model.proofs.UniqueLaws.{entry_unique, tree_unique}
 use Rattle.census.specs.declared.Sums.{Sums}
-use Rattle.census.specs.Told.{Told, BodyTold}
+use Rattle.census.specs.Told.{Told, BodyTaken, BodyTold}
 use Rattle.census.proofs.ToldLaws.{tidy_slot, told_no, told_yes, told_as, body_sited, tally_body}
 use Rattle.audit.specs.Walk.{TreeItems}
 use Rattle.audit.specs.Audit.{RootItems, EmptyItems, EmptyTold}
@@ -19,22 +19,22 @@ use Rattle.audit.proofs.TreeLaws.{tree_first}
 
 -- ---- an EmptyRoot
 
-module _ {f : List ℕ} {o d u b : ℕ} {m : List ℕ} {t : Sums} {m' : List ℕ} {t' : Sums} (T : BodyTold d u b 8 o m t m' t') where
-  pub empty_body : {m'' : List ℕ} {r : Sums} → t'.good ≡ false → r.good ≡ false → EmptyTold f o d u b m t m'' r
-  empty_body n k = record { of = λ s E a z. told_no k (λ is B xs X Y. T.fails n is B s (rw (sym X.are) at Y)) }
+module _ {f : List ℕ} {o d u b : ℕ} {m : List ℕ} {t : Sums} {m' : List ℕ} where
+  pub empty_body : {m'' : List ℕ} {r : Option Sums} → BodyTold d u b 8 o m t m' r → r ≡ None → EmptyTold f o d u b m t m'' None
+  empty_body T n = record { of = λ s E a z. told_no (λ is B xs X Y. T.fails n is B s (rw (sym X.are) at Y)) }
 
-  pub empty_zero : {m'' : List ℕ} {r : Sums} → (Zero f o 8 → ⊥) → r.good ≡ false → EmptyTold f o d u b m t m'' r
-  empty_zero n k = record { of = λ s E a z. told_no k (λ is B xs X Y. n X.zeros) }
+  pub empty_zero : (Zero f o 8 → ⊥) → EmptyTold f o d u b m t m' None
+  empty_zero n = record { of = λ s E a z. told_no (λ is B xs X Y. n X.zeros) }
 
-  pub empty_good : t'.good ≡ true → Zero f o 8 → EmptyTold f o d u b m t m' t'
-  empty_good g Z =
+  pub empty_good : {t' : Sums} → BodyTaken d u b 8 o m t m' t' → Zero f o 8 → EmptyTold f o d u b m t m' (Some t')
+  empty_good T Z =
       record {
-        of = λ s E a z. told_yes g (record {
+        of = λ s E a z. told_yes (record {
           items = body s 8 o ∷ [];
           are = record { zeros = Z; are = refl };
-          grown = T.grown g s;
-          sited = (body_sited s 8 o a z E.place_is (omega arith) (omega arith) (T.low g) (T.high g), tt);
-          tally = tally_body (T.tally g);
+          grown = T.grown s;
+          sited = (body_sited s 8 o a z E.place_is (omega arith) (omega arith) T.low T.high, tt);
+          tally = tally_body T.tally;
         });
       }
 
@@ -85,20 +85,20 @@ tree_as_root : {Ed : Edition} (f : List ℕ) (s : ℕ) (xs : List Item) → Tree
 unfolding RootAt root_items
 tree_as_root f s xs T = record { root = tree T.lay; at = T.tree; slot = T.slot; are = T.are }
 
-module _ {Ed : Edition} {f : List ℕ} {s d u b : ℕ} {m : List ℕ} {t : Sums} {m' : List ℕ} {r : Sums} where
-  pub root_slot_lem : r.good ≡ false → (1 ≤ s → s ≤ u → ⊥) → Told (RootItems Ed f s) (RootItems Ed f s) f d u b m t m' r
-  root_slot_lem n h =
-      told_no n
+module _ {Ed : Edition} {f : List ℕ} {s d u b : ℕ} {m : List ℕ} {t : Sums} {m' : List ℕ} where
+  pub root_slot_lem : (1 ≤ s → s ≤ u → ⊥) → Told (RootItems Ed f s) (RootItems Ed f s) f d u b m t m' None
+  root_slot_lem h =
+      told_no
       (λ is B xs W Y.
       let w = root_first f s xs W in
       let i = tidy_slot s w.0 w.1 (w.2 ++ is) (rw w.3 at Y) in h i.0 i.1)
 
-  pub root_empty : {k o : ℕ} → 1 ≤ s → s ≤ u → k ≡ high_of f s → o ≡ place_of f s → k ≡ 8 → EmptyTold f o d u b m t m' r → Told (RootItems Ed f s) (RootItems Ed f s) f d u b m t m' r
+  pub root_empty : {k o : ℕ} {r : Option Sums} → 1 ≤ s → s ≤ u → k ≡ high_of f s → o ≡ place_of f s → k ≡ 8 → EmptyTold f o d u b m t m' r → Told (RootItems Ed f s) (RootItems Ed f s) f d u b m t m' r
   root_empty {k} {o} a z ek eo e T =
       let E : Entry f s 8 o = record { kind_is = sym ek ∙ e; place_is = sym eo } in
       told_as (λ xs X. empty_as_root f s o xs E X) (λ xs W. root_as_empty f s o xs (sym ek ∙ e) (sym eo) W) (T.of s E a z)
 
-  pub root_tree : {k : ℕ} → k ≡ high_of f s → (k ≡ 8 → ⊥) → Told (TreeItems Ed f [] s) (TreeItems Ed f [] s) f d u b m t m' r → Told (RootItems Ed f s) (RootItems Ed f s) f d u b m t m' r
+  pub root_tree : {k : ℕ} {r : Option Sums} → k ≡ high_of f s → (k ≡ 8 → ⊥) → Told (TreeItems Ed f [] s) (TreeItems Ed f [] s) f d u b m t m' r → Told (RootItems Ed f s) (RootItems Ed f s) f d u b m t m' r
   root_tree ek n T = told_as (λ xs X. tree_as_root f s xs X) (λ xs W. root_as_tree f s xs (λ e. n (ek ∙ e)) W) T
 
 -- a slot has one root

@@ -1,14 +1,14 @@
 -- One law for each answer of the walk: what is refused, and what is left to be counted below a body. Assumes nothing.
 use Prim.Native.Nat.{ℕ, suc, ◌+◌, ◌%◌, ◌<◌, ◌≤◌}
 use mathlib.Core.Path.{◌≡◌, refl, sym, ap, ◌∙◌}
-use mathlib.Core.List.{List, [], ◌∷◌, ◌++◌, append_assoc, append-nil, head-eq_of_cons-eq, tail-eq_of_cons-eq}
-use mathlib.Core.Bool.{Bool, true, false}
+use mathlib.Core.List.{List, [], ◌∷◌, ◌++◌, head-eq_of_cons-eq, tail-eq_of_cons-eq}
 use native.Mathlib.Omega.{arith}
 use native.Mathlib.Numerals.{add-one}
 use native.Mathlib.Decide.{ℕ_discrete}
-use lib.ListN.{length, get_or, set, take, drop, length-append, length-take, length-drop}
-use lib.Seq.{take-suc, take-take, take-append-le, take-suc-set, drop-cons, ext_get_or, get_or-take, get_or-drop}
+use lib.ListN.{length, set, take, drop, length-append, length-take, length-drop}
+use lib.Seq.{take-take, take-append-le, take-suc-set, drop-cons, ext_get_or, get_or-take, get_or-drop}
 use lib.Dec.{eqb}
+use Rattle.std.specs.Prelude.{Option, Some, None}
 use Rattle.layout.specs.Number.{le, byte_at, Bytes}
 use Rattle.layout.specs.Place.{prefix_child, prefix_length, node48_index}
 use Rattle.layout.specs.Kind.{node48_kind}
@@ -25,14 +25,15 @@ use Rattle.model.proofs.ItemLaws.{sum_app, sum_cons}
 use Rattle.model.proofs.UniqueLaws.{leaf_unique, prefix_unique, inner_unique}
 use Rattle.claims.specs.Units.{place}
 use Rattle.claims.proofs.UnitLaws.{extent_eighth}
+use Rattle.shape.specs.declared.leaf.Extent.{Extent}
 use Rattle.shape.specs.Shape.{PrefixHere, LeafHere, LeafTold}
 use Rattle.shape_inner.specs.Inner.{InnerHere}
 use Rattle.census.specs.declared.Sums.{Sums}
-use Rattle.census.specs.Told.{Tidy, BodyTold, ExtentTold, Told}
-use Rattle.census.proofs.TakeLaws.{extent_in, not_both}
+use Rattle.census.specs.Told.{Tidy, BodyTaken, BodyTold, ExtentTold, Told}
+use Rattle.census.proofs.TakeLaws.{extent_in}
 use Rattle.census.proofs.ToldLaws.{tidy_slot, tidy_part, told_no, body_sited, tally_body, body_slots}
 use Rattle.audit.specs.declared.walk.Inner.{Inner}
-use Rattle.audit.specs.Walk.{Live, BelowSlot, Kept, Extended, TreeItems, Below, RunItems, At, Fails, Opens, NodeTold, PrefixTold}
+use Rattle.audit.specs.Walk.{Live, BelowSlot, Kept, Extended, TreeItems, Below, RunItems, At, Fails, Opens, NodeOpened, NodeTold, PrefixLeads, PrefixTold}
 use Rattle.audit.proofs.TreeLaws.{tree_first, leaf_of, leaf_is, prefix_of, prefix_is, node_of_lem, node_is, below_short, node_short, kind_node, below_kind, kind_below}
 use Rattle.audit.proofs.OpenLaws.{opens_told, opens_fails, opens_on, opens_as}
 
@@ -57,20 +58,20 @@ module _ {Ed : Edition} {f path : List ℕ} {s d u b : ℕ} {m : List ℕ} {t : 
   pub kind_fails : {kind : ℕ} → kind ≡ high_of f s → (Live kind → ⊥) → Fails (TreeItems Ed f path s) d u b m t
   kind_fails e h is B zs T Y = h (rw e (tree_first T).2)
 
-  module _ {kind o : ℕ} (E : Entry f s kind o) {m' : List ℕ} {t' : Sums} (T : BodyTold d u b kind o m t m' t') where
-    pub body_fails : t'.good ≡ false → Fails (TreeItems Ed f path s) d u b m t
-    body_fails n is B zs W Y =
+  module _ {kind o : ℕ} (E : Entry f s kind o) {m' : List ℕ} where
+    pub body_fails : {r : Option Sums} → BodyTold d u b kind o m t m' r → r ≡ None → Fails (TreeItems Ed f path s) d u b m t
+    body_fails T n is B zs W Y =
         let w = tree_split zs E W in
         let ys = w.0 in
         T.fails n is B s
         (tidy_part ys (body s kind o ∷ is) (λ v. omega (arith, sum_app v zs is, ap (sum v) w.2, sum_cons v (body s kind o) ys, sum_app v ys (body s kind o ∷ is), sum_cons v (body s kind o) is)) Y)
 
-    pub body_opens : t'.good ≡ true → 1 ≤ s → s ≤ u → 1 ≤ kind → kind ≤ 8 → Opens (Below Ed f path s kind o) (TreeItems Ed f path s) f d u b m t m' t'
-    body_opens g a z h l =
+    pub body_opens : {t' : Sums} → BodyTaken d u b kind o m t m' t' → 1 ≤ s → s ≤ u → 1 ≤ kind → kind ≤ 8 → Opens (Below Ed f path s kind o) (TreeItems Ed f path s) f d u b m t m' t'
+    body_opens T a z h l =
         record {
           items = body s kind o ∷ [];
-          grown = T.grown g s;
-          sited = (body_sited s kind o a z E.place_is h l (T.low g) (T.high g), tt);
+          grown = T.grown s;
+          sited = (body_sited s kind o a z E.place_is h l T.low T.high, tt);
           join = λ ys W. W;
           split = λ zs is Y W. tree_split zs E W;
         }
@@ -84,7 +85,7 @@ pub below_other : {f : List ℕ} {s u n kind : ℕ} → kind ≡ high_of f s →
 below_other {f} {s} {kind = kind} e h no2 p = few (omega (arith, p.low)) (λ q. omega (arith, p.low)) no2 (λ q. p.crossing (sym e ∙ q)) h
 
 -- what stands at a place, of the slot that tells it
-pub slot_at : {Ed : Edition} {f path : List ℕ} {s kind k o d u b : ℕ} {m : List ℕ} {t : Sums} {m' : List ℕ} {r : Sums} → kind ≡ high_of f s → o ≡ place_of f s → 1 ≤ s → s ≤ u → kind ≡ k
+pub slot_at : {Ed : Edition} {f path : List ℕ} {s kind k o d u b : ℕ} {m : List ℕ} {t : Sums} {m' : List ℕ} {r : Option Sums} → kind ≡ high_of f s → o ≡ place_of f s → 1 ≤ s → s ≤ u → kind ≡ k
     → At Ed f path k o d u b m t m' r → Told (TreeItems Ed f path s) (TreeItems Ed f path s) f d u b m t m' r
 slot_at {Ed} {f} {path} {s} ek eo a z e A = A.of s (entry_made (sym e ∙ ek) eo) a z
 
@@ -93,44 +94,45 @@ slot_at {Ed} {f} {path} {s} ek eo a z e A = A.of s (entry_made (sym e ∙ ek) eo
 pub leaf_whole : {Ed : Edition} {f path : List ℕ} {o d b e n : ℕ} → LeafHere Ed f path o d b e n → (e % 8 ≡ 0) × (n % 8 ≡ 0) × (e + n ≤ b)
 leaf_whole L = let z = L.long in (L.is.eights, omega arith, L.high)
 
-module _ {Ed : Edition} {f path : List ℕ} {o d u b : ℕ} {m : List ℕ} {t : Sums} {m' : List ℕ} {t' : Sums} (T : BodyTold d u b 1 o m t m' t') {m'' : List ℕ} {r : Sums} where
-  pub leaf_body : t'.good ≡ false → r.good ≡ false → At Ed f path 1 o d u b m t m'' r
-  leaf_body n k = record { of = λ s E a z. told_no k (body_fails E T n) }
+module _ {Ed : Edition} {f path : List ℕ} {o d u b : ℕ} {m : List ℕ} {t : Sums} {m' m'' : List ℕ} where
+  pub leaf_body : {r : Option Sums} → BodyTold d u b 1 o m t m' r → r ≡ None → At Ed f path 1 o d u b m t m'' None
+  leaf_body T n = record { of = λ s E a z. told_no (body_fails E T n) }
 
-  pub leaf_bad : {g : Bool} {e n : ℕ} → ((k : List ℕ) → Ed.key_fault k ≡ 0 → 1 ≤ length k) → t'.good ≡ true → LeafTold Ed f path o d b g e n → g ≡ false → r.good ≡ false → At Ed f path 1 o d u b m t m'' r
-  leaf_bad some h L q k =
-      record {
-        of = λ s E a z. told_no k (opens_fails (body_opens E T h a z (omega arith) (omega arith))
-            (λ is B ys W Y.
-            let M = leaf_of W in
-            let n = extent_of M.key M.value in
-            let j = some M.key M.of.legal in
-            let Z : Tidy d u b (extent M.at n ∷ is) = rw M.are at Y in
-            let i = extent_in M.at n is (omega arith) Z in
-            L.fails q M.at n (record { key = M.key; value = M.value; is = M.of; long = refl; low = i.0; high = i.1 })));
-      }
-
-  pub leaf_on : {e n : ℕ} → t'.good ≡ true → LeafHere Ed f path o d b e n → ExtentTold u e n m' t' m'' r → At Ed f path 1 o d u b m t m'' r
-  unfolding place bulk
-  leaf_on {e} {n} h L X =
-      let w = leaf_whole L in
-      record {
-        of = λ s E a z. opens_told (body_opens E T h a z (omega arith) (omega arith)) (record {
-          holds = λ g. record {
-            items = extent e n ∷ [];
-            are = rw L.long (leaf_is E L.is);
-            grown = X.grown g;
-            sited = (record { eighth = extent_eighth e n w.0 w.1; within = record { low = L.low; high = L.high }; slotted = tt }, tt);
-            tally = X.tally g;
-          };
-          fails = λ q is B ys W Y.
+  module _ {t' : Sums} (T : BodyTaken d u b 1 o m t m' t') where
+    pub leaf_bad : {x : Option Extent} → ((k : List ℕ) → Ed.key_fault k ≡ 0 → 1 ≤ length k) → LeafTold Ed f path o d b x → x ≡ None → At Ed f path 1 o d u b m t m'' None
+    leaf_bad some L q =
+        record {
+          of = λ s E a z. told_no (opens_fails (body_opens E T a z (omega arith) (omega arith))
+              (λ is B ys W Y.
               let M = leaf_of W in
-              let z = leaf_unique f o M.at e M.key M.value L.key L.value M.of.at L.is.at in
-              let Z : Tidy d u b (extent M.at (extent_of M.key M.value) ∷ is) = rw M.are at Y in
-              let J : Tidy d u b (extent e n ∷ is) = rw (L.long, sym z.0, sym z.1, sym z.2) Z in
-              X.fails q is B J.apart;
-        });
-      }
+              let n = extent_of M.key M.value in
+              let j = some M.key M.of.legal in
+              let Z : Tidy d u b (extent M.at n ∷ is) = rw M.are at Y in
+              let i = extent_in M.at n is (omega arith) Z in
+              L.fails q M.at n (record { key = M.key; value = M.value; is = M.of; long = refl; low = i.0; high = i.1 })));
+        }
+
+    pub leaf_on : {e n : ℕ} {r : Option Sums} → LeafHere Ed f path o d b e n → ExtentTold u e n m' t' m'' r → At Ed f path 1 o d u b m t m'' r
+    unfolding place bulk
+    leaf_on {e} {n} L X =
+        let w = leaf_whole L in
+        record {
+          of = λ s E a z. opens_told (body_opens E T a z (omega arith) (omega arith)) (record {
+            holds = λ q g. let Y = X.holds q g in record {
+              items = extent e n ∷ [];
+              are = rw L.long (leaf_is E L.is);
+              grown = Y.grown;
+              sited = (record { eighth = extent_eighth e n w.0 w.1; within = record { low = L.low; high = L.high }; slotted = tt }, tt);
+              tally = Y.tally;
+            };
+            fails = λ q is B ys W Y.
+                let M = leaf_of W in
+                let z = leaf_unique f o M.at e M.key M.value L.key L.value M.of.at L.is.at in
+                let Z : Tidy d u b (extent M.at (extent_of M.key M.value) ∷ is) = rw M.are at Y in
+                let J : Tidy d u b (extent e n ∷ is) = rw (L.long, sym z.0, sym z.1, sym z.2) Z in
+                X.fails q is B J.apart;
+          });
+        }
 
 -- ---- a Prefix
 
@@ -154,18 +156,6 @@ kept_far {f} {at} {depth} {n} {p} {r} {q} h K X =
 
 pub path_byte : (r : List ℕ) (b : ℕ) {depth : ℕ} {p : List ℕ} → depth < length r → Kept depth p r → take (depth + 1) (set r depth b) ≡ take depth p ++ b ∷ []
 path_byte r b {depth} {p} h K = ap (λ (n : ℕ). take n (set r depth b)) (add-one depth) ∙ take-suc-set r depth b h ∙ ap (λ (l : List ℕ). l ++ b ∷ []) K.same
-
-pub path_start : (path : List ℕ) (depth : ℕ) → take (depth + 0) path ≡ take depth path ++ []
-path_start path depth = let e : depth + 0 ≡ depth = omega arith in rw e (sym (append-nil (take depth path)))
-
-pub path_step : (path q f : List ℕ) (depth at i : ℕ) → depth + i < length path → at + i < length f → take (depth + i) path ≡ q ++ take i (drop at f)
-    → take (depth + (i + 1)) (set path (depth + i) (get_or f (at + i) 0)) ≡ q ++ take (i + 1) (drop at f)
-path_step path q f depth at i h l e =
-    let a : depth + (i + 1) ≡ suc (depth + i) = omega arith in
-    let b : i + 1 ≡ suc i = omega arith in
-    let k : i < length (drop at f) = simp length-drop (omega arith) in
-    ap (λ (n : ℕ). take n (set path (depth + i) (get_or f (at + i) 0))) a ∙ take-suc-set path (depth + i) (get_or f (at + i) 0) h
-    ∙ rw (e, b, take-suc (drop at f) i 0 k, get_or-drop) (append_assoc q (take i (drop at f)) (get_or f (at + i) 0 ∷ []))
 
 -- what stands at a place, as a part of the frame
 text_taken : (f : List ℕ) (o : ℕ) (p : List ℕ) → o + length p ≤ length f → Text f o p → take (length p) (drop o f) ≡ p
@@ -237,68 +227,66 @@ module _ {Ed : Edition} {f path : List ℕ} {s o kind d u b : ℕ} {m : List ℕ
       record { kids = N.kids; trees = N.trees; pairs_are = inner_unique f o kind (pairs N.kids) I.kids N.of.inner I.is; places = N.of.places; are = N.are })
 
 -- a node's body with what is told of it
-node_no : {f : List ℕ} {limit depth kind o d u b : ℕ} {m : List ℕ} {t : Sums} {m' : List ℕ} {r : Sums} → r.good ≡ false
+node_no : {f : List ℕ} {limit depth kind o d u b : ℕ} {m : List ℕ} {t : Sums} {m' : List ℕ}
     → ((Ed : Edition) → Lawful Ed → Ed.longest ≤ limit → (path : List ℕ) (s : ℕ) → length path ≡ depth → Entry f s kind o → 1 ≤ s → s ≤ u → Fails (TreeItems Ed f path s) d u b m t)
-    → NodeTold f limit depth kind o d u b m t m' r
-node_no {r = r} k h = record { holds = λ g. not_both r g k; fails = λ n. h }
+    → NodeTold f limit depth kind o d u b m t m' None
+node_no h = record { holds = λ t' g. clash (cc); fails = λ n. h }
 
-pub node_other : {f : List ℕ} {limit depth kind o d u b : ℕ} {m : List ℕ} {t : Sums} {m' : List ℕ} {r : Sums} → (Live kind → ⊥) → r.good ≡ false → NodeTold f limit depth kind o d u b m t m' r
-node_other h k = node_no k (λ Ed L w path s l E a z. kind_fails (sym E.kind_is) h)
+pub node_other : {f : List ℕ} {limit depth kind o d u b : ℕ} {m : List ℕ} {t : Sums} {m' : List ℕ} → (Live kind → ⊥) → NodeTold f limit depth kind o d u b m t m' None
+node_other h = node_no (λ Ed L w path s l E a z. kind_fails (sym E.kind_is) h)
 
-module _ {f : List ℕ} {limit depth kind o d u b : ℕ} {m : List ℕ} {t : Sums} {m' : List ℕ} {t' : Sums} (least : 4 ≤ kind) (most : kind ≤ 7) (T : BodyTold d u b kind o m t m' t') where
-  pub node_body : {m'' : List ℕ} {r : Sums} → t'.good ≡ false → r.good ≡ false → NodeTold f limit depth kind o d u b m t m'' r
-  node_body n k = node_no k (λ Ed L w path s l E a z. body_fails E T n)
+module _ {f : List ℕ} {limit depth kind o d u b : ℕ} {m : List ℕ} {t : Sums} {m' : List ℕ} where
+  pub node_body : {m'' : List ℕ} {r : Option Sums} → BodyTold d u b kind o m t m' r → r ≡ None → NodeTold f limit depth kind o d u b m t m'' None
+  node_body T n = node_no (λ Ed L w path s l E a z. body_fails E T n)
 
-  pub node_refused : {m'' : List ℕ} {r : Sums} → t'.good ≡ true → r.good ≡ false
-      → ((Ed : Edition) → Lawful Ed → Ed.longest ≤ limit → (path : List ℕ) (s : ℕ) → length path ≡ depth → Entry f s kind o → Fails (Below Ed f path s kind o) d u b m' t') → NodeTold f limit depth kind o d u b m t m'' r
-  node_refused g k h = node_no k (λ Ed L w path s l E a z. opens_fails (body_opens E T g a z (omega arith) (omega arith)) (h Ed L w path s l E))
+  module _ (least : 4 ≤ kind) (most : kind ≤ 7) {t' : Sums} (T : BodyTaken d u b kind o m t m' t') where
+    pub node_refused : {m'' : List ℕ}
+        → ((Ed : Edition) → Lawful Ed → Ed.longest ≤ limit → (path : List ℕ) (s : ℕ) → length path ≡ depth → Entry f s kind o → Fails (Below Ed f path s kind o) d u b m' t') → NodeTold f limit depth kind o d u b m t m'' None
+    node_refused h = node_no (λ Ed L w path s l E a z. opens_fails (body_opens E T a z (omega arith) (omega arith)) (h Ed L w path s l E))
 
-  pub node_told : t'.good ≡ true → depth < limit → InnerHere f o kind → NodeTold f limit depth kind o d u b m t m' t'
-  node_told g l I =
-      let e = body_slots T g in
-      record {
-        holds = λ h. record {
+    pub node_told : depth < limit → InnerHere f o kind → NodeTold f limit depth kind o d u b m t m' (Some t')
+    node_told l I =
+        let e = body_slots T in
+        let N : NodeOpened f limit depth kind o d u b m t m' t' = record {
           node = I;
-          room = T.high g;
+          room = T.high;
           short = l;
-          tally = tally_body (T.tally g);
+          tally = tally_body T.tally;
           more = omega arith;
-          of = λ Ed path s E a z. opens_on (body_opens E T g a z (omega arith) (omega arith)) (node_opens least I E);
-        };
-        fails = λ n. not_both t' g n;
-      }
+          of = λ Ed path s E a z. opens_on (body_opens E T a z (omega arith) (omega arith)) (node_opens least I E);
+        } in
+        record { holds = λ s e. let i : s ≡ t' = cc in rw i N; fails = λ e. clash (cc) }
 
 -- a Prefix's body with what is told of it
-module _ {f path : List ℕ} {depth s o d u b : ℕ} {m : List ℕ} {t : Sums} {now m' : List ℕ} {m₁ : List ℕ} {t₁ : Sums} (T : BodyTold d u b 2 o m t m₁ t₁) (E : Entry f s 2 o) where
-  pub prefix_body : {i : Inner} → t₁.good ≡ false → i.sums.good ≡ false → PrefixTold f path depth s d u b m t now m' i
-  prefix_body {i} n k = record { holds = λ g. not_both i.sums g k; fails = λ y Ed L w. body_fails E T n }
+module _ {f path : List ℕ} {depth s o d u b : ℕ} {m : List ℕ} {t : Sums} {now m' : List ℕ} {m₁ : List ℕ} (E : Entry f s 2 o) where
+  pub prefix_body : {r : Option Sums} → BodyTold d u b 2 o m t m₁ r → r ≡ None → PrefixTold f path depth s d u b m t now m' None
+  prefix_body T n = record { holds = λ i g. clash (cc); fails = λ y Ed L w. body_fails E T n }
 
-  pub prefix_refused : {i : Inner} → 1 ≤ s → s ≤ u → t₁.good ≡ true → i.sums.good ≡ false → ((Ed : Edition) → Lawful Ed → Ed.longest ≤ length now → Fails (Below Ed f path s 2 o) d u b m₁ t₁)
-      → PrefixTold f path depth s d u b m t now m' i
-  prefix_refused {i} a z g k h = record { holds = λ y. not_both i.sums y k; fails = λ y Ed L w. opens_fails (body_opens E T g a z (omega arith) (omega arith)) (h Ed L w) }
+  pub prefix_refused : {t₁ : Sums} → BodyTaken d u b 2 o m t m₁ t₁ → 1 ≤ s → s ≤ u → ((Ed : Edition) → Lawful Ed → Ed.longest ≤ length now → Fails (Below Ed f path s 2 o) d u b m₁ t₁)
+      → PrefixTold f path depth s d u b m t now m' None
+  prefix_refused T a z h = record { holds = λ i y. clash (cc); fails = λ y Ed L w. opens_fails (body_opens E T a z (omega arith) (omega arith)) (h Ed L w) }
 
-pub prefix_told : {f path : List ℕ} {depth s o d u b : ℕ} {m : List ℕ} {t : Sums} {now : List ℕ} {m₁ : List ℕ} {t₁ : Sums} {c n deep kind o' : ℕ} (P : PrefixHere f o) → BodyTold d u b 2 o m t m₁ t₁ → Entry f s 2 o → 1 ≤ s → s ≤ u → t₁.good ≡ true
+pub prefix_told : {f path : List ℕ} {depth s o d u b : ℕ} {m : List ℕ} {t : Sums} {now : List ℕ} {m₁ : List ℕ} {t₁ : Sums} {c n deep kind o' : ℕ} (P : PrefixHere f o) → BodyTaken d u b 2 o m t m₁ t₁ → Entry f s 2 o → 1 ≤ s → s ≤ u
     → BelowSlot f c u n → c ≡ le 4 f (o + prefix_child) → n ≡ le 2 f (o + prefix_length) → kind ≡ high_of f c → o' ≡ place_of f c → o' < 1048576 → depth ≤ deep → deep < length now → take deep now ≡ path ++ P.bytes
-    → PrefixTold f path depth s d u b m t now m₁ (record { sums = t₁; slot = c; place = o'; kind = kind; depth = deep })
-prefix_told {t₁ = t₁} P T E a z g I ec en ek eo small le short e =
-    let q = body_slots T g in
+    → PrefixTold f path depth s d u b m t now m₁ (Some (record { sums = t₁; slot = c; place = o'; kind = kind; depth = deep }))
+prefix_told {f} {path} {depth} {s} {o} {d} {u} {b} {m} {t} {now} {m₁} {t₁} {c} {n} {deep} {kind} {o'} P T E a z I ec en ek eo small le short e =
+    let q = body_slots T in
     let low = I.low in
-    record {
-      holds = λ h. record {
-        first = I.first;
-        last = I.last;
-        other = λ y. omega arith;
-        kind_is = ek;
-        place_is = eo;
-        small = small;
-        deeper = le;
-        short = short;
-        tally = tally_body (T.tally g);
-        more = omega arith;
-        opens = λ Ed. opens_on (body_opens E T g a z (omega arith) (omega arith)) (prefix_opens P E I ec en e);
-      };
-      fails = λ y. not_both t₁ g y;
-    }
+    let k : Inner = record { sums = t₁; slot = c; place = o'; kind = kind; depth = deep } in
+    let L : PrefixLeads f path depth s d u b m t now m₁ k = record {
+      first = I.first;
+      last = I.last;
+      other = λ y. omega arith;
+      kind_is = ek;
+      place_is = eo;
+      small = small;
+      deeper = le;
+      short = short;
+      tally = tally_body T.tally;
+      more = omega arith;
+      opens = λ Ed. opens_on (body_opens E T a z (omega arith) (omega arith)) (prefix_opens P E I ec en e);
+    } in
+    record { holds = λ i h. let y : i ≡ k = cc in rw y L; fails = λ y. clash (cc) }
 
 -- ---- its children, one after the other
 

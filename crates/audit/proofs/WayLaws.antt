@@ -3,10 +3,10 @@
 use Prim.Native.Nat.{ℕ, suc, ◌+◌, ◌*◌, ◌%◌, ◌<◌, ◌≤◌}
 use mathlib.Core.Path.{◌≡◌, refl, sym, ap, ◌∙◌}
 use mathlib.Core.List.{List, [], ◌∷◌, ◌++◌, append-nil}
-use mathlib.Core.Bool.{true, false}
 use native.Mathlib.Omega.{arith}
 use lib.ListN.{length, get_or, set, take, drop, length-set}
 use lib.Seq.{take-take, take-set-le, drop-length, get_or-set_same, get_or-set_other, get_or-take}
+use Rattle.std.specs.Prelude.{Option, Some, None}
 use Rattle.layout.specs.Kind.{Inner, body_size, most}
 use Rattle.layout.specs.Kind.Inner.{node4, node16, node48, node256}
 use Rattle.layout.specs.Entry.{place_of, high_of}
@@ -185,10 +185,10 @@ few_kids {f} {o} {kind} {ks} I N =
     go node256 = omega arith
 
 -- a tree has a body
-pub tree_more : {Ed : Edition} {f path : List ℕ} {s d u b : ℕ} {m : List ℕ} {t : Sums} {m' : List ℕ} {t' : Sums} → Told (TreeItems Ed f path s) (TreeItems Ed f path s) f d u b m t m' t' → t'.good ≡ true → (t.slots < t'.slots) × (t'.slots ≤ u)
+pub tree_more : {Ed : Edition} {f path : List ℕ} {s d u b : ℕ} {m : List ℕ} {t : Sums} {m' : List ℕ} {r : Option Sums} {t' : Sums} → Told (TreeItems Ed f path s) (TreeItems Ed f path s) f d u b m t m' r → r ≡ Some t' → (t.slots < t'.slots) × (t'.slots ≤ u)
 unfolding is_body
-tree_more {Ed} {f} {path} {s} T g =
-    let K = T.holds g in
+tree_more {Ed} {f} {path} {s} {t' = t'} T g =
+    let K = T.holds t' g in
     let w = tree_first K.are in
     let e = ap (sum is_body) w.1 in
     (omega (arith, K.grown.slots, e, sum_cons is_body (body s (high_of f s) (place_of f s)) w.0), K.tally.slots)
@@ -285,8 +285,8 @@ module _ {Ed : Edition} {G : List Item → Type 0} {f : List ℕ} {d u b : ℕ} 
   come_entry = entry_made C.kind_is C.place_is
 
   -- the slot is refused, and so is all
-  pub come_refused : {m' : List ℕ} {r : Sums} → r.good ≡ false → Fails (TreeItems Ed f (take depth path) slot) d u b m t → Told G G f d u b m₀ t₀ m' r
-  come_refused {m'} {r} q h = C.leads m' r (told_no q (row_fails h))
+  pub come_refused : {m' : List ℕ} → Fails (TreeItems Ed f (take depth path) slot) d u b m t → Told G G f d u b m₀ t₀ m' None
+  come_refused {m'} h = C.leads m' None (told_no (row_fails h))
 
   -- it was a Prefix
   pub come_prefix : {now m' : List ℕ} {k : walk.Inner} → Kept depth path now → PrefixLeads f (take depth path) depth slot d u b m t now m' k
@@ -345,16 +345,16 @@ module _ {Ed : Edition} {G : List Item → Type 0} {f : List ℕ} {d u b : ℕ} 
   walk_few = let h = W.counted in let l = W.tally.slots in omega arith
 
   -- all is counted
-  pub walk_end : n ≤ i → waiting ≡ 0 → Told G G f d u b m₀ t₀ m t
+  pub walk_end : n ≤ i → waiting ≡ 0 → Told G G f d u b m₀ t₀ m (Some t)
   unfolding Waiting
   walk_end h e = go W.ways (W.height ∙ refl) W.leads
     where
-      go : (ws : List Way) → waiting ≡ length ws → Leads (Row (Rest Ed f (take depth path) place kind W.kids i) (Waiting Ed f ws)) (Row (Rest Ed f (take depth path) place kind W.kids i) (Waiting Ed f ws)) G G f d u b m t m₀ t₀ → Told G G f d u b m₀ t₀ m t
+      go : (ws : List Way) → waiting ≡ length ws → Leads (Row (Rest Ed f (take depth path) place kind W.kids i) (Waiting Ed f ws)) (Row (Rest Ed f (take depth path) place kind W.kids i) (Waiting Ed f ws)) G G f d u b m t m₀ t₀ → Told G G f d u b m₀ t₀ m (Some t)
       go (w ∷ ws) p L = absurd (omega arith)
       go [] p L =
           let a = W.inside in
           let c = W.count in
-          L m t (told_yes W.tally.good (record { items = []; are = record { first = []; rest = []; head = rest_none {i = i} W.kids (omega arith); tail = refl; are = refl }; grown = grown_none; sited = tt; tally = W.tally }))
+          L m (Some t) (told_yes (record { items = []; are = record { first = []; rest = []; head = rest_none {i = i} W.kids (omega arith); tail = refl; are = refl }; grown = grown_none; sited = tt; tally = W.tally }))
 
   module _ {c k : ℕ} (below : i < n) (ec : c ≡ byte_in W.kids i) (ek : k ≡ child_in W.kids i) where
     child_below : i < length W.kids
@@ -365,16 +365,16 @@ module _ {Ed : Edition} {G : List Item → Type 0} {f : List ℕ} {d u b : ℕ} 
     child_path = let h = W.short in path_byte path c {depth = depth} {p = path} (omega arith) (record { same = refl })
 
     -- the child is refused, and so is all
-    pub walk_refused : {m' : List ℕ} {r : Sums} → r.good ≡ false → Fails (TreeItems Ed f (take (depth + 1) (set path depth c)) k) d u b m t → Told G G f d u b m₀ t₀ m' r
-    walk_refused {m'} {r} q h =
-        W.leads m' r
-        (told_no q
+    pub walk_refused : {m' : List ℕ} → Fails (TreeItems Ed f (take (depth + 1) (set path depth c)) k) d u b m t → Told G G f d u b m₀ t₀ m' None
+    walk_refused {m'} h =
+        W.leads m' None
+        (told_no
         (row_fails (λ is B zs R Y. row_fails h is B zs (rest_first W.kids child_below ec ek child_path refl zs R) Y)))
 
     -- it was a Leaf
-    pub walk_leaf : {m' : List ℕ} {t' : Sums} {next to : ℕ} → Told (TreeItems Ed f (take (depth + 1) (set path depth c)) k) (TreeItems Ed f (take (depth + 1) (set path depth c)) k) f d u b m t m' t' → t'.good ≡ true → next ≡ i + 1 → to ≡ c + 1 → c < 256
+    pub walk_leaf : {m' : List ℕ} {r : Option Sums} {t' : Sums} {next to : ℕ} → Told (TreeItems Ed f (take (depth + 1) (set path depth c)) k) (TreeItems Ed f (take (depth + 1) (set path depth c)) k) f d u b m t m' r → r ≡ Some t' → next ≡ i + 1 → to ≡ c + 1 → c < 256
         → Walking Ed G f d u b m₀ t₀ m' (set path depth c) waits waiting t' slot place kind depth n next to
-    walk_leaf {m'} {t'} {next} {to} T g en et hc =
+    walk_leaf {m'} {r} {t'} {next} {to} T g en et hc =
         let e = W.count in
         let same : take depth (set path depth c) ≡ take depth path = take-set-le depth path depth c (omega arith) in
         record {
@@ -386,7 +386,7 @@ module _ {Ed : Edition} {G : List Item → Type 0} {f : List ℕ} {d u b : ℕ} 
           last = W.last;
           room = W.room;
           short = let h = W.short in simp length-set h;
-          tally = (T.holds g).tally;
+          tally = (T.holds t' g).tally;
           count = e;
           few = W.few;
           inside = omega arith;

@@ -1,5 +1,5 @@
 -- From the root, the sweep, the lists and the sums to what the frame stands for, and back. Assumes nothing.
-use Prim.Native.Nat.{ℕ, zero, suc, ◌+◌, ◌*◌, ◌%◌, ◌<◌, ◌≤◌}
+use Prim.Native.Nat.{ℕ, zero, suc, ◌+◌, ◌*◌, ◌<◌, ◌≤◌}
 use mathlib.Core.Path.{◌≡◌, refl, sym, ap, ◌∙◌}
 use mathlib.Core.List.{List, [], ◌∷◌, ◌++◌}
 use mathlib.Core.Bool.{Bool, true, false}
@@ -7,8 +7,9 @@ use native.Mathlib.Omega.{arith}
 use lib.ListN.{length, get_or}
 use lib.Dec.{eqb}
 use borrow.Author.Tests.{eqb-true, eqb-false}
+use Rattle.std.specs.Prelude.{Option, None}
 use Rattle.layout.specs.Number.{le}
-use Rattle.layout.specs.Place.{at_n, at_d, at_b, at_u, at_r, at_x, at_root}
+use Rattle.layout.specs.Place.{at_d, at_b, at_u, at_r, at_x, at_root}
 use Rattle.layout.specs.Entry.{place_of}
 use Rattle.model.specs.Edition.{Edition}
 use Rattle.model.specs.State.{State}
@@ -19,7 +20,6 @@ use Rattle.model.specs.Frame.LayKids.{nil, kid}
 use Rattle.model.specs.Promise.{CheckPromise}
 use Rattle.model.proofs.StringLaws.{clash}
 use Rattle.model.proofs.ItemLaws.{in_under, sum_app, sum_as}
-use Rattle.model.proofs.FormatLaws.{data_eight}
 use Rattle.model.proofs.CleanLaws.{stands_clean, root_as}
 use Rattle.model.proofs.UniqueLaws.{lists_same}
 use Rattle.model.proofs.StandsGood.{bodied, leafy_other, sound_bodies}
@@ -29,7 +29,7 @@ use Rattle.claims.proofs.SlotLaws.{slots_each, sound_made}
 use Rattle.sweep.proofs.SweepLaws.{swept_clean, clean_swept}
 use Rattle.shape.specs.Shape.{LengthFits, HeaderTold, numbers_of}
 use Rattle.census.specs.declared.Sums.{Sums}
-use Rattle.census.specs.Told.{is_body, is_extent, Limits, Ground, Tidy, Sited, Book, Held, Told}
+use Rattle.census.specs.Told.{is_body, is_extent, Tidy, Sited, Book, Held, Told}
 use Rattle.census.specs.Freed.{ListOf, ListsOf, FreedItems}
 use Rattle.census.proofs.ToldLaws.{tidy_same, tidy_part, each_app, grown_on, book_on}
 use Rattle.audit.specs.Audit.{ruled, HeaderFits, RootItems, Unmarked, Closed, Closes}
@@ -124,33 +124,12 @@ all_lists f ls L =
 -- ---- what the header says
 
 module _ {Ed : Edition} {f : List ℕ} {d u b : ℕ} (H : HeaderFits Ed f) (ed : d ≡ le 4 f at_d) (eu : u ≡ le 4 f at_u) (eb : b ≡ le 4 f at_b) where
-  pub ground_of : Ground f d u b
-  ground_of =
+  order : d ≤ b
+  order =
       let h = H.header in
       let a = h.data_at in
       let c = h.bump_in in
-      let g = h.given_in in
-      let s = h.size in
-      record { bytes = H.bytes; table = omega arith; order = omega arith; inside = omega arith }
-
-  pub limits_of : {words : ℕ} → length f ≤ 512 * words → Limits d u b words
-  limits_of w =
-      let h = H.header in
-      let a = h.data_at in
-      let c = h.bump_in in
-      let g = h.given_in in
-      let s = h.size in
-      let l = h.limits in
-      record { table = omega arith; order = omega arith; size = omega arith; room = omega arith }
-
-  pub sweep_ok : (words : ℕ) → length f ≤ 512 * words → (d % 8 ≡ 0) × (b % 8 ≡ 0) × (d ≤ b) × (b ≤ length f) × (b ≤ 512 * words)
-  sweep_ok words w =
-      let h = H.header in
-      let a = h.data_at in
-      let c = h.bump_in in
-      let s = h.size in
-      let e : d % 8 ≡ 0 = rw (ed ∙ a) (data_eight (le 4 f at_n) h.slot_cap.0) in
-      (e, omega arith, omega arith, omega arith, omega arith)
+      omega arith
 
   -- a good frame's items are tidy
   stands_tidy : (s : State) (S : Stands (ruled false Ed) f s) → Tidy d u b (root_items S.root ++ freed 1 S.lists)
@@ -181,7 +160,7 @@ module _ {Ed : Edition} {f : List ℕ} {d u b : ℕ} (H : HeaderFits Ed f) (ed :
     unfolding sum
     book = record { seen = fresh; slots = none.0 }
 
-    pub whole_root : {m' : List ℕ} {r : Sums} → Told (RootItems Ed f s) (RootItems Ed f s) f d u b m t m' r → r.good ≡ false → Good (ruled false Ed) f → ⊥
+    pub whole_root : {m' : List ℕ} {r : Option Sums} → Told (RootItems Ed f s) (RootItems Ed f s) f d u b m t m' r → r ≡ None → Good (ruled false Ed) f → ⊥
     whole_root T n G =
         let S = G.1 in
         let xs = root_items S.root in
@@ -208,10 +187,10 @@ module _ {Ed : Edition} {f : List ℕ} {d u b : ℕ} (H : HeaderFits Ed f) (ed :
       whole_unclean true n G =
           let S = G.1 in
           let C = stands_clean S refl in
-          n (record { swept = λ e. clean_swept seen_live live_eighths live_high (omega (arith, ground_of.order)) (clean_as (sym ed) (sym (live_is (root_of_lem G.0 S es (root_as (of_rule true Ed) f S.root S.root_at)))) C) })
+          n (record { swept = λ e. clean_swept seen_live live_eighths live_high (omega (arith, order)) (clean_as (sym ed) (sym (live_is (root_of_lem G.0 S es (root_as (of_rule true Ed) f S.root S.root_at)))) C) })
       whole_unclean false n G = n (record { swept = λ e. clash (cc) })
 
-      pub whole_lists : {m'' : List ℕ} {q : Sums} → Told (FreedItems f 1) (FreedItems f 1) f d u b m' r m'' q → q.good ≡ false → Good (ruled false Ed) f → ⊥
+      pub whole_lists : {m'' : List ℕ} {q : Option Sums} → Told (FreedItems f 1) (FreedItems f 1) f d u b m' r m'' q → q ≡ None → Good (ruled false Ed) f → ⊥
       whole_lists T n G =
           let S = G.1 in
           let xs = root_items S.root in

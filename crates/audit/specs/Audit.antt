@@ -1,5 +1,5 @@
 -- By which rule a frame is good, the items of a root, and the sums that close a good frame.
-use Rattle.std.specs.Prelude.{ℕ, ◌+◌, ◌≤◌, ◌≡◌, List, [], ◌∷◌, Bool, true, false}
+use Rattle.std.specs.Prelude.{ℕ, ◌+◌, ◌≤◌, ◌≡◌, List, [], ◌∷◌, Option, Bool, true, false}
 use Rattle.layout.specs.Number.{le, Bytes}
 use Rattle.layout.specs.Place.{at_d, at_b, at_u, at_r, at_x}
 use Rattle.layout.specs.Kind.{empty_root_kind}
@@ -38,8 +38,8 @@ pub record EmptyItems (f : List ℕ) (s o : ℕ) (xs : List Item) : Type 0 where
   pub zeros : Zero f o 8
   pub are : body s empty_root_kind o ∷ [] ≡ xs
 
-pub record EmptyTold (f : List ℕ) (o d u b : ℕ) (m : List ℕ) (t : Sums) (m' : List ℕ) (t' : Sums) : Type 0 where
-  pub of : (s : ℕ) → frame.Entry f s empty_root_kind o → 1 ≤ s → s ≤ u → Told (EmptyItems f s o) (EmptyItems f s o) f d u b m t m' t'
+pub record EmptyTold (f : List ℕ) (o d u b : ℕ) (m : List ℕ) (t : Sums) (m' : List ℕ) (r : Option Sums) : Type 0 where
+  pub of : (s : ℕ) → frame.Entry f s empty_root_kind o → 1 ≤ s → s ≤ u → Told (EmptyItems f s o) (EmptyItems f s o) f d u b m t m' r
 
 -- what the rule asks of units that the map m has not marked
 pub record Unmarked (wiped : Bool) (f m : List ℕ) (d b : ℕ) : Type 0 where

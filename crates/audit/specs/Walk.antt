@@ -1,5 +1,5 @@
 -- What the walk through the live tree tells of a slot, of a body, and of the children of a node.
-use Rattle.std.specs.Prelude.{ℕ, ◌+◌, ◌*◌, ◌/◌, ◌%◌, ◌<◌, ◌≤◌, ◌≡◌, List, ◌∷◌, ◌++◌, true, false, length, take, drop}
+use Rattle.std.specs.Prelude.{ℕ, ◌+◌, ◌*◌, ◌/◌, ◌%◌, ◌<◌, ◌≤◌, ◌≡◌, List, ◌∷◌, ◌++◌, Option, Some, None, length, take, drop}
 use Rattle.layout.specs.Place.{prefix_most}
 use Rattle.layout.specs.Kind.{leaf_kind, prefix_kind, crossing_kind, node256_kind, body_size}
 use Rattle.layout.specs.Entry.{place_of, high_of}
@@ -74,8 +74,8 @@ pub record RunItems (E : Edition) (f path : List ℕ) (o kind : ℕ) (ks : List 
   pub are : items_all kids ≡ xs
 
 -- what is told of a body of the kind at o: of whatever slot it is, all that stands there
-pub record At (E : Edition) (f path : List ℕ) (kind o d u b : ℕ) (m : List ℕ) (t : Sums) (m' : List ℕ) (t' : Sums) : Type 0 where
-  pub of : (s : ℕ) → Entry f s kind o → 1 ≤ s → s ≤ u → Told (TreeItems E f path s) (TreeItems E f path s) f d u b m t m' t'
+pub record At (E : Edition) (f path : List ℕ) (kind o d u b : ℕ) (m : List ℕ) (t : Sums) (m' : List ℕ) (r : Option Sums) : Type 0 where
+  pub of : (s : ℕ) → Entry f s kind o → 1 ≤ s → s ≤ u → Told (TreeItems E f path s) (TreeItems E f path s) f d u b m t m' r
 
 -- ---- a node whose children are still to be counted
 
@@ -101,9 +101,9 @@ pub record NodeOpened (f : List ℕ) (limit depth kind o d u b : ℕ) (m : List 
   pub more : t.slots < t'.slots
   pub of : (E : Edition) (path : List ℕ) (s : ℕ) → Entry f s kind o → 1 ≤ s → s ≤ u → Opens (RunItems E f path o kind node.kids) (TreeItems E f path s) f d u b m t m' t'
 
-pub record NodeTold (f : List ℕ) (limit depth kind o d u b : ℕ) (m : List ℕ) (t : Sums) (m' : List ℕ) (t' : Sums) : Type 0 where
-  pub holds : t'.good ≡ true → NodeOpened f limit depth kind o d u b m t m' t'
-  pub fails : t'.good ≡ false → (E : Edition) → Lawful E → E.longest ≤ limit → (path : List ℕ) (s : ℕ) → length path ≡ depth → Entry f s kind o → 1 ≤ s → s ≤ u → Fails (TreeItems E f path s) d u b m t
+pub record NodeTold (f : List ℕ) (limit depth kind o d u b : ℕ) (m : List ℕ) (t : Sums) (m' : List ℕ) (r : Option Sums) : Type 0 where
+  pub holds : (t' : Sums) → r ≡ Some t' → NodeOpened f limit depth kind o d u b m t m' t'
+  pub fails : r ≡ None → (E : Edition) → Lawful E → E.longest ≤ limit → (path : List ℕ) (s : ℕ) → length path ≡ depth → Entry f s kind o → 1 ≤ s → s ≤ u → Fails (TreeItems E f path s) d u b m t
 
 -- a Prefix at slot s: the slot below it, to which the first bytes of `now` lead, is left; they are fewer than all
 pub record PrefixLeads (f path : List ℕ) (depth s d u b : ℕ) (m : List ℕ) (t : Sums) (now m' : List ℕ) (i : Inner) : Type 0 where
@@ -119,6 +119,6 @@ pub record PrefixLeads (f path : List ℕ) (depth s d u b : ℕ) (m : List ℕ) 
   pub more : t.slots < i.sums.slots
   pub opens : (E : Edition) → Opens (TreeItems E f (take i.depth now) i.slot) (TreeItems E f path s) f d u b m t m' i.sums
 
-pub record PrefixTold (f path : List ℕ) (depth s d u b : ℕ) (m : List ℕ) (t : Sums) (now m' : List ℕ) (i : Inner) : Type 0 where
-  pub holds : i.sums.good ≡ true → PrefixLeads f path depth s d u b m t now m' i
-  pub fails : i.sums.good ≡ false → (E : Edition) → Lawful E → E.longest ≤ length now → Fails (TreeItems E f path s) d u b m t
+pub record PrefixTold (f path : List ℕ) (depth s d u b : ℕ) (m : List ℕ) (t : Sums) (now m' : List ℕ) (r : Option Inner) : Type 0 where
+  pub holds : (i : Inner) → r ≡ Some i → PrefixLeads f path depth s d u b m t now m' i
+  pub fails : r ≡ None → (E : Edition) → Lawful E → E.longest ≤ length now → Fails (TreeItems E f path s) d u b m t

@@ -1,14 +1,14 @@
 // The live tree, parent first and children in byte order, without a call for each level. The path that leads to a body stands in a
 // buffer, and the inner nodes whose children are not all counted yet wait in an array, the root's node first: the stack does not grow with the tree.
-ghost use Rattle.std.specs.Prelude.{◌≡◌, [], false, ◌+◌, ◌*◌, ◌%◌, ◌<◌, ◌≤◌, length, take};
+ghost use Rattle.std.specs.Prelude.{◌≡◌, [], ◌+◌, ◌*◌, ◌%◌, ◌<◌, ◌≤◌, length, take};
 ghost use Rattle.layout.specs.Place.{prefix_bytes};
 ghost use Rattle.layout.specs.Entry.{place_of, high_of};
 ghost use Rattle.pieces.specs.Decides.{Decides};
-ghost use Rattle.census.specs.Told.{Ground, Limits, Tally, Told};
+ghost use Rattle.census.specs.Told.{Tally, Told};
 ghost use Rattle.model.specs.Edition.{edition_of};
 ghost use Rattle.audit.specs.Walk.{BelowSlot, Arrays, wait_of, slot_in, depth_in, turn_in, Kept, Extended, At, TreeItems, NodeTold, PrefixTold};
 
-use census::{Bounds, Sums, refused, take};
+use census::{Bounds, Sums, take};
 use fields::body::Prefix;
 use inner::look;
 use inner::visit::child_at;
@@ -18,8 +18,8 @@ use shape::leaf::leaf_good;
 use shape::prefix::prefix_good;
 use shape_inner::inner_good;
 
-// The slot below a Prefix that is counted, and how many bytes lead to it. Not good: a refusal.
-#[derive(Clone, Copy)]
+// The slot below a Prefix that is counted, and how many bytes lead to it.
+#[derive(Clone, Copy, Debug, PartialEq, Eq)]
 pub struct Inner {
     pub sums: Sums,
     pub slot: usize,
@@ -28,45 +28,38 @@ pub struct Inner {
     pub depth: usize,
 }
 
-impl Inner {
-    fn none() -> Inner
-        ensures { result.sums.good ≡ false }
-    {
-        let sums = refused();
-        Inner {
-            sums: sums,
-            slot: 0,
-            place: 0,
-            kind: 0,
-            depth: 0,
-        }
-    }
-}
-
-// A node that waits: its slot, the bytes that lead to it, and the child that the walk is below. It is kept as one number.
-#[derive(Clone, Copy)]
+// A node that waits: its slot, the bytes that lead to it, and the child that the walk is below. A node has at most 256 children, and fewer than
+// 512 bytes lead to it, so that all of it is kept as one number.
+#[derive(Clone, Copy, Debug, PartialEq, Eq)]
 struct Wait {
     slot: usize,
     depth: usize,
     turn: usize,
+    ghost slot_fits: { slot < 32768 },
+    ghost depth_fits: { depth < 512 },
+    ghost turn_fits: { turn < 256 },
 }
 
 impl Wait {
-    // a node has at most 256 children, and fewer than 512 bytes lead to it
     const DEPTH_UNIT: usize = 256;
 
     const SLOT_UNIT: usize = 131072;
+}
 
-    fn number(slot: usize, depth: usize, turn: usize) -> u32
-        requires { (slot ≤ 10240) × (depth < 512) × (turn < 256) }
-        ensures { result ≡ wait_of slot depth turn }
-    {
-        (slot * Wait::SLOT_UNIT + depth * Wait::DEPTH_UNIT + turn) as u32
+impl From<Wait> for u32 {
+    ghost from_gives = { λ w n. n ≡ wait_of w.slot w.depth w.turn };
+
+    #[tactic(auto, unfolding(crate::specs::Walk::wait_of))]
+    fn from(w: Wait) -> u32 {
+        (w.slot * Wait::SLOT_UNIT + w.depth * Wait::DEPTH_UNIT + w.turn) as u32
     }
+}
 
-    fn read(number: u32) -> Wait
-        ensures { (result.slot ≡ slot_in number) × (result.depth ≡ depth_in number) × (result.turn ≡ turn_in number) }
-    {
+impl From<u32> for Wait {
+    ghost from_gives = { λ n w. (w.slot ≡ slot_in n) × (w.depth ≡ depth_in n) × (w.turn ≡ turn_in n) };
+
+    #[tactic(auto, unfolding(crate::specs::Walk::slot_in, crate::specs::Walk::depth_in, crate::specs::Walk::turn_in))]
+    fn from(number: u32) -> Wait {
         let n = number as usize;
         Wait {
             slot: n / Wait::SLOT_UNIT,
@@ -102,38 +95,29 @@ fn extend(path: &mut [u8], depth: usize, f: &[u8], o: usize, n: usize)
     requires { (depth + n ≤ length path.old) × (o + 128 ≤ length f.now) × (n ≤ 112) }
     ensures { Extended f.now (o + prefix_bytes) depth n path.old path.new }
 {
-    let mut i = 0;
-    while i < n {
-        path[depth + i] = Prefix::byte(f, o, i);
-        i += 1;
-    }
+    path[depth..depth + n].copy_from_slice(&f[o + Prefix::BYTES..o + Prefix::BYTES + n]);
 }
 
-// The Leaf whose body lies at o: its body and its extent.
-fn leaf(
+// The Leaf whose body lies at o: its body and its extent. It has one caller for the whole walk, and a copy of its own there.
+#[inline(always)]
+pub fn leaf(
     f: &[u8],
     map: &mut [u64],
     path: &[u8],
-    depth: usize,
     o: usize,
     bounds: Bounds,
     t: Sums,
     edition: usize,
-) -> Sums
-    requires { Ground f.now bounds.start bounds.given bounds.next × Limits bounds.start bounds.given bounds.next (length map.old) × Tally bounds.given 0 t × (depth ≤ length path.now) × (o % 8 ≡ 0) × (o < 1048576) }
-    ensures { At (edition_of edition) f.now (take depth path.now) 1 o bounds.start bounds.given bounds.next map.old t map.new result }
+) -> Option<Sums>
+    requires inside { bounds.next ≤ length f.now }
+    requires room { bounds.next ≤ 512 * length map.old }
+    requires tally { Tally bounds.given 0 t }
+    requires place { (o % 8 ≡ 0) × (o < 1048576) }
+    ensures { At (edition_of edition) f.now path.now 1 o bounds.start bounds.given bounds.next map.old t map.new result }
 {
-    let start = bounds.start;
-    let next = bounds.next;
-    let r = take::body(map, Kind::LEAF, o, bounds, t);
-    if !r.good {
-        return refused();
-    }
-    let l = leaf_good(f, o, path, depth, start, next, edition);
-    if !l.good {
-        return refused();
-    }
-    take::extent(map, l.extent, l.size, bounds, r)
+    let r = take::body(map, Kind::LEAF, o, bounds, t)?;
+    let x = leaf_good(f, o, path, bounds.start, bounds.next, edition)?;
+    take::extent(map, x.place, x.size, bounds, r)
 }
 
 // The inner node whose body lies at o: the body alone. A path to it is shorter than the limit.
@@ -146,27 +130,28 @@ fn node(
     bounds: Bounds,
     t: Sums,
     limit: usize,
-) -> Sums
-    requires { Ground f.now bounds.start bounds.given bounds.next × Limits bounds.start bounds.given bounds.next (length map.old) × Tally bounds.given 0 t × (kind ≡ 1 → ⊥) × (kind ≡ 2 → ⊥) × (o % 8 ≡ 0) × (o < 1048576) }
+) -> Option<Sums>
+    requires inside { bounds.next ≤ length f.now }
+    requires room { bounds.next ≤ 512 * length map.old }
+    requires tally { Tally bounds.given 0 t }
+    requires other { (kind ≡ 1 → ⊥) × (kind ≡ 2 → ⊥) }
+    requires place { (o % 8 ≡ 0) × (o < 1048576) }
     ensures { NodeTold f.now limit depth kind o bounds.start bounds.given bounds.next map.old t map.new result }
 {
     if kind < Kind::NODE4 {
-        return refused();
+        return None;
     }
     if kind > Kind::NODE256 {
-        return refused();
+        return None;
     }
-    let r = take::body(map, kind, o, bounds, t);
-    if !r.good {
-        return refused();
-    }
+    let r = take::body(map, kind, o, bounds, t)?;
     if limit <= depth {
-        return refused();
+        return None;
     }
     if !inner_good(f, o, kind) {
-        return refused();
+        return None;
     }
-    r
+    Some(r)
 }
 
 // The Prefix of slot s, whose body lies at o, and the way to what stands below it.
@@ -179,40 +164,42 @@ fn past_prefix(
     o: usize,
     bounds: Bounds,
     t: Sums,
-) -> Inner
-    requires { Ground f.now bounds.start bounds.given bounds.next × Limits bounds.start bounds.given bounds.next (length map.old) × Tally bounds.given 0 t × (length path.old ≤ 512) × (depth ≤ length path.old) × (1 ≤ s) × (s ≤ bounds.given) × (2 ≡ high_of f.now s) × (o ≡ place_of f.now s) × (o < 1048576) }
+) -> Option<Inner>
+    requires inside { bounds.next ≤ length f.now }
+    requires room { bounds.next ≤ 512 * length map.old }
+    requires tally { Tally bounds.given 0 t }
+    requires path { (length path.old ≤ 512) × (depth ≤ length path.old) }
+    requires slot { (1 ≤ s) × (s ≤ bounds.given) }
+    requires kind { 2 ≡ high_of f.now s }
+    requires place { (o ≡ place_of f.now s) × (o < 1048576) }
     ensures { Kept depth path.old path.new × PrefixTold f.now (take depth path.old) depth s bounds.start bounds.given bounds.next map.old t path.new map.new result }
 {
-    let given = bounds.given;
-    let r = take::body(map, Kind::PREFIX, o, bounds, t);
-    if !r.good {
-        return Inner::none();
-    }
+    let sums = take::body(map, Kind::PREFIX, o, bounds, t)?;
     if !prefix_good(f, o) {
-        return Inner::none();
+        return None;
     }
     let n = Prefix::length(f, o);
     if path.len() <= depth + n {
-        return Inner::none();
+        return None;
     }
-    let c = Prefix::child(f, o);
-    if !below_slot(f, c, given, n) {
-        return Inner::none();
+    let slot = Prefix::child(f, o);
+    if !below_slot(f, slot, bounds.given, n) {
+        return None;
     }
     extend(path, depth, f, o, n);
-    let e = Entry::read(f, c);
-    Inner {
-        sums: r,
-        slot: c,
+    let e = Entry::read(f, slot);
+    Some(Inner {
+        sums,
+        slot,
         place: e.place,
         kind: e.high,
         depth: depth + n,
-    }
+    })
 }
 
 // The tree at slot s, to which no path leads, of a kind other than a Leaf's. The outer loop arrives at a slot: a Prefix leads it to another, and a
 // node is counted. The inner one is then at child i of a node: where that is a Leaf it is counted, else the node waits and the outer loop arrives
-// at the child; after the last child the inner loop goes back to the node that waits.
+// at the child; after the last child the inner loop goes back to the node that waits. Both follow slots and step no index: a range is no plainer.
 pub fn along(
     f: &[u8],
     map: &mut [u64],
@@ -222,11 +209,16 @@ pub fn along(
     bounds: Bounds,
     t: Sums,
     edition: usize,
-) -> Sums
-    requires { Ground f.now bounds.start bounds.given bounds.next × Limits bounds.start bounds.given bounds.next (length map.old) × Tally bounds.given 0 t × (1 ≤ s) × (s ≤ bounds.given) × (high_of f.now s ≡ 1 → ⊥) × (bounds.given ≤ 10240) × Arrays (edition_of edition) bounds.given (length path.old) (length waits.old) }
+) -> Option<Sums>
+    requires inside { bounds.next ≤ length f.now }
+    requires room { bounds.next ≤ 512 * length map.old }
+    requires tally { Tally bounds.given 0 t }
+    requires slot { (1 ≤ s) × (s ≤ bounds.given) }
+    requires other { high_of f.now s ≡ 1 → ⊥ }
+    requires few { bounds.given ≤ 10240 }
+    requires arrays { Arrays (edition_of edition) bounds.given (length path.old) (length waits.old) }
     ensures { Told (TreeItems (edition_of edition) f.now [] s) (TreeItems (edition_of edition) f.now [] s) f.now bounds.start bounds.given bounds.next map.old t map.new result }
 {
-    let given = bounds.given;
     let mut waiting = 0;
     let mut sums = t;
     let top = Entry::read(f, s);
@@ -234,65 +226,58 @@ pub fn along(
     let mut place = top.place;
     let mut kind = top.high;
     let mut depth = 0;
-    loop {
+    'arrive: loop {
         if kind == Kind::PREFIX {
-            let k = past_prefix(f, map, path, depth, slot, place, bounds, sums);
+            let k = past_prefix(f, map, path, depth, slot, place, bounds, sums)?;
             sums = k.sums;
-            if !sums.good {
-                return refused();
-            }
             slot = k.slot;
             place = k.place;
             kind = k.kind;
             depth = k.depth;
             continue;
         }
-        sums = node(f, map, depth, kind, place, bounds, sums, path.len());
-        if !sums.good {
-            return refused();
-        }
+        sums = node(f, map, depth, kind, place, bounds, sums, path.len())?;
         let mut n = look::count(f, place);
         let mut i = 0;
         let mut from = 0;
-        let mut below = false;
-        while !below {
+        'children: loop {
             if i < n {
                 let c = child_at(f, place, kind, i, from);
                 path[depth] = c.byte as u8;
                 if c.slot < 1 {
-                    return refused();
+                    return None;
                 }
-                if given < c.slot {
-                    return refused();
+                if bounds.given < c.slot {
+                    return None;
                 }
                 let e = Entry::read(f, c.slot);
                 if e.high == Kind::LEAF {
-                    sums = leaf(f, map, path, depth + 1, e.place, bounds, sums, edition);
-                    if !sums.good {
-                        return refused();
-                    }
+                    sums = leaf(f, map, &path[..depth + 1], e.place, bounds, sums, edition)?;
                     from = c.byte + 1;
                     i += 1;
                     continue;
                 }
-                waits[waiting] = Wait::number(slot, depth, i);
+                waits[waiting] = u32::from(Wait {
+                    slot,
+                    depth,
+                    turn: i,
+                });
                 waiting += 1;
                 slot = c.slot;
                 place = e.place;
                 kind = e.high;
                 depth += 1;
-                below = true;
-                continue;
+                continue 'arrive;
             }
             if waiting == 0 {
-                return sums;
+                return Some(sums);
             }
             waiting -= 1;
-            let w = Wait::read(waits[waiting]);
+            let w = Wait::from(waits[waiting]);
             slot = w.slot;
             depth = w.depth;
             i = w.turn + 1;
-            from = path[depth] as usize + 1;
+            from = usize::from(path[depth]) + 1;
             let e = Entry::read(f, slot);
             place = e.place;
             kind = e.high;

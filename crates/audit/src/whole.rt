@@ -4,57 +4,38 @@ ghost use Rattle.model.specs.Edition.{edition_of};
 ghost use Rattle.model.specs.Frame.{Good};
 ghost use Rattle.pieces.specs.Decides.{Decides};
 ghost use Rattle.claims.specs.Units.{Seen};
-ghost use Rattle.census.specs.Told.{Ground, Limits, Tally, Told};
+ghost use Rattle.census.specs.Told.{Tally, Told};
 ghost use Rattle.layout.specs.Number.{le};
 ghost use Rattle.layout.specs.Place.{at_u};
 ghost use Rattle.audit.specs.Walk.{At, Arrays};
 ghost use Rattle.audit.specs.Audit.{by_rule, HeaderFits, RootItems, EmptyTold, Unmarked, Closes};
 
-use crate::walk::along;
+use crate::walk::{along, leaf};
 use census::freed::lists;
-use census::{Bounds, Sums, refused, take};
+use census::{Bounds, Sums, take};
 use fields::body::EmptyRoot;
 use fields::header::Header;
 use layout::entry::Entry;
 use layout::kind::Kind;
 use pieces::zero_eight;
-use shape::leaf::lone_good;
 use sweep::swept;
 
 // An EmptyRoot whose body lies at o.
-fn empty(f: &[u8], map: &mut [u64], o: usize, bounds: Bounds, t: Sums) -> Sums
-    requires { Ground f.now bounds.start bounds.given bounds.next × Limits bounds.start bounds.given bounds.next (length map.old) × Tally bounds.given 0 t × (o % 8 ≡ 0) × (o < 1048576) }
+fn empty(f: &[u8], map: &mut [u64], o: usize, bounds: Bounds, t: Sums) -> Option<Sums>
+    requires inside { bounds.next ≤ length f.now }
+    requires room { bounds.next ≤ 512 * length map.old }
+    requires tally { Tally bounds.given 0 t }
+    requires place { (o % 8 ≡ 0) × (o < 1048576) }
     ensures { EmptyTold f.now o bounds.start bounds.given bounds.next map.old t map.new result }
 {
-    let r = take::body(map, Kind::EMPTY_ROOT, o, bounds, t);
-    if !r.good {
-        return refused();
-    }
+    let r = take::body(map, Kind::EMPTY_ROOT, o, bounds, t)?;
     if !zero_eight(f, o + EmptyRoot::ZERO) {
-        return refused();
+        return None;
     }
-    r
+    Some(r)
 }
 
-// A Leaf whose body lies at o, to which no path leads.
-fn lone(f: &[u8], map: &mut [u64], o: usize, bounds: Bounds, t: Sums, edition: usize) -> Sums
-    requires { Ground f.now bounds.start bounds.given bounds.next × Limits bounds.start bounds.given bounds.next (length map.old) × Tally bounds.given 0 t × (o % 8 ≡ 0) × (o < 1048576) }
-    ensures { At (edition_of edition) f.now [] 1 o bounds.start bounds.given bounds.next map.old t map.new result }
-{
-    let start = bounds.start;
-    let next = bounds.next;
-    let r = take::body(map, Kind::LEAF, o, bounds, t);
-    if !r.good {
-        return refused();
-    }
-    let l = lone_good(f, o, start, next, edition);
-    if !l.good {
-        return refused();
-    }
-    take::extent(map, l.extent, l.size, bounds, r)
-}
-
-// The root slot: "EmptyRoot stands only at the root".
+// The root slot: "EmptyRoot stands only at the root". No path leads to a Leaf there.
 fn root(
     f: &[u8],
     map: &mut [u64],
@@ -64,23 +45,26 @@ fn root(
     bounds: Bounds,
     t: Sums,
     edition: usize,
-) -> Sums
-    requires { Ground f.now bounds.start bounds.given bounds.next × Limits bounds.start bounds.given bounds.next (length map.old) × Tally bounds.given 0 t × (bounds.given ≤ 10240) × Arrays (edition_of edition) bounds.given (length path.old) (length waits.old) }
+) -> Option<Sums>
+    requires inside { bounds.next ≤ length f.now }
+    requires room { bounds.next ≤ 512 * length map.old }
+    requires tally { Tally bounds.given 0 t }
+    requires few { bounds.given ≤ 10240 }
+    requires arrays { Arrays (edition_of edition) bounds.given (length path.old) (length waits.old) }
     ensures { Told (RootItems (edition_of edition) f.now s) (RootItems (edition_of edition) f.now s) f.now bounds.start bounds.given bounds.next map.old t map.new result }
 {
-    let given = bounds.given;
     if s < 1 {
-        return refused();
+        return None;
     }
-    if given < s {
-        return refused();
+    if bounds.given < s {
+        return None;
     }
     let e = Entry::read(f, s);
     if e.high == Kind::EMPTY_ROOT {
         return empty(f, map, e.place, bounds, t);
     }
     if e.high == Kind::LEAF {
-        return lone(f, map, e.place, bounds, t, edition);
+        return leaf(f, map, &[], e.place, bounds, t, edition);
     }
     along(f, map, path, waits, s, bounds, t, edition)
 }
@@ -101,7 +85,9 @@ fn closes(f: &[u8], slots: usize, bytes: usize, leaves: usize) -> bool
 
 // The units that the map has not marked are zero, where the rule asks for it.
 fn unmarked(f: &[u8], map: &[u64], bounds: Bounds, wiped: bool) -> bool
-    requires { (bounds.start % 8 ≡ 0) × (bounds.next % 8 ≡ 0) × (bounds.start ≤ bounds.next) × (bounds.next ≤ length f.now) × (bounds.next ≤ 512 * length map.now) }
+    requires eights { (bounds.start % 8 ≡ 0) × (bounds.next % 8 ≡ 0) }
+    requires inside { bounds.next ≤ length f.now }
+    requires room { bounds.next ≤ 512 * length map.now }
     ensures { Decides (Unmarked wiped f.now map.now bounds.start bounds.next) result }
 {
     if !wiped {
@@ -119,7 +105,10 @@ fn over(
     edition: usize,
     wiped: bool,
 ) -> bool
-    requires { HeaderFits (edition_of edition) f.now × (length f.now ≤ 512 * length map.old) × Seen map.old [] × Arrays (edition_of edition) (le 4 f.now at_u) (length path.old) (length waits.old) }
+    requires header { HeaderFits (edition_of edition) f.now }
+    requires room { length f.now ≤ 512 * length map.old }
+    requires fresh { Seen map.old [] }
+    requires arrays { Arrays (edition_of edition) (le 4 f.now at_u) (length path.old) (length waits.old) }
     ensures { Decides (Good (by_rule edition wiped) f.now) result }
 {
     let bounds = Bounds {
@@ -127,24 +116,21 @@ fn over(
         given: Header::slots_given(f),
         next: Header::next_byte(f),
     };
-    let start = Sums {
-        good: true,
+    let none = Sums {
         slots: 0,
         bytes: 0,
         leaves: 0,
     };
-    let r = root(f, map, path, waits, Header::root(f), bounds, start, edition);
-    if !r.good {
+    let Some(live) = root(f, map, path, waits, Header::root(f), bounds, none, edition) else {
         return false;
-    }
+    };
     if !unmarked(f, map, bounds, wiped) {
         return false;
     }
-    let l = lists(f, map, bounds, r);
-    if !l.good {
+    let Some(all) = lists(f, map, bounds, live) else {
         return false;
-    }
-    closes(f, l.slots, l.bytes, r.leaves)
+    };
+    closes(f, all.slots, all.bytes, live.leaves)
 }
 
 // How many lengths a path to an inner node can have, by the edition: so many nodes can wait.
@@ -159,80 +145,50 @@ const SOME_SLOTS: usize = 64;
 
 const MANY_SLOTS: usize = 128;
 
-// The same with arrays for the paths of edition 1.
-fn near(f: &[u8], map: &mut [u64], edition: usize, wiped: bool) -> bool
-    requires { HeaderFits (edition_of edition) f.now × (length f.now ≤ 512 * length map.old) × Seen map.old [] × ((edition_of edition).longest ≤ 113) }
+// The same with arrays for the path and for the nodes that wait. They stand in a part of the stack of their own, which no other call takes.
+#[inline(never)]
+fn with_arrays<const PATH: usize, const WAITS: usize>(
+    f: &[u8],
+    map: &mut [u64],
+    edition: usize,
+    wiped: bool,
+) -> bool
+    requires header { HeaderFits (edition_of edition) f.now }
+    requires room { length f.now ≤ 512 * length map.old }
+    requires fresh { Seen map.old [] }
+    requires arrays { Arrays (edition_of edition) (le 4 f.now at_u) PATH WAITS }
+    requires waits_fit { WAITS ≤ 512 }
     ensures { Decides (Good (by_rule edition wiped) f.now) result }
 {
-    let mut path: [u8; DEPTHS] = [0; DEPTHS];
-    let mut waits: [u32; DEPTHS] = [0; DEPTHS];
+    let mut path = [0u8; PATH];
+    let mut waits = [0u32; WAITS];
     over(f, map, &mut path, &mut waits, edition, wiped)
 }
 
-// The same in a frame of few slots.
-fn near_few(f: &[u8], map: &mut [u64], edition: usize, wiped: bool) -> bool
-    requires { HeaderFits (edition_of edition) f.now × (length f.now ≤ 512 * length map.old) × Seen map.old [] × ((edition_of edition).longest ≤ 113) × (le 4 f.now at_u ≤ 32) }
-    ensures { Decides (Good (by_rule edition wiped) f.now) result }
-{
-    let mut path: [u8; DEPTHS] = [0; DEPTHS];
-    let mut waits: [u32; FEW_SLOTS] = [0; FEW_SLOTS];
-    over(f, map, &mut path, &mut waits, edition, wiped)
-}
-
-// The same with arrays for the paths of every edition, in a frame of few slots.
-fn far_few(f: &[u8], map: &mut [u64], edition: usize, wiped: bool) -> bool
-    requires { HeaderFits (edition_of edition) f.now × (length f.now ≤ 512 * length map.old) × Seen map.old [] × (le 4 f.now at_u ≤ 32) }
-    ensures { Decides (Good (by_rule edition wiped) f.now) result }
-{
-    let mut path: [u8; DEPTHS_SECOND] = [0; DEPTHS_SECOND];
-    let mut waits: [u32; FEW_SLOTS] = [0; FEW_SLOTS];
-    over(f, map, &mut path, &mut waits, edition, wiped)
-}
-
-// The same in a frame of some slots.
-fn far_some(f: &[u8], map: &mut [u64], edition: usize, wiped: bool) -> bool
-    requires { HeaderFits (edition_of edition) f.now × (length f.now ≤ 512 * length map.old) × Seen map.old [] × (le 4 f.now at_u ≤ 64) }
-    ensures { Decides (Good (by_rule edition wiped) f.now) result }
-{
-    let mut path: [u8; DEPTHS_SECOND] = [0; DEPTHS_SECOND];
-    let mut waits: [u32; SOME_SLOTS] = [0; SOME_SLOTS];
-    over(f, map, &mut path, &mut waits, edition, wiped)
-}
-
-// The same in a frame of many slots.
-fn far_many(f: &[u8], map: &mut [u64], edition: usize, wiped: bool) -> bool
-    requires { HeaderFits (edition_of edition) f.now × (length f.now ≤ 512 * length map.old) × Seen map.old [] × (le 4 f.now at_u ≤ 128) }
-    ensures { Decides (Good (by_rule edition wiped) f.now) result }
-{
-    let mut path: [u8; DEPTHS_SECOND] = [0; DEPTHS_SECOND];
-    let mut waits: [u32; MANY_SLOTS] = [0; MANY_SLOTS];
-    over(f, map, &mut path, &mut waits, edition, wiped)
-}
-
-// The same in every frame.
-fn far_any(f: &[u8], map: &mut [u64], edition: usize, wiped: bool) -> bool
-    requires { HeaderFits (edition_of edition) f.now × (length f.now ≤ 512 * length map.old) × Seen map.old [] }
-    ensures { Decides (Good (by_rule edition wiped) f.now) result }
-{
-    let mut path: [u8; DEPTHS_SECOND] = [0; DEPTHS_SECOND];
-    let mut waits: [u32; DEPTHS_SECOND] = [0; DEPTHS_SECOND];
-    over(f, map, &mut path, &mut waits, edition, wiped)
-}
-
-// The same with the shortest of the last three arrays that is long enough. It is called from three places, so its arrays stand in a part of the
-// stack of their own, which a check of edition 1 does not take.
-fn far(f: &[u8], map: &mut [u64], edition: usize, wiped: bool) -> bool
-    requires { HeaderFits (edition_of edition) f.now × (length f.now ≤ 512 * length map.old) × Seen map.old [] }
+// The same with arrays that are no longer than they need be.
+fn by_slots(f: &[u8], map: &mut [u64], edition: usize, wiped: bool) -> bool
+    requires header { HeaderFits (edition_of edition) f.now }
+    requires room { length f.now ≤ 512 * length map.old }
+    requires fresh { Seen map.old [] }
     ensures { Decides (Good (by_rule edition wiped) f.now) result }
 {
     let given = Header::slots_given(f);
-    if given <= SOME_SLOTS {
-        return far_some(f, map, edition, wiped);
+    if edition == Header::SECOND_EDITION {
+        if given <= FEW_SLOTS {
+            return with_arrays::<DEPTHS_SECOND, FEW_SLOTS>(f, map, edition, wiped);
+        }
+        if given <= SOME_SLOTS {
+            return with_arrays::<DEPTHS_SECOND, SOME_SLOTS>(f, map, edition, wiped);
+        }
+        if given <= MANY_SLOTS {
+            return with_arrays::<DEPTHS_SECOND, MANY_SLOTS>(f, map, edition, wiped);
+        }
+        return with_arrays::<DEPTHS_SECOND, DEPTHS_SECOND>(f, map, edition, wiped);
     }
-    if given <= MANY_SLOTS {
-        return far_many(f, map, edition, wiped);
+    if given <= FEW_SLOTS {
+        return with_arrays::<DEPTHS, FEW_SLOTS>(f, map, edition, wiped);
     }
-    far_any(f, map, edition, wiped)
+    with_arrays::<DEPTHS, DEPTHS>(f, map, edition, wiped)
 }
 
 // Words of the map, 64 units each, and the longest frames that the smaller maps are for.
@@ -246,43 +202,16 @@ const SMALLEST_FRAME: usize = 4096;
 
 const SMALL_FRAME: usize = 16384;
 
-fn smallest(f: &[u8], edition: usize, wiped: bool) -> bool
-    requires { HeaderFits (edition_of edition) f.now × (length f.now ≤ 4096) }
+// The same with a map of so many words, in a part of the stack of its own.
+#[inline(never)]
+fn with_map<const WORDS: usize>(f: &[u8], edition: usize, wiped: bool) -> bool
+    requires header { HeaderFits (edition_of edition) f.now }
+    requires room { length f.now ≤ 512 * WORDS }
+    requires words_fit { WORDS ≤ 1024 }
     ensures { Decides (Good (by_rule edition wiped) f.now) result }
 {
-    let mut map: [u64; SMALLEST_MAP] = [0; SMALLEST_MAP];
-    if Header::slots_given(f) <= FEW_SLOTS {
-        if edition == Header::SECOND_EDITION {
-            return far_few(f, &mut map, edition, wiped);
-        }
-        return near_few(f, &mut map, edition, wiped);
-    }
-    if edition == Header::SECOND_EDITION {
-        return far(f, &mut map, edition, wiped);
-    }
-    near(f, &mut map, edition, wiped)
-}
-
-fn small(f: &[u8], edition: usize, wiped: bool) -> bool
-    requires { HeaderFits (edition_of edition) f.now × (length f.now ≤ 16384) }
-    ensures { Decides (Good (by_rule edition wiped) f.now) result }
-{
-    let mut map: [u64; SMALL_MAP] = [0; SMALL_MAP];
-    if edition == Header::SECOND_EDITION {
-        return far(f, &mut map, edition, wiped);
-    }
-    near(f, &mut map, edition, wiped)
-}
-
-fn large(f: &[u8], edition: usize, wiped: bool) -> bool
-    requires { HeaderFits (edition_of edition) f.now }
-    ensures { Decides (Good (by_rule edition wiped) f.now) result }
-{
-    let mut map: [u64; LARGE_MAP] = [0; LARGE_MAP];
-    if edition == Header::SECOND_EDITION {
-        return far(f, &mut map, edition, wiped);
-    }
-    near(f, &mut map, edition, wiped)
+    let mut map = [0u64; WORDS];
+    by_slots(f, &mut map, edition, wiped)
 }
 
 // All, with a map on the stack that is no larger than it need be.
@@ -291,10 +220,10 @@ pub fn all(f: &[u8], edition: usize, wiped: bool) -> bool
     ensures { Decides (Good (by_rule edition wiped) f.now) result }
 {
     if f.len() <= SMALLEST_FRAME {
-        return smallest(f, edition, wiped);
+        return with_map::<SMALLEST_MAP>(f, edition, wiped);
     }
     if f.len() <= SMALL_FRAME {
-        return small(f, edition, wiped);
+        return with_map::<SMALL_MAP>(f, edition, wiped);
     }
-    large(f, edition, wiped)
+    with_map::<LARGE_MAP>(f, edition, wiped)
 }

@@ -5,8 +5,6 @@ use mathlib.Core.List.{List, [], ◌∷◌, ◌++◌}
 use native.Mathlib.Omega.{arith}
 use native.Mathlib.Decide.{dec_le}
 use Rattle.std.specs.Prelude.{Option, Some, None}
-use Rattle.layout.specs.Number.{le}
-use Rattle.layout.specs.Place.{entry_at}
 use Rattle.layout.specs.Kind.{body_size}
 use Rattle.layout.specs.Entry.{place_of}
 use Rattle.layout.proofs.KindLaws.{size_least}
@@ -151,6 +149,3 @@ tally_body T = record { slots = T.slots; bytes = let z = T.bytes in omega arith;
 pub body_slots : {d u b kind o : ℕ} {m : List ℕ} {t : Sums} {m' : List ℕ} {t' : Sums} → BodyTaken d u b kind o m t m' t' → t'.slots ≡ t.slots + 1
 unfolding sum is_body
 body_slots T = (T.grown 0).slots
-
-pub place_whole : (f : List ℕ) (s : ℕ) {o : ℕ} → o ≡ place_of f s → o % 8 ≡ 0
-place_whole f s e = rw e (place_eighth (le 4 f (entry_at s)))

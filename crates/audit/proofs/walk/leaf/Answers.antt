@@ -1,28 +1,34 @@
 -- One law for each answer (WalkLaws). Assumes nothing.
 use native.Mathlib.Omega.{arith}
 use Prim.Native.Nat.{◌+◌, ◌≤◌}
-use borrow.Author.Tests.{not-true, not-false}
 use Rattle.keys.proofs.KeyLaws.{key_some}
-use Rattle.audit.proofs.WalkLaws.{leaf_body, leaf_whole, leaf_bad, leaf_on}
+use Rattle.audit.proofs.WalkLaws.{leaf_whole, leaf_body, leaf_bad, leaf_on}
 use Rattle.audit.proofs.walk.leaf.Goals as goal
 
-pub returns-then-not-r : goal.returns-then-not-r
-returns-then-not-r c = leaf_body c.body-r.ensures (not-true _ c.if-not-r.true) c.refused.ensures
+pub returns-in_err-r : goal.returns-in_err-r
+returns-in_err-r c = rw c.from_residual.ensures (leaf_body c.body.ensures c.in_err-r.was)
 
-pub leaf_good-l-requires : goal.leaf_good-l-requires
-leaf_good-l-requires c =
-    let p = c.requires in let h : c.args.o + 16 ≤ c.args.bounds.next = c.body-r.ensures.high (not-false _ c.if-not-r.false) in
-    (omega (arith, h, p.0.inside), p.3, p.0.inside)
+pub leaf_good-requires : goal.leaf_good-requires
+leaf_good-requires c =
+    let T = c.body.ensures.holds _ c.in_ok-r.was in
+    let h : c.args.o + 16 ≤ c.args.bounds.next = T.high in
+    (omega (arith, h, c.requires.inside), c.requires.inside)
 
-pub returns-then-not-l : goal.returns-then-not-l
-returns-then-not-l c =
-    leaf_bad c.body-r.ensures (key_some c.args.edition) (not-false _ c.if-not-r.false) c.leaf_good-l.ensures (not-true _ c.if-not-l.true) c.refused-then-not-l.ensures
+pub returns-in_err-x : goal.returns-in_err-x
+returns-in_err-x c =
+    rw c.from_residual-in_err-x.ensures (leaf_bad (c.body.ensures.holds _ c.in_ok-r.was) (key_some c.args.edition) c.leaf_good.ensures c.in_err-x.was)
 
-pub extent-requires : goal.extent-requires
-extent-requires c =
-    let L = c.requires.1 in let w = leaf_whole (c.leaf_good-l.ensures.holds (not-false _ c.if-not-l.false)) in
-    (record { table = L.table; order = L.order; size = L.size; room = omega (arith, L.room) }, c.body-r.ensures.tally (not-false _ c.if-not-r.false), w.0, w.1, w.2)
+pub extent-requires-clause-tally : goal.extent-requires-clause-tally
+extent-requires-clause-tally c = (c.body.ensures.holds _ c.in_ok-r.was).tally
+
+pub extent-requires-clause-whole : goal.extent-requires-clause-whole
+extent-requires-clause-whole c =
+    let w = leaf_whole (c.leaf_good.ensures.holds _ c.in_ok-x.was) in (w.0, w.1)
+
+pub extent-requires-clause-within : goal.extent-requires-clause-within
+extent-requires-clause-within c =
+    (leaf_whole (c.leaf_good.ensures.holds _ c.in_ok-x.was)).2
 
 pub returns : goal.returns
 returns c =
-    leaf_on c.body-r.ensures (not-false _ c.if-not-r.false) (c.leaf_good-l.ensures.holds (not-false _ c.if-not-l.false)) c.extent.ensures
+    leaf_on (c.body.ensures.holds _ c.in_ok-r.was) (c.leaf_good.ensures.holds _ c.in_ok-x.was) c.extent.ensures
