@@ -1,19 +1,18 @@
 -- The header's test, exit by exit: what a good header has passed, and that one that passed all is good. Assumes nothing.
 use Prim.Native.Nat.{ℕ, ◌+◌, ◌*◌}
-use mathlib.Core.Path.{◌≡◌, refl, sym, ◌∙◌}
+use mathlib.Core.Path.{◌≡◌, sym, ◌∙◌}
 use mathlib.Core.List.{List}
 use mathlib.Core.Bool.{Bool, false}
 use native.Mathlib.Omega.{arith}
 use lib.ListN.{length}
 use Rattle.layout.specs.Number.{le}
 use Rattle.layout.specs.Place.{at_edition, at_n, at_d, at_b, at_u, at_spare, header_size}
-use Rattle.model.specs.Edition.{Edition, edition_of}
+use Rattle.model.specs.Edition.{Edition}
 use Rattle.model.specs.Frame.{Numbers, Header}
 use Rattle.pieces.specs.Decides.{Decides}
 use Rattle.pieces.specs.Range.{Blank}
 use Rattle.shape.specs.Shape.{LengthFits, NumbersFit, HeaderTold}
 use Rattle.pieces.proofs.DecideLaws.{clash}
-use Rattle.model.proofs.Edition2.{of_two, of_other}
 
 -- the fields read
 pub record HeaderRead (f : List ℕ) (n d b u : ℕ) : Type 0 where
@@ -64,11 +63,3 @@ module _ (f : List ℕ) where
               };
           fails = λ t h H q. D.fails t (header_above h H);
         }
-
--- ---- the number of an edition
-
-pub number_two : (n : ℕ) → n ≡ 2 → 2 ≡ (edition_of n).number
-number_two n e = rw (of_two n e) refl
-
-pub number_other : (n : ℕ) → (n ≡ 2 → ⊥) → 1 ≡ (edition_of n).number
-number_other n e = rw (of_other n e) refl

@@ -11,12 +11,11 @@ use Rattle.std.specs.Prelude.{Some, None}
 use Rattle.layout.specs.Number.{byte_at, le, Bytes}
 use Rattle.layout.specs.Place.{leaf_extent, leaf_key, leaf_value, leaf_stamp}
 use Rattle.layout.proofs.NumberLaws.{lt_or_le, le_lt}
-use Rattle.model.specs.Edition.{Edition, edition2, edition_of, Value, text_of}
+use Rattle.model.specs.Edition.{Edition, edition1, edition2, Value, text_of}
 use Rattle.model.specs.Tree.{up8}
 use Rattle.model.specs.Body.{LeafAt}
 use Rattle.model.specs.Frame.{Begins}
 use Rattle.model.proofs.Edition1.{zero_free, free_zero, positive_at, at_positive, key_passes, key_taken, walked_at}
-use Rattle.model.proofs.Edition2.{edition_two, of_two, of_other}
 use Rattle.pieces.specs.Decides.{Decides}
 use Rattle.pieces.specs.Range.{Clean, Alike}
 use Rattle.keys.specs.Word.{ended}
@@ -101,35 +100,28 @@ module _ (f : List ℕ) (e k : ℕ) (path : List ℕ) where
 
 -- ---- a legal key of edition 2
 
--- the number that it is tested with
-pub fault_two : (key : List ℕ) {r : ℕ} → r ≡ (edition_of 2).key_fault key → r ≡ edition2.key_fault key
-fault_two key e = rw edition_two at e
-
 -- its walked string, tested against the path
 pub under_legal : {E : Edition} {key path : List ℕ} {r : Bool} → E.key_fault key ≡ 0 → Decides (Begins (E.walked key) path) r → Decides (Under E path key) r
 under_legal e D = handed D (λ B. record { legal = e; begins = B }) (λ U. U.begins)
 
--- by the edition
+-- a part of a slice is lent from its start on, as many bytes as there are to its end
 pub under_part : {E : Edition} (f : List ℕ) {path : List ℕ} (e k : ℕ) {r : Bool} → Decides (Under E path (take (e + k - e) (drop e f))) r → Decides (Under E path (take k (drop e f))) r
 under_part f e k D = let z : e + k - e ≡ k = omega arith in rw z at D
 
-pub under_two : (n : ℕ) {path key : List ℕ} {r : Bool} → n ≡ 2 → Decides (Under edition2 path key) r → Decides (Under (edition_of n) path key) r
-under_two n h D = rw (of_two n h) D
-
-pub under_other : (n : ℕ) {path key : List ℕ} {r : Bool} → (n ≡ 2 → ⊥) → Decides (PlainUnder path key) r → Decides (Under (edition_of n) path key) r
-under_other n {path} {key} h D =
-    rw (of_other n h) (handed D
+pub under_plain : {path key : List ℕ} {r : Bool} → Decides (PlainUnder path key) r → Decides (Under edition1 path key) r
+under_plain {path} {key} D =
+    handed D
     (λ P. record { legal = key_taken key (record { some = P.some; short = P.most; chars = zero_free key P.clean }); begins = P.begins })
-    (λ U. let K = key_passes key U.legal in record { some = K.some; most = K.short; clean = free_zero key K.chars; begins = U.begins }))
+    (λ U. let K = key_passes key U.legal in record { some = K.some; most = K.short; clean = free_zero key K.chars; begins = U.begins })
 
 -- ---- the stamp, by the edition
 
--- every number of eight bytes is one in edition 2, and 0 alone in edition 1
-pub stamp_second : (n : ℕ) (f : List ℕ) (o : ℕ) → Bytes f → n ≡ 2 → le 8 f o < (edition_of n).stamps
-stamp_second n f o B e = rw (e, edition_two) (le_lt 8 f o B)
+-- 0 alone in edition 1, and every number of eight bytes is one in edition 2
+pub stamp_first : {s : ℕ} {r : Bool} → Decides (s ≡ 0) r → Decides (s < edition1.stamps) r
+stamp_first D = handed D (λ z. omega arith) (λ l. omega arith)
 
-pub stamp_other : (n : ℕ) {s : ℕ} {r : Bool} → (n ≡ 2 → ⊥) → Decides (s ≡ 0) r → Decides (s < (edition_of n).stamps) r
-stamp_other n h D = rw (of_other n h) (handed D (λ z. omega arith) (λ l. omega arith))
+pub stamp_second : (f : List ℕ) (o : ℕ) → Bytes f → le 8 f o < edition2.stamps
+stamp_second f o B = le_lt 8 f o B
 
 -- ---- the Leaf
 

@@ -1,9 +1,9 @@
 // The frame's length and its header.
-ghost use Rattle.std.specs.Prelude.{◌≡◌};
 ghost use Rattle.pieces.specs.Decides.{Decides};
-ghost use Rattle.model.specs.Edition.{edition_of};
+ghost use Rattle.editions.specs.Rules.{rules_of};
 ghost use Rattle.shape.specs.Shape.{LengthFits, NumbersFit, HeaderTold};
 
+use editions::Edition;
 use fields::body::EmptyRoot;
 use fields::header::Header;
 use layout::entry::Entry;
@@ -56,22 +56,12 @@ fn numbers_fit(length: usize, n: usize, d: usize, b: usize, u: usize) -> bool
     u <= n
 }
 
-// The number that the first field of an edition's frames holds.
-pub fn number_of(edition: usize) -> usize
-    ensures { result ≡ (edition_of edition).number }
-{
-    if edition == Header::SECOND_EDITION {
-        return Header::SECOND_EDITION;
-    }
-    Header::FIRST_EDITION
-}
-
 // The header is a good one of the edition, and the entries above U are zero. The slice's length has been passed.
-pub fn header_good(f: &[u8], edition: usize) -> bool
+pub fn header_good(f: &[u8], edition: Edition) -> bool
     requires { LengthFits f.now }
-    ensures { HeaderTold (edition_of edition) f.now result }
+    ensures { HeaderTold (rules_of edition) f.now result }
 {
-    if Header::edition(f) != number_of(edition) {
+    if Header::edition(f) != edition.number() {
         return false;
     }
     let n = Header::slot_capacity(f);

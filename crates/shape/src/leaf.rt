@@ -3,13 +3,12 @@ ghost use Rattle.std.specs.Prelude.{◌+◌, ◌≤◌, ◌<◌, length, take, d
 ghost use Rattle.layout.specs.Number.{le};
 ghost use Rattle.layout.specs.Place.{leaf_stamp};
 ghost use Rattle.pieces.specs.Decides.{Decides};
-ghost use Rattle.model.specs.Edition.{edition2, edition_of};
+ghost use Rattle.model.specs.Edition.{edition2};
+ghost use Rattle.editions.specs.Rules.{rules_of};
 ghost use Rattle.shape.specs.Shape.{ExtentFits, Ends, Under, PlainUnder, LeafTold};
 
+use editions::{Edition, Editioned};
 use fields::body::Leaf;
-
-// the most bytes that a key of edition 1 has
-const KEY_MOST: usize = 112;
 
 // Where the extent of a good Leaf lies, and how many bytes it has, rounded up.
 #[derive(Clone, Copy, Debug, PartialEq, Eq)]
@@ -53,7 +52,7 @@ fn plain_good(f: &[u8], e: usize, k: usize, path: &[u8]) -> bool
     if k < 1 {
         return false;
     }
-    if k > KEY_MOST {
+    if k > Edition::First.longest_key() {
         return false;
     }
     if !ends(path, k) {
@@ -73,46 +72,47 @@ fn plain_good(f: &[u8], e: usize, k: usize, path: &[u8]) -> bool
 fn escaped_good(key: &[u8], path: &[u8]) -> bool
     ensures { Decides (Under edition2 path.now key.now) result }
 {
-    if keys::fault(key, keys::SECOND) != 0 {
+    if keys::fault(key, Edition::Second).is_err() {
         return false;
     }
     keys::escaped_begins(key, path)
 }
 
 // The k bytes at e are a legal key, and its walked string begins with the path.
-fn key_good(f: &[u8], e: usize, k: usize, path: &[u8], edition: usize) -> bool
+fn key_good(f: &[u8], e: usize, k: usize, path: &[u8], edition: Edition) -> bool
     requires { e + k ≤ length f.now }
-    ensures { Decides (Under (edition_of edition) path.now (take k (drop e f.now))) result }
+    ensures { Decides (Under (rules_of edition) path.now (take k (drop e f.now))) result }
 {
-    if edition == keys::SECOND {
-        return escaped_good(&f[e..e + k], path);
+    match edition {
+        Edition::First => plain_good(f, e, k, path),
+        Edition::Second => escaped_good(&f[e..e + k], path),
     }
-    plain_good(f, e, k, path)
 }
 
 // The Leaf at o has a stamp of the edition: edition 1 keeps zero there, and in edition 2 every number of eight bytes is one.
-fn stamp_good(f: &[u8], o: usize, edition: usize) -> bool
+fn stamp_good(f: &[u8], o: usize, edition: Edition) -> bool
     requires { o + 16 ≤ length f.now }
-    ensures { Decides (le 8 f.now (o + leaf_stamp) < (edition_of edition).stamps) result }
+    ensures { Decides (le 8 f.now (o + leaf_stamp) < (rules_of edition).stamps) result }
 {
-    if edition == keys::SECOND {
-        return true;
+    match edition {
+        Edition::First => Leaf::unstamped(f, o),
+        Edition::Second => true,
     }
-    Leaf::unstamped(f, o)
 }
 
 // The body at o is a Leaf's whose extent lies between d and b, and the path leads to it. No path at all is the empty one.
-pub fn leaf_good(
+pub fn leaf_good<E: Editioned>(
     f: &[u8],
     o: usize,
     path: &[u8],
     d: usize,
     b: usize,
-    edition: usize,
+    edition: E,
 ) -> Option<Extent>
     requires { (o + 16 ≤ length f.now) × (b ≤ length f.now) }
-    ensures { LeafTold (edition_of edition) f.now path.now o d b result }
+    ensures { LeafTold (E.rules edition) f.now path.now o d b result }
 {
+    let edition = edition.edition();
     let e = Leaf::extent(f, o);
     let k = Leaf::key_length(f, o);
     let size = Leaf::rounded(k + Leaf::value_length(f, o));

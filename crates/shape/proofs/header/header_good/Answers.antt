@@ -5,8 +5,8 @@ use Rattle.shape.proofs.HeaderLaws.{header_denied, header_edition, header_number
 use Rattle.pieces.proofs.DecideLaws.{refuted, passed}
 use Rattle.shape.proofs.header.header_good.Goals as goal
 
-pub returns-then-edition-number_of : goal.returns-then-edition-number_of
-returns-then-edition-number_of c = let f = c.args.f.now in header_denied f (λ h H e. c.if-edition-number_of.true (c.edition.ensures.0 ∙ header_edition f h _ H e ∙ sym c.number_of.ensures))
+pub returns-then-edition-number : goal.returns-then-edition-number
+returns-then-edition-number c = let f = c.args.f.now in header_denied f (λ h H e. c.if-edition-number.true (c.edition.ensures.0 ∙ header_edition f h _ H e ∙ sym c.number.ensures))
 
 pub returns-then-not-numbers_fit : goal.returns-then-not-numbers_fit
 returns-then-not-numbers_fit c = header_denied _ (λ h H e. refuted c.numbers_fit.ensures c.if-not-numbers_fit.true-raw (header_numbers _ _ _ _ _ (record { slots = c.slot_capacity-n.ensures.0; start = c.data_start-d.ensures.0; next = c.next_byte-b.ensures.0; given = c.slots_given-u.ensures.0 }) h H))
@@ -21,4 +21,4 @@ all_zero-requires-2 c = let N = passed c.numbers_fit.ensures c.if-not-numbers_fi
 pub returns : goal.returns
 returns c = let N = passed c.numbers_fit.ensures c.if-not-numbers_fit.false-raw in
     let s = passed c.all_zero.ensures c.if-not-all_zero.false-raw in
-    header_end _ _ _ _ _ (record { slots = c.slot_capacity-n.ensures.0; start = c.data_start-d.ensures.0; next = c.next_byte-b.ensures.0; given = c.slots_given-u.ensures.0 }) c.requires (sym c.edition.ensures.0 ∙ c.if-edition-number_of.false ∙ c.number_of.ensures) N s c.all_zero-2.ensures
+    header_end _ _ _ _ _ (record { slots = c.slot_capacity-n.ensures.0; start = c.data_start-d.ensures.0; next = c.next_byte-b.ensures.0; given = c.slots_given-u.ensures.0 }) c.requires (sym c.edition.ensures.0 ∙ c.if-edition-number.false ∙ c.number.ensures) N s c.all_zero-2.ensures

@@ -8,8 +8,8 @@ pub returns-then-k-lt1 : goal.returns-then-k-lt1
 returns-then-k-lt1 c = let a = c.args in let P = plain_of a.f.now a.e a.k a.path.now c.requires in
     denied (λ U. omega (arith, (P U).some))
 
-pub returns-then-k-gt-KEY_MOST : goal.returns-then-k-gt-KEY_MOST
-returns-then-k-gt-KEY_MOST c = let a = c.args in let P = plain_of a.f.now a.e a.k a.path.now c.requires in
+pub returns-then-k-longest_key : goal.returns-then-k-longest_key
+returns-then-k-longest_key c = let a = c.args in let P = plain_of a.f.now a.e a.k a.path.now c.requires in
     denied (λ U. omega (arith, (P U).most))
 
 pub returns-then-not-ends : goal.returns-then-not-ends
