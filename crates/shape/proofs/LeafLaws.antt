@@ -11,11 +11,11 @@ use Rattle.std.specs.Prelude.{Some, None}
 use Rattle.layout.specs.Number.{byte_at, le, Bytes}
 use Rattle.layout.specs.Place.{leaf_extent, leaf_key, leaf_value, leaf_stamp}
 use Rattle.layout.proofs.NumberLaws.{lt_or_le, le_lt}
-use Rattle.model.specs.Edition.{Edition, edition1, edition2, Value, text_of}
+use Rattle.model.specs.Edition.{Edition, edition2, Value, text_of}
 use Rattle.model.specs.Tree.{up8}
 use Rattle.model.specs.Body.{LeafAt}
 use Rattle.model.specs.Frame.{Begins}
-use Rattle.model.proofs.Edition1.{zero_free, free_zero, positive_at, at_positive, key_passes, key_taken, walked_at}
+use Rattle.model.proofs.Edition1.{zero_free, free_zero, positive_at, at_positive, walked_at}
 use Rattle.pieces.specs.Decides.{Decides}
 use Rattle.pieces.specs.Range.{Clean, Alike}
 use Rattle.keys.specs.Word.{ended}
@@ -104,22 +104,9 @@ module _ (f : List ℕ) (e k : ℕ) (path : List ℕ) where
 pub under_legal : {E : Edition} {key path : List ℕ} {r : Bool} → E.key_fault key ≡ 0 → Decides (Begins (E.walked key) path) r → Decides (Under E path key) r
 under_legal e D = handed D (λ B. record { legal = e; begins = B }) (λ U. U.begins)
 
--- a part of a slice is lent from its start on, as many bytes as there are to its end
-pub under_part : {E : Edition} (f : List ℕ) {path : List ℕ} (e k : ℕ) {r : Bool} → Decides (Under E path (take (e + k - e) (drop e f))) r → Decides (Under E path (take k (drop e f))) r
-under_part f e k D = let z : e + k - e ≡ k = omega arith in rw z at D
-
-pub under_plain : {path key : List ℕ} {r : Bool} → Decides (PlainUnder path key) r → Decides (Under edition1 path key) r
-under_plain {path} {key} D =
-    handed D
-    (λ P. record { legal = key_taken key (record { some = P.some; short = P.most; chars = zero_free key P.clean }); begins = P.begins })
-    (λ U. let K = key_passes key U.legal in record { some = K.some; most = K.short; clean = free_zero key K.chars; begins = U.begins })
-
 -- ---- the stamp, by the edition
 
--- 0 alone in edition 1, and every number of eight bytes is one in edition 2
-pub stamp_first : {s : ℕ} {r : Bool} → Decides (s ≡ 0) r → Decides (s < edition1.stamps) r
-stamp_first D = handed D (λ z. omega arith) (λ l. omega arith)
-
+-- every number of eight bytes is one in edition 2
 pub stamp_second : (f : List ℕ) (o : ℕ) → Bytes f → le 8 f o < edition2.stamps
 stamp_second f o B = le_lt 8 f o B
 
@@ -143,16 +130,6 @@ pub leaf_room : {f : List ℕ} {o d b e k v size : ℕ} → LeafRead f o e k v s
 leaf_room R room X = let r = R.rounded in let h = X.high in omega arith
 
 module _ {E : Edition} {f path : List ℕ} {o d b e k v size : ℕ} (R : LeafRead f o e k v size) where
-  pub leaf_extent_lem : (x n : ℕ) → LeafHere E f path o d b x n → ExtentFits e size d b
-  leaf_extent_lem x n L =
-      let at = L.is.at in
-      let z : k + v ≡ length L.key + length (text_of L.value) = omega arith in
-      let s : size ≡ n = R.rounded ∙ rw z (sym L.long) in
-      record { eights = omega (arith, L.is.eights); low = omega arith; high = omega arith }
-
-  pub leaf_stamp_lem : (x n : ℕ) → LeafHere E f path o d b x n → le 8 f (o + leaf_stamp) < E.stamps
-  leaf_stamp_lem x n L = rw L.is.at.stamp L.is.stamped
-
   pub leaf_key_lem : (x n : ℕ) → LeafHere E f path o d b x n → Under E path (take k (drop e f))
   leaf_key_lem x n L =
       let at = L.is.at in
