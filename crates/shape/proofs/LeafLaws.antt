@@ -14,7 +14,6 @@ use Rattle.layout.proofs.NumberLaws.{lt_or_le, le_lt}
 use Rattle.model.specs.Edition.{Edition, edition2, Value, text_of}
 use Rattle.model.specs.Tree.{up8}
 use Rattle.model.specs.Body.{LeafAt}
-use Rattle.model.specs.Frame.{Begins}
 use Rattle.model.proofs.Edition1.{zero_free, free_zero, positive_at, at_positive, walked_at}
 use Rattle.pieces.specs.Decides.{Decides}
 use Rattle.pieces.specs.Range.{Clean, Alike}
@@ -37,12 +36,6 @@ pub record PlainHere (f : List ℕ) (e k : ℕ) (path : List ℕ) : Type 0 where
   pub end : k < length path → get_or path k 0 ≡ 0
 
 module _ (f : List ℕ) (e k : ℕ) (path : List ℕ) where
-  pub plain_end : PlainHere f e k path → Ends path k (length path)
-  plain_end K = record { short = K.short; end = K.end }
-
-  pub plain_follows : (n : ℕ) → n ≤ length path → n ≤ k → PlainHere f e k path → Alike f e path 0 n
-  plain_follows n x y K i l = let z : 0 + i ≡ i = omega arith in rw z (K.same i (omega arith) (omega arith))
-
   plain_here : (n : ℕ) → 1 ≤ k → k ≤ 112 → ((i : ℕ) → i < length path → i < k → i < n) → Ends path k (length path) → Alike f e path 0 n → Clean f e (e + k) → PlainHere f e k path
   plain_here n a z h E F C =
       record { some = a; most = z; short = E.short; clean = C; same = λ i x y. let z : 0 + i ≡ i = omega arith in rw z at (F i (h i x y)); end = E.end }
@@ -97,12 +90,6 @@ module _ (f : List ℕ) (e k : ℕ) (path : List ℕ) where
     -- where the rest has passed, the test of the key's bytes decides
     pub plain_by : (n : ℕ) → 1 ≤ k → k ≤ 112 → ((i : ℕ) → i < length path → i < k → i < n) → Ends path k (length path) → Alike f e path 0 n → {r : Bool} → Decides (Clean f e (e + k)) r → Decides (PlainUnder path (take k (drop e f))) r
     plain_by n a z h E F D = handed D (λ C. plain_is (plain_here n a z h E F C)) (λ U. (plain_of U).clean)
-
--- ---- a legal key of edition 2
-
--- its walked string, tested against the path
-pub under_legal : {E : Edition} {key path : List ℕ} {r : Bool} → E.key_fault key ≡ 0 → Decides (Begins (E.walked key) path) r → Decides (Under E path key) r
-under_legal e D = handed D (λ B. record { legal = e; begins = B }) (λ U. U.begins)
 
 -- ---- the stamp, by the edition
 

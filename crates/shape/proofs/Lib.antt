@@ -1,5 +1,4 @@
 pub mod ZeroLaws
 pub mod BytesLaws
-pub mod HeaderLaws
 pub mod PrefixLaws
 pub mod LeafLaws

@@ -1,14 +1,8 @@
 -- `prefix_good` decides that a Prefix stands there, with PrefixLaws at each exit. Assumes nothing.
 use native.Mathlib.Omega.{arith}
-use Rattle.shape.proofs.PrefixLaws.{prefix_long, prefix_blank, prefix_end}
+use Rattle.shape.proofs.PrefixLaws.{prefix_blank, prefix_end}
 use Rattle.pieces.proofs.DecideLaws.{denied, refuted, passed}
 use Rattle.shape.proofs.prefix.prefix_good.Goals as goal
-
-pub returns-then-n-lt1 : goal.returns-then-n-lt1
-returns-then-n-lt1 c = let a = c.args in denied (λ p. omega (arith, prefix_long a.f.now a.o c.length-n.result c.length-n.ensures.0 p))
-
-pub returns-then-n-gt-MOST : goal.returns-then-n-gt-MOST
-returns-then-n-gt-MOST c = let a = c.args in denied (λ p. omega (arith, prefix_long a.f.now a.o c.length-n.result c.length-n.ensures.0 p))
 
 pub returns-then-not-zeros_good : goal.returns-then-not-zeros_good
 returns-then-not-zeros_good c = let a = c.args in denied (λ p. refuted c.zeros_good.ensures c.if-not-zeros_good.true-raw (prefix_blank a.f.now a.o c.length-n.result c.length-n.ensures.0 p))
