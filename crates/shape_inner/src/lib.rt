@@ -2,14 +2,13 @@
 #![tactic(auto)]
 
 ghost use Rattle.std.specs.Prelude.{◌+◌, ◌*◌, ◌≤◌, ◌<◌, ◌≡◌, length};
-ghost use Rattle.layout.specs.Kind.{body_size};
+ghost use Rattle.layout.specs.Kind.{number_of, body_size};
 ghost use Rattle.layout.specs.Place.{node48_children};
 ghost use Rattle.model.specs.Body.{Asc};
 ghost use Rattle.pieces.specs.Decides.{Decides};
 ghost use Rattle.shape_inner.specs.Inner.{CountFits, InnerHere, sorted_kids, Unused, SortedHere, in_use, Unmarked, IndexedHere, kids256};
 
 use fields::body::{Node, Node4, Node16, Node48, Node256, Rows};
-use layout::kind;
 use layout::kind::Kind;
 
 // ---- Node4 and Node16
@@ -132,27 +131,27 @@ fn direct_good(f: &[u8], o: usize, n: usize) -> bool
 // ---- any inner kind
 
 // A node of the kind may have n children.
-fn count_fits(kind: usize, n: usize) -> bool
-    requires { kind < 9 }
-    ensures { Decides (CountFits kind n) result }
+fn count_fits(kind: Kind, n: usize) -> bool
+    ensures { Decides (CountFits (number_of kind) n) result }
 {
-    if n < kind::fewest_children(kind) {
+    if n < kind.fewest_children() {
         return false;
     }
-    n <= kind::most_children(kind)
+    n <= kind.most_children()
 }
 
 // The body at o is a good one of the kind. The tables over kinds are asked only at a kind that is known there.
-pub fn inner_good(f: &[u8], o: usize, kind: usize) -> bool
-    requires { (4 ≤ kind) × (kind ≤ 7) × (o + body_size kind ≤ length f.now) }
-    ensures { Decides (InnerHere f.now o kind) result }
+pub fn inner_good(f: &[u8], o: usize, kind: Kind) -> bool
+    requires inner { (4 ≤ number_of kind) × (number_of kind ≤ 7) }
+    requires room { o + body_size (number_of kind) ≤ length f.now }
+    ensures { Decides (InnerHere f.now o (number_of kind)) result }
 {
     let n = Node::count(f, o);
     if Node::zero(f, o) != 0 {
         return false;
     }
-    if kind == Kind::NODE4 {
-        if !count_fits(Kind::NODE4, n) {
+    if kind == Kind::Node4 {
+        if !count_fits(Kind::Node4, n) {
             return false;
         }
         return sorted_good(f, o + Node4::BYTES, Node4::PLACES, n);
@@ -160,20 +159,24 @@ pub fn inner_good(f: &[u8], o: usize, kind: usize) -> bool
     if Node::zero_more(f, o) != 0 {
         return false;
     }
-    if kind == Kind::NODE16 {
-        if !count_fits(Kind::NODE16, n) {
-            return false;
+    match kind {
+        Kind::Node16 => {
+            if !count_fits(Kind::Node16, n) {
+                return false;
+            }
+            sorted_good(f, o + Node16::BYTES, Node16::PLACES, n)
         }
-        return sorted_good(f, o + Node16::BYTES, Node16::PLACES, n);
-    }
-    if kind == Kind::NODE48 {
-        if !count_fits(Kind::NODE48, n) {
-            return false;
+        Kind::Node48 => {
+            if !count_fits(Kind::Node48, n) {
+                return false;
+            }
+            indexed_good(f, o, n)
         }
-        return indexed_good(f, o, n);
+        _ => {
+            if !count_fits(Kind::Node256, n) {
+                return false;
+            }
+            direct_good(f, o, n)
+        }
     }
-    if !count_fits(Kind::NODE256, n) {
-        return false;
-    }
-    direct_good(f, o, n)
 }

@@ -1,11 +1,8 @@
 -- `rising` decides that the bytes ascend: those that are left do, from `low` on, exactly if all do. Assumes nothing.
 use native.Mathlib.Omega.{arith}
 use Rattle.pieces.proofs.DecideLaws.{granted, denied}
-use Rattle.shape_inner.proofs.SortedLaws.{left_all, left_more, left_low, left_end}
+use Rattle.shape_inner.proofs.SortedLaws.{left_more, left_low, left_end}
 use Rattle.shape_inner.proofs.rising.Goals as goal
-
-pub loop-i-init : goal.loop-i-init
-loop-i-init c = let a = c.args in (omega arith, left_all a.f.now a.at a.cap a.n)
 
 pub returns-then-b-low : goal.returns-then-b-low
 returns-then-b-low c = let a = c.args in denied (left_low a.f.now a.at a.cap a.n c.loop-i.i c.loop-i.low (omega arith) c.loop-i.invariant.1 (omega arith))
@@ -13,7 +10,7 @@ returns-then-b-low c = let a = c.args in denied (left_low a.f.now a.at a.cap a.n
 pub loop-i-preserved : goal.loop-i-preserved
 loop-i-preserved c = let a = c.args in (
   omega arith,
-  rw c.byte-b.ensures.0 (left_more a.f.now a.at a.cap a.n c.loop-i.i c.loop-i.low (λ k. (c.shared_slice_known-1.given k).fits) (omega arith) (omega arith) c.loop-i.invariant.1),
+  rw c.byte-b.ensures.0 (left_more a.f.now a.at a.cap a.n c.loop-i.i c.loop-i.low (λ k. omega (arith, c.type_inv.f k)) (omega arith) (omega arith) c.loop-i.invariant.1),
 )
 
 pub returns : goal.returns
