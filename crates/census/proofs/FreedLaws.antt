@@ -7,7 +7,9 @@ use lib.ListN.{length}
 use Rattle.std.specs.Prelude.{Option, Some, None}
 use Rattle.layout.specs.Number.{le}
 use Rattle.layout.specs.Place.{at_head}
-use Rattle.layout.specs.Kind.{crossing_kind}
+use Rattle.layout.specs.Kind.{number_of, crossing_kind}
+use Rattle.layout.specs.declared.kind.Kind.{Kind as Named}
+use Rattle.layout.specs.declared.kind.Kind.TheVariants as kind
 use Rattle.layout.specs.Entry.{place_of, high_of}
 use Rattle.model.specs.Item.{Item, body, on_slot, sum}
 use Rattle.model.specs.Frame.{Chain, list_items, freed}
@@ -69,6 +71,16 @@ module _ {f : List ℕ} {d u b kind s : ℕ} {m : List ℕ} {t : Sums} where
           (λ zs is Y C. let w = chain_first f kind s zs some C in (w.0, rw e w.1, rw at w.2)) R
 
 -- ---- one list
+
+pub third_kind : (k : Named) → number_of k ≡ crossing_kind → k ≡ kind.Crossing
+third_kind kind.Leaf e = absurd (omega arith)
+third_kind kind.Prefix e = absurd (omega arith)
+third_kind kind.Crossing e = refl
+third_kind kind.Node4 e = absurd (omega arith)
+third_kind kind.Node16 e = absurd (omega arith)
+third_kind kind.Node48 e = absurd (omega arith)
+third_kind kind.Node256 e = absurd (omega arith)
+third_kind kind.EmptyRoot e = absurd (omega arith)
 
 module _ {f : List ℕ} {d u b kind : ℕ} {m : List ℕ} {t : Sums} {m' : List ℕ} where
   pub list_some : {head : ℕ} {r : Option Sums} → (kind ≡ crossing_kind → ⊥) → head ≡ le 2 f (at_head kind) → Told (ChainItems f kind head) (ChainItems f kind head) f d u b m t m' r

@@ -1,5 +1,5 @@
 -- One body or extent is taken, or refused. Assumes nothing.
-use Prim.Native.Nat.{ℕ, zero, suc, ◌+◌, ◌*◌, ◌/◌, ◌%◌, ◌<◌, ◌≤◌}
+use Prim.Native.Nat.{ℕ, ◌+◌, ◌*◌, ◌/◌, ◌%◌, ◌<◌, ◌≤◌}
 use mathlib.Core.Path.{◌≡◌, ◌∙◌}
 use mathlib.Core.List.{List, [], ◌∷◌}
 use native.Mathlib.Omega.{arith}
@@ -14,18 +14,6 @@ use Rattle.claims.proofs.BitLaws.{in_same}
 use Rattle.claims.proofs.UnitLaws.{cover_is, body_eighth, extent_eighth, refused_body, refused_extent, fits_item}
 use Rattle.census.specs.declared.Sums.{Sums}
 use Rattle.census.specs.Told.{is_body, is_extent, Tidy, Tally, Book, Grown, BodyTaken, BodyTold, ExtentTaken, ExtentTold}
-
-pub size_most : (k : ℕ) → k ≤ 8 → body_size k ≤ 1032
-size_most zero h = omega arith
-size_most (suc zero) h = omega arith
-size_most (suc (suc zero)) h = omega arith
-size_most (suc (suc (suc zero))) h = omega arith
-size_most (suc (suc (suc (suc zero)))) h = omega arith
-size_most (suc (suc (suc (suc (suc zero))))) h = omega arith
-size_most (suc (suc (suc (suc (suc (suc zero)))))) h = omega arith
-size_most (suc (suc (suc (suc (suc (suc (suc zero))))))) h = omega arith
-size_most (suc (suc (suc (suc (suc (suc (suc (suc zero)))))))) h = omega arith
-size_most (suc (suc (suc (suc (suc (suc (suc (suc (suc k))))))))) h = absurd (omega arith)
 
 -- ---- tidy items lie between d and b
 

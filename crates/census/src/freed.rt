@@ -1,5 +1,6 @@
 // The lists of freed slots: "the list it is on tells the kind"; the high 15 bits of an entry are the next slot, and 0 ends a list.
 ghost use Rattle.std.specs.Prelude.{◌≡◌, ◌+◌, ◌*◌, ◌<◌, ◌≤◌, length};
+ghost use Rattle.layout.specs.Kind.{number_of};
 ghost use Rattle.census.specs.Told.{Tally, Told};
 ghost use Rattle.census.specs.Freed.{ChainItems, ListItems, FreedItems};
 
@@ -12,7 +13,7 @@ use layout::kind::Kind;
 fn chain(
     f: &[u8],
     map: &mut [u64],
-    kind: usize,
+    kind: Kind,
     head: usize,
     bounds: Bounds,
     t: Sums,
@@ -20,8 +21,7 @@ fn chain(
     requires inside { bounds.next ≤ length f.now }
     requires room { bounds.next ≤ 512 * length map.old }
     requires tally { Tally bounds.given 0 t }
-    requires kind { (1 ≤ kind) × (kind ≤ 8) }
-    ensures { Told (ChainItems f.now kind head) (ChainItems f.now kind head) f.now bounds.start bounds.given bounds.next map.old t map.new result }
+    ensures { Told (ChainItems f.now (number_of kind) head) (ChainItems f.now (number_of kind) head) f.now bounds.start bounds.given bounds.next map.old t map.new result }
 {
     let mut s = head;
     let mut sums = t;
@@ -38,21 +38,22 @@ fn chain(
 }
 
 // The list of a kind; "list 3 is empty".
-fn list(f: &[u8], map: &mut [u64], kind: usize, bounds: Bounds, t: Sums) -> Option<Sums>
+fn list(f: &[u8], map: &mut [u64], kind: Kind, bounds: Bounds, t: Sums) -> Option<Sums>
     requires inside { bounds.next ≤ length f.now }
     requires room { bounds.next ≤ 512 * length map.old }
     requires tally { Tally bounds.given 0 t }
-    requires kind { (1 ≤ kind) × (kind ≤ 8) }
-    ensures { Told (ListItems f.now kind) (ListItems f.now kind) f.now bounds.start bounds.given bounds.next map.old t map.new result }
+    ensures { Told (ListItems f.now (number_of kind)) (ListItems f.now (number_of kind)) f.now bounds.start bounds.given bounds.next map.old t map.new result }
 {
     let head = Header::list_head(f, kind);
-    if kind != Kind::CROSSING {
-        return chain(f, map, kind, head, bounds, t);
+    match kind {
+        Kind::Crossing => {
+            if head != 0 {
+                return None;
+            }
+            Some(t)
+        }
+        _ => chain(f, map, kind, head, bounds, t),
     }
-    if head != 0 {
-        return None;
-    }
-    Some(t)
 }
 
 // All eight. An empty list has no slots, and nothing of it is counted.
@@ -63,7 +64,8 @@ pub fn lists(f: &[u8], map: &mut [u64], bounds: Bounds, t: Sums) -> Option<Sums>
     ensures { Told (FreedItems f.now 1) (FreedItems f.now 1) f.now bounds.start bounds.given bounds.next map.old t map.new result }
 {
     let mut sums = t;
-    for kind in 1..Kind::TABLE {
+    for n in 1..Kind::TABLE {
+        let kind = Kind::known(n);
         if Header::list_head(f, kind) == 0 {
             continue;
         }

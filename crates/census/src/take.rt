@@ -1,23 +1,23 @@
 // One body or extent claims its units of the map, and is counted.
 ghost use Rattle.std.specs.Prelude.{◌≡◌, ◌+◌, ◌*◌, ◌%◌, ◌<◌, ◌≤◌, length};
+ghost use Rattle.layout.specs.Kind.{number_of};
 ghost use Rattle.census.specs.Told.{Tally, BodyTold, ExtentTold};
 
 use crate::{Bounds, Sums};
 use claims::claim;
-use layout::kind;
+use layout::kind::Kind;
 
 // A body of the kind at o: it lies between D and B, and there are no more than U.
-pub fn body(map: &mut [u64], kind: usize, o: usize, bounds: Bounds, t: Sums) -> Option<Sums>
+pub fn body(map: &mut [u64], kind: Kind, o: usize, bounds: Bounds, t: Sums) -> Option<Sums>
     requires room { bounds.next ≤ 512 * length map.old }
     requires tally { Tally bounds.given 0 t }
-    requires kind { (1 ≤ kind) × (kind ≤ 8) }
     requires place { (o % 8 ≡ 0) × (o < 1048576) }
-    ensures { BodyTold bounds.start bounds.given bounds.next kind o map.old t map.new result }
+    ensures { BodyTold bounds.start bounds.given bounds.next (number_of kind) o map.old t map.new result }
 {
     if bounds.given <= t.slots {
         return None;
     }
-    let size = kind::body_size(kind);
+    let size = kind.body_size();
     if o < bounds.start {
         return None;
     }

@@ -10,9 +10,7 @@ use native.Mathlib.Nat.{eq-or-lt_of_le}
 use lib.ListN.{length}
 use Rattle.layout.specs.Number.{byte_at, le, Bytes}
 use Rattle.layout.specs.Place.{node_count, node_zero, node4_bytes, node16_bytes, node48_index, node48_children, node256_children}
-use Rattle.layout.specs.Kind.{number_of, body_size}
-use Rattle.layout.specs.declared.kind.Kind.{Kind as Named}
-use Rattle.layout.specs.declared.kind.Kind.TheVariants as kind
+use Rattle.layout.specs.Kind.{body_size}
 use Rattle.layout.proofs.NumberLaws.{lt_or_le, le_lt}
 use Rattle.model.specs.Body.{named_child, slot_or_none, SortedAt, Node48At, Node256At, InnerAt}
 use Rattle.pieces.specs.Decides.{Decides}
@@ -21,17 +19,6 @@ use Rattle.pieces.proofs.ZeroLaws.{blank_le, le_blank}
 use Rattle.shape_inner.specs.Inner.{CountFits, InnerHere, sorted_kids, SortedHere, child48, child256, kids48, kids256, IndexedHere}
 use Rattle.shape_inner.proofs.KidsLaws.{Small, kids_asc, kids_look, kids_only}
 use Rattle.shape_inner.proofs.SortedLaws.{sorted_long, sorted_here, here_sorted}
-
--- the last of the inner kinds
-pub seventh : (k : Named) → 4 ≤ number_of k → number_of k ≤ 7 → (k ≡ kind.Node4 → ⊥) → (k ≡ kind.Node16 → ⊥) → (k ≡ kind.Node48 → ⊥) → number_of k ≡ 7
-seventh kind.Leaf l h a b d = absurd (omega arith)
-seventh kind.Prefix l h a b d = absurd (omega arith)
-seventh kind.Crossing l h a b d = absurd (omega arith)
-seventh kind.Node4 l h a b d = absurd (a refl)
-seventh kind.Node16 l h a b d = absurd (b refl)
-seventh kind.Node48 l h a b d = absurd (d refl)
-seventh kind.Node256 l h a b d = refl
-seventh kind.EmptyRoot l h a b d = absurd (omega arith)
 
 -- ---- what every inner node has
 

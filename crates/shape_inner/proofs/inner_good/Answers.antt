@@ -4,8 +4,9 @@ use Rattle.std.proofs.Common.{rules}
 use Rattle.layout.specs.declared.kind.Kind.TheVariants as kind
 use native.Mathlib.Omega.{arith}
 use Rattle.layout.specs.Kind.{number_of}
+use Rattle.layout.proofs.KindLaws.{last_inner}
 use Rattle.pieces.proofs.DecideLaws.{denied, passed}
-use Rattle.shape_inner.proofs.InnerLaws.{inner_two, inner_four, node4_end, node16_end, node48_end, node256_end, seventh}
+use Rattle.shape_inner.proofs.InnerLaws.{inner_two, inner_four, node4_end, node16_end, node48_end, node256_end}
 use Rattle.shape_inner.proofs.inner_good.Goals as goal
 
 pub returns-then-zero-ne0 : goal.returns-then-zero-ne0
@@ -30,4 +31,4 @@ returns-else-not-count_fits-3 c =
 
 pub returns-else-not-count_fits-4 : goal.returns-else-not-count_fits-4
 returns-else-not-count_fits-4 c =
-    node256_end _ _ _ _ (record { count = c.count-n.ensures.0; two = omega (arith, c.zero.ensures.0, c.if-zero-ne0.false) }) (omega (arith, c.zero_more.ensures.0, c.if-zero_more-ne0.false)) (λ k. omega (arith, c.type_inv.f k)) (seventh c.args.kind c.requires.inner.0 c.requires.inner.1 (search rules) c.in_default.not-Node16 c.in_default.not-Node48) (passed c.count_fits-in_default.ensures c.if-not-count_fits-4.false-raw) c.requires.room c.direct_good.ensures
+    node256_end _ _ _ _ (record { count = c.count-n.ensures.0; two = omega (arith, c.zero.ensures.0, c.if-zero-ne0.false) }) (omega (arith, c.zero_more.ensures.0, c.if-zero_more-ne0.false)) (λ k. omega (arith, c.type_inv.f k)) (ap number_of (last_inner c.args.kind c.requires.inner (search rules) c.in_default.not-Node16 c.in_default.not-Node48)) (passed c.count_fits-in_default.ensures c.if-not-count_fits-4.false-raw) c.requires.room c.direct_good.ensures

@@ -1,5 +1,6 @@
 -- The loop's invariant: what is told of the slots from here on tells of all. Assumes nothing.
 use native.Mathlib.Omega.{arith}
+use Rattle.layout.proofs.KindLaws.{number_least, number_most}
 use Rattle.census.proofs.ToldLaws.{tally_body, body_slots}
 use Rattle.census.proofs.FreedLaws.{chain_end, chain_past, chain_bad, chain_more}
 use Rattle.census.proofs.freed.chain.Goals as goal
@@ -21,7 +22,7 @@ loop-s-preserved c =
     let T = c.body.ensures.holds _ c.in_ok-sums.was in (
       omega (arith, c.loop-s.invariant.0, c.body.auto),
       tally_body T.tally,
-      λ m r R. c.loop-s.invariant.2 m r (chain_more c.loop-s-test.true c.read-e.ensures.1 T c.if-bounds-s.false c.requires.kind.0 c.requires.kind.1 c.read-e.ensures.0 R),
+      λ m r R. c.loop-s.invariant.2 m r (chain_more c.loop-s-test.true c.read-e.ensures.1 T c.if-bounds-s.false (number_least c.args.kind) (number_most c.args.kind) c.read-e.ensures.0 R),
     )
 
 pub returns : goal.returns
