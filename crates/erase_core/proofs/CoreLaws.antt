@@ -6,7 +6,7 @@ use mathlib.Core.Bool.{Bool, true, false}
 use mathlib.Core.Option.{Option, none, some}
 use native.Mathlib.Omega.{arith}
 use lib.ListN.{length, take, drop}
-use Rattle.layout.specs.Kind.{shrink_mark}
+use Rattle.layout.specs.Kind.{shrink_mark, number_of}
 use Rattle.model.specs.Strings.{pick}
 use Rattle.model.specs.Edition.{Edition, text_of}
 use Rattle.model.specs.Tree.{Art}
@@ -42,24 +42,24 @@ use Rattle.erase_core.specs.Core.{Asked, EraseMade}
 -- ---- what each edit counts on
 
 module _ {E : Edition} {f k : List ℕ} {p : Spot} (P : EraseAt E f k p) where
-  inner_at : InnerAt f p.node.place p.node.kind (pairs (kids P P.st P.stands))
+  inner_at : InnerAt f p.node.place (number_of p.node.kind) (pairs (kids P P.st P.stands))
   inner_at = (N0 P P.st P.stands).inner
 
-  pub node_fits : (p.node.place + 2 ≤ length f) × (p.node.kind < 9)
+  pub node_fits : (p.node.place + 2 ≤ length f) × ((number_of p.node.kind) < 9)
   node_fits = inner_fits (pairs (kids P P.st P.stands)) inner_at
 
   -- m: the children that are counted; g: the mark
-  module _ {m g : ℕ} (count : (kind : ℕ) (ks : List (ℕ × ℕ)) → InnerAt f p.node.place kind ks → m ≡ length ks) (mark : g ≡ shrink_mark p.node.kind) where
+  module _ {m g : ℕ} (count : (kind : ℕ) (ks : List (ℕ × ℕ)) → InnerAt f p.node.place kind ks → m ≡ length ks) (mark : g ≡ shrink_mark (number_of p.node.kind)) where
     count_is : counted f p ≡ m
-    count_is = inner_count (pairs (kids P P.st P.stands)) inner_at ∙ sym (count p.node.kind _ inner_at)
+    count_is = inner_count (pairs (kids P P.st P.stands)) inner_at ∙ sym (count (number_of p.node.kind) _ inner_at)
 
     pub at_keeps : (m ≡ g + 1 → ⊥) → Stays E f k p
     at_keeps d = record { erase = P; more = λ z. d (omega (arith, count_is)) }
 
-    pub at_pair : m ≡ g + 1 → p.node.kind ≡ 4 → Pair E f k p
+    pub at_pair : m ≡ g + 1 → (number_of p.node.kind) ≡ 4 → Pair E f k p
     at_pair d e = record { at = P; kind = e; two = omega (arith, count_is, ap shrink_mark e) }
 
-    pub at_mark : m ≡ g + 1 → (p.node.kind ≡ 4 → ⊥) → Falls E f k p
+    pub at_mark : m ≡ g + 1 → ((number_of p.node.kind) ≡ 4 → ⊥) → Falls E f k p
     at_mark d e = let r = inner_at.range in record { erase = P; large = omega arith; mark = omega (arith, count_is) }
 
 -- ---- the erase

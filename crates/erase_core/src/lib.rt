@@ -13,7 +13,6 @@ use editions::Editioned;
 use erase_join::join;
 use erase_remove::{only, remove, shrink};
 use inner::look;
-use layout::kind;
 use layout::kind::Kind;
 use room::{fit, left};
 
@@ -23,11 +22,11 @@ fn apply(f: &mut [u8], key: &[u8], spot: Spot)
     ensures { (E : Edition) → EraseAt E f.old key.now spot → EraseStep E f.old key.now f.new }
 {
     let node = spot.node;
-    if look::count(f, node.place) != kind::shrink_mark(node.kind) + 1 {
+    if look::count(f, node.place) != node.kind.shrink_mark() + 1 {
         remove::remove_child(f, spot);
         return;
     }
-    if node.kind == Kind::NODE4 {
+    if node.kind == Kind::Node4 {
         join::join(f, key, spot);
         return;
     }

@@ -23,7 +23,7 @@ pub fn new_leaf(f: &mut [u8], r: Record) -> usize
     requires { Makes f.old r.key.now (value_of r) }
     ensures { NewLeaf f.old f.new r.entry.key.now (value_of r.entry) result }
 {
-    let s = heap::take(f, Kind::LEAF);
+    let s = heap::take(f, Kind::Leaf);
     let body = Entry::read(f, s);
     let extent = heap::extend(f, r.key, r.value);
     Leaf::write(f, body.place, extent, r.key.len(), r.value.len(), r.stamp);

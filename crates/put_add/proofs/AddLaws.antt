@@ -7,7 +7,7 @@ use native.Mathlib.Omega.{arith}
 use lib.ListN.{length, get_or}
 use borrow.Author.Tests.{lt-ltb}
 use Rattle.layout.specs.Number.{Bytes}
-use Rattle.layout.specs.Kind.{leaf_kind, most}
+use Rattle.layout.specs.Kind.{leaf_kind, most, number_of}
 use Rattle.model.specs.Edition.{Edition, Value}
 use Rattle.model.specs.Tree.{Art, extent_of, new_key, join, place_in}
 use Rattle.model.specs.State.{State, room, put_change}
@@ -144,18 +144,18 @@ module _ {E : Edition} {f : List ℕ} {st : State} {S : Stands E f st} {k : List
 -- ---- at a spot
 
 module _ {E : Edition} {f k w : List ℕ} {v : Value} {p : Spot} (A : Open E f k w v p) where
-  P0 : Lacks A.put.ready.stands k A.put.way.steps p.here.slot p.here.place p.here.kind A.missing.kids A.missing.byte A.missing.after
+  P0 : Lacks A.put.ready.stands k A.put.way.steps p.here.slot p.here.place (number_of p.here.kind) A.missing.kids A.missing.byte A.missing.after
   P0 = lacks_of A.put A.missing A.put.ready.stands
 
   pub open_makes : Makes f k v
   open_makes = ready_makes A.put.ready A.put.ready.stands.heap (add_room P0 v A.put.ready.legal_value.stamp A.few A.put.ready.room)
 
   module _ {f1 : List ℕ} {l : ℕ} (make : NewLeaf f f1 k v l) where
-    pub open_adds : NodeOpen f1 p.here.place p.here.kind × (1 ≤ l) × (l < 4294967296)
+    pub open_adds : NodeOpen f1 p.here.place (number_of p.here.kind) × (1 ≤ l) × (l < 4294967296)
     open_adds = add_open P0 v A.put.ready.legal_value.stamp A.few A.put.ready.room make
 
-    module _ {f2 : List ℕ} {b : ℕ} (eb : b ≡ get_or w p.depth 0) (D : Added f1 f2 p.here.place p.here.kind b l) where
-      added : Added f1 f2 p.here.place p.here.kind A.missing.byte l
+    module _ {f2 : List ℕ} {b : ℕ} (eb : b ≡ get_or w p.depth 0) (D : Added f1 f2 p.here.place (number_of p.here.kind) b l) where
+      added : Added f1 f2 p.here.place (number_of p.here.kind) A.missing.byte l
       added = rw (eb ∙ spells_at A.spells p.depth ∙ byte_is A.put A.missing) at D
 
       pub open_counts : Counts f2

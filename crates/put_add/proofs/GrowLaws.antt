@@ -9,7 +9,9 @@ use native.Mathlib.Omega.{arith}
 use lib.ListN.{length, get_or}
 use borrow.Author.Tests.{le-ltb}
 use Rattle.layout.specs.Number.{Bytes}
-use Rattle.layout.specs.Kind.{leaf_kind, Kind, body_size, most, kind_up, prefix_kind}
+use Rattle.layout.specs.Kind.{leaf_kind, Kind, body_size, most, kind_up, prefix_kind, number_of, number_or_zero}
+use Rattle.layout.specs.declared.kind.Kind.{Kind as Named}
+use Rattle.std.specs.Prelude.{Option as Maybe, Some, None, IsSome}
 use Rattle.layout.specs.Entry.{place_of}
 use Rattle.layout.proofs.KindLaws.{size_least}
 use Rattle.model.specs.Edition.{Edition, Value}
@@ -57,6 +59,13 @@ use Rattle.put_add.specs.Missing.{Full, Lacks}
 use Rattle.put_add.specs.Grown.{Fills, Filled}
 use Rattle.put_add.proofs.SpotLaws.{lacks_of, byte_is, lacks_byte, lacks_put, lacks_work, ready_makes}
 use Rattle.put_add.proofs.UpLaws.{Grows, grows, inner_kind, not_256, all_byte, tally_turn, kids_live, holder_in, holder_some}
+
+some_kind : (o : Maybe Named) → 1 ≤ number_or_zero o → IsSome o
+some_kind None h = absurd (omega arith)
+some_kind (Some k) h = refl
+
+pub kind_is : (o : Maybe Named) (u : Named) {n : ℕ} → o ≡ Some u → number_or_zero o ≡ n → number_of u ≡ n
+kind_is o u e q = sym (ap number_or_zero e) ∙ q
 
 two_row : (h : View) (k : ℕ) → Kind k → length h.lists ≡ 8 → Booked h (taken (taken h k) leaf_kind) (leaf_kind ∷ k ∷ []) [] 0 0 h.nums.R
 unfolding taken_all
@@ -323,16 +332,19 @@ module _ {E : Edition} {f : List ℕ} {st : State} {S : Stands E f st} {k : List
 -- ---- at a spot
 
 module _ {E : Edition} {f k w : List ℕ} {v : Value} {p : Spot} (A : Full E f k w v p) where
-  P0 : Lacks A.put.ready.stands k A.put.way.steps p.here.slot p.here.place p.here.kind A.missing.kids A.missing.byte A.missing.after
+  P0 : Lacks A.put.ready.stands k A.put.way.steps p.here.slot p.here.place (number_of p.here.kind) A.missing.kids A.missing.byte A.missing.after
   P0 = lacks_of A.put A.missing A.put.ready.stands
 
   fits0 : room A.put.ready.st (put_change E A.put.ready.st k v) ≡ true
   fits0 = A.put.ready.room
 
-  pub full_kind : p.here.kind < 9
-  full_kind = omega (arith, (grow_kind P0 v A.put.ready.legal_value.stamp A.full fits0).1)
+  -- there is a next kind
+  pub full_up : (o : Maybe Named) → number_or_zero o ≡ kind_up (number_of p.here.kind) → IsSome o
+  full_up o e =
+      let K = grow_kind P0 v A.put.ready.legal_value.stamp A.full fits0 in
+      some_kind o (omega (arith, e, (grows (number_of p.here.kind) K.0 K.1).low))
 
-  module _ {up : ℕ} (eu : up ≡ kind_up p.here.kind) where
+  module _ {up : ℕ} (eu : up ≡ kind_up (number_of p.here.kind)) where
     pub full_takes : Takes f up
     full_takes = grow_takes P0 v A.put.ready.legal_value.stamp A.full fits0 eu
 
@@ -341,22 +353,22 @@ module _ {E : Edition} {f k w : List ℕ} {v : Value} {p : Spot} (A : Full E f k
       full_makes = ready_makes A.put.ready (grow_heap P0 v A.put.ready.legal_value.stamp A.full fits0 eu took) (grow_room P0 v A.put.ready.legal_value.stamp A.full fits0 eu took)
 
       module _ {f2 : List ℕ} {l : ℕ} (make : NewLeaf f1 f2 k v l) where
-        pub full_fills : Fills f2 p.here.place p.here.kind m up l
+        pub full_fills : Fills f2 p.here.place (number_of p.here.kind) m up l
         full_fills = grow_fills P0 v A.put.ready.legal_value.stamp A.full fits0 eu took make
 
-        module _ {f3 : List ℕ} {b : ℕ} (eb : b ≡ get_or w p.depth 0) (F : Filled f2 f3 p.here.place p.here.kind m up b l) where
-          filled : Filled f2 f3 p.here.place p.here.kind m up A.missing.byte l
+        module _ {f3 : List ℕ} {b : ℕ} (eb : b ≡ get_or w p.depth 0) (F : Filled f2 f3 p.here.place (number_of p.here.kind) m up b l) where
+          filled : Filled f2 f3 p.here.place (number_of p.here.kind) m up A.missing.byte l
           filled = rw (eb ∙ spells_at A.spells p.depth ∙ byte_is A.put A.missing) at F
 
           pub full_link : (64 ≤ length f3) × (p.here.link + 4 ≤ length f3)
           full_link = grow_link P0 v A.put.ready.legal_value.stamp A.full fits0 eu took make filled p.here.link A.put.way.link_is
 
           module _ {f4 : List ℕ} (link : Relinked f3 f4 p.here.link m) where
-            pub full_frees : Frees f4 p.here.slot p.here.kind
+            pub full_frees : Frees f4 p.here.slot (number_of p.here.kind)
             full_frees = grow_frees P0 v A.put.ready.legal_value.stamp A.full fits0 eu took make filled p.here.link A.put.way.link_is link
 
-            module _ {f5 : List ℕ} (free : (h : View) (o : ℕ) (rest : List Item) → Heap f4 h → Same h.owned (body p.here.slot p.here.kind o ∷ rest) → place_of f4 p.here.slot ≡ o
-                → Freed f4 f5 h p.here.slot p.here.kind o rest) where
+            module _ {f5 : List ℕ} (free : (h : View) (o : ℕ) (rest : List Item) → Heap f4 h → Same h.owned (body p.here.slot (number_of p.here.kind) o ∷ rest) → place_of f4 p.here.slot ≡ o
+                → Freed f4 f5 h p.here.slot (number_of p.here.kind) o rest) where
               pub full_counts : Counts f5
               full_counts = grow_counts P0 v A.put.ready.legal_value.stamp A.full fits0 eu took make filled p.here.link A.put.way.link_is link free
 

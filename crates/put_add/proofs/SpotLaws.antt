@@ -7,7 +7,7 @@ use mathlib.Core.Bool.{false}
 use mathlib.Core.Option.{some}
 use native.Mathlib.Omega.{arith}
 use lib.ListN.{length, get_or, drop}
-use Rattle.layout.specs.Kind.{leaf_kind}
+use Rattle.layout.specs.Kind.{leaf_kind, number_of}
 use Rattle.model.specs.Edition.{Edition, Value}
 use Rattle.model.specs.Tree.{Art, extent_of, over, new_key, put_tree}
 use Rattle.model.specs.State.{State, put_change, put_in}
@@ -35,7 +35,7 @@ module _ {E : Edition} {f k : List ℕ} {v : Value} {p : Spot} (A : PutAt E f k 
   rest_is : A.way.rest ≡ N.byte ∷ N.after
   rest_is = sym (leads_rest A.way.leads) ∙ ap (λ d. drop d (E.walked k)) (sym A.way.deep) ∙ N.next
 
-  pub lacks_of : {st : State} (S : Stands E f st) → Lacks S k A.way.steps p.here.slot p.here.place p.here.kind N.kids N.byte N.after
+  pub lacks_of : {st : State} (S : Stands E f st) → Lacks S k A.way.steps p.here.slot p.here.place (number_of p.here.kind) N.kids N.byte N.after
   lacks_of S =
       record {
         is = same_root A.ready.stands S (A.is ∙ ap tree (A.way.whole ∙ ap (plug A.way.steps) N.is));

@@ -1,7 +1,7 @@
 -- Put of a key whose way ends at an inner node without its byte, and of the first record: what the edits count on.
 use Rattle.std.specs.Prelude.{ℕ, ◌<◌, ◌≤◌, ◌≡◌, List, ◌∷◌, length}
 use Rattle.std.proofs.Math.Option.{none}
-use Rattle.layout.specs.Kind.{most}
+use Rattle.layout.specs.Kind.{most, number_of}
 use Rattle.model.specs.Edition.{Edition, Lawful, Legal, Value}
 use Rattle.model.specs.State.{State}
 use Rattle.model.specs.Body.{look_kid}
@@ -19,14 +19,14 @@ pub record Open (E : Edition) (f k w : List ℕ) (v : Value) (p : Spot) : Type 0
   pub put : PutAt E f k v p
   pub spells : Spells E k w
   pub missing : NoByte E k p put.way.sub
-  pub few : length (pairs missing.kids) < most p.here.kind
+  pub few : length (pairs missing.kids) < most (number_of p.here.kind)
 
 -- the node is full
 pub record Full (E : Edition) (f k w : List ℕ) (v : Value) (p : Spot) : Type 0 where
   pub put : PutAt E f k v p
   pub spells : Spells E k w
   pub missing : NoByte E k p put.way.sub
-  pub full : most p.here.kind ≤ length (pairs missing.kids)
+  pub full : most (number_of p.here.kind) ≤ length (pairs missing.kids)
 
 -- the frame is empty
 pub record Vacant (E : Edition) (f k : List ℕ) (v : Value) : Type 0 where

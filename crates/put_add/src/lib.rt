@@ -2,6 +2,7 @@
 // the next kind, and the old body is freed"; "empty frame: EmptyRoot is freed".
 #![tactic(auto)]
 
+ghost use Rattle.layout.specs.Kind.{number_of};
 ghost use Rattle.model.specs.Edition.{Edition, SomeEdition};
 ghost use Rattle.leaf_new.specs.Make.{value_of};
 ghost use Rattle.leaf_new.specs.Put.{PutStep};
@@ -12,7 +13,6 @@ use descent::spot::Spot;
 use fields::header::Header;
 use inner::{carry, change};
 use layout::entry::Entry;
-use layout::kind;
 use layout::kind::Kind;
 use leaf_new::Record;
 use room::heap;
@@ -31,9 +31,9 @@ pub fn add_child(f: &mut [u8], r: Record, spot: Spot)
 }
 
 // The body of slot n takes the children of the one at `from`, and the Leaf at byte b.
-fn refill(f: &mut [u8], from: usize, kind: usize, n: usize, up: usize, b: u8, leaf: usize)
-    requires { Fills f.old from kind n up leaf }
-    ensures { Filled f.old f.new from kind n up b leaf }
+fn refill(f: &mut [u8], from: usize, kind: Kind, n: usize, up: Kind, b: u8, leaf: usize)
+    requires { Fills f.old from (number_of kind) n (number_of up) leaf }
+    ensures { Filled f.old f.new from (number_of kind) n (number_of up) b leaf }
 {
     let body = Entry::read(f, n);
     change::empty(f, body.place, up);
@@ -49,7 +49,7 @@ pub fn grow(f: &mut [u8], r: Record, spot: Spot)
 {
     let here = spot.here;
     let b = keys::at(r.word, spot.depth);
-    let up = kind::kind_up(here.kind);
+    let up = here.kind.up().unwrap();
     let n = heap::take(f, up);
     let leaf = leaf_new::new_leaf(f, r);
     refill(f, here.place, here.kind, n, up, b, leaf);
@@ -67,6 +67,6 @@ pub fn first_record(f: &mut [u8], r: Record)
     let old = Header::root(f);
     let leaf = leaf_new::new_leaf(f, r);
     room::link::relink(f, Header::AT_ROOT, leaf);
-    heap::release(f, old, Kind::EMPTY_ROOT);
+    heap::release(f, old, Kind::EmptyRoot);
     leaf_new::count_record(f);
 }

@@ -8,7 +8,7 @@ use native.Mathlib.Decide.{dec_lt}
 use lib.ListN.{length, get_or, drop}
 use lib.Seq.{get_or-drop}
 use lib.Dec.{eqb}
-use Rattle.layout.specs.Kind.{most}
+use Rattle.layout.specs.Kind.{most, number_of}
 use Rattle.model.specs.Strings.{pick, same}
 use Rattle.model.specs.Edition.{Edition, Value, text_of}
 use Rattle.model.specs.Tree.{Art, Change, extent_of, put_tree}
@@ -59,12 +59,12 @@ module _ {E : Edition} {f k : List ℕ} {st : State} {p : Spot} (v : Value) (w :
   fresh_missing e =
       let I = S.in_tree (λ z. clash (cc)) in
       let F = I.spot.missing e in
-      let t = node p.here.slot p.here.place p.here.kind F.kids in
+      let t = node p.here.slot p.here.place (number_of p.here.kind) F.kids in
       let b : get_or (E.walked k) p.depth 0 ≡ F.byte = head_byte p.depth (E.walked k) F.next in
       let absent = look_none F.byte F.kids F.absent in
-      there I t F.is (elim (dec_lt (length (pairs F.kids)) (most p.here.kind)) [
-        | yes l ↦ ap (λ (c : Change Art). c.fresh) (node_put E k v p.depth F.byte p.here.kind F.kids b absent l)
-        | no l ↦ ap (λ (c : Change Art). c.fresh) (node_grow E k v p.depth F.byte p.here.kind F.kids b absent (omega arith))
+      there I t F.is (elim (dec_lt (length (pairs F.kids)) (most (number_of p.here.kind))) [
+        | yes l ↦ ap (λ (c : Change Art). c.fresh) (node_put E k v p.depth F.byte (number_of p.here.kind) F.kids b absent l)
+        | no l ↦ ap (λ (c : Change Art). c.fresh) (node_grow E k v p.depth F.byte (number_of p.here.kind) F.kids b absent (omega arith))
       ])
 
   fresh_parted : p.end ≡ end.Parted → (put_change E st k v).fresh ≡ true

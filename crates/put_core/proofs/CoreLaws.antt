@@ -5,7 +5,7 @@ use mathlib.Core.List.{List}
 use mathlib.Core.Bool.{Bool, true, false}
 use native.Mathlib.Omega.{arith}
 use lib.ListN.{length}
-use Rattle.layout.specs.Kind.{most}
+use Rattle.layout.specs.Kind.{most, number_of}
 use Rattle.model.specs.Strings.{pick}
 use Rattle.model.specs.Edition.{Edition, Value, text_of}
 use Rattle.model.specs.State.{State, Done, done, find_in, put_change, room, call_put, Write, new, replacing, either, call_write}
@@ -72,22 +72,22 @@ module _ {E : Edition} {f k word : List ℕ} {v : Value} {p : Spot} (A : AtNode 
   abbrev inside : InTree E k A.put.ready.stands.root p
   inside = A.put.spot.in_tree (λ z. let e = A.ends in clash (cc))
 
-  inner_at : InnerAt f p.here.place p.here.kind (pairs (inside.spot.missing A.ends).kids)
+  inner_at : InnerAt f p.here.place (number_of p.here.kind) (pairs (inside.spot.missing A.ends).kids)
   inner_at =
       let I = inside in
       let N = I.spot.missing A.ends in
       let T = (hole E (record { st = A.put.ready.st; stands = A.put.ready.stands; lay = I.lay; is = I.is; way = I.spot.way })).2 in
-      (node_parts E f (path_of I.spot.way.steps) p.here.slot p.here.place p.here.kind N.kids (subst (λ (t : Lay). Tree E f (path_of I.spot.way.steps) t) N.is T)).1.inner
+      (node_parts E f (path_of I.spot.way.steps) p.here.slot p.here.place (number_of p.here.kind) N.kids (subst (λ (t : Lay). Tree E f (path_of I.spot.way.steps) t) N.is T)).1.inner
 
-  pub node_fits : (p.here.place + 2 ≤ length f) × (p.here.kind < 9)
+  pub node_fits : (p.here.place + 2 ≤ length f) × ((number_of p.here.kind) < 9)
   node_fits = node_room (from_spot A.put) A.ends
 
-  module _ {n m : ℕ} (count : (kind : ℕ) (ks : List (ℕ × ℕ)) → InnerAt f p.here.place kind ks → n ≡ length ks) (em : m ≡ most p.here.kind) where
+  module _ {n m : ℕ} (count : (kind : ℕ) (ks : List (ℕ × ℕ)) → InnerAt f p.here.place kind ks → n ≡ length ks) (em : m ≡ most (number_of p.here.kind)) where
     pub node_open : n < m → Open E f k word v p
-    node_open l = record { put = put_at A.put inside; spells = A.put.spells; missing = inside.spot.missing A.ends; few = omega (arith, count p.here.kind _ inner_at) }
+    node_open l = record { put = put_at A.put inside; spells = A.put.spells; missing = inside.spot.missing A.ends; few = omega (arith, count (number_of p.here.kind) _ inner_at) }
 
     pub node_full : (n < m → ⊥) → Full E f k word v p
-    node_full l = record { put = put_at A.put inside; spells = A.put.spells; missing = inside.spot.missing A.ends; full = omega (arith, count p.here.kind _ inner_at) }
+    node_full l = record { put = put_at A.put inside; spells = A.put.spells; missing = inside.spot.missing A.ends; full = omega (arith, count (number_of p.here.kind) _ inner_at) }
 
 -- ---- the write
 

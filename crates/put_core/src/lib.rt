@@ -16,7 +16,6 @@ use descent::spot::{End, Spot};
 use descent::walk;
 use editions::{Edition, Editioned};
 use inner::look;
-use layout::kind;
 use leaf_new::Record;
 use room::{fit, left};
 
@@ -35,7 +34,7 @@ fn add(f: &mut [u8], r: Record, spot: Spot)
     ensures { (E : Rules) → AtNode E f.old r.entry.key.now r.entry.word.now (value_of r.entry) spot → PutStep E f.old r.entry.key.now (value_of r.entry) f.new }
 {
     let here = spot.here;
-    if look::count(f, here.place) < kind::most_children(here.kind) {
+    if look::count(f, here.place) < here.kind.most_children() {
         put_add::add_child(f, r, spot);
         return;
     }

@@ -24,7 +24,7 @@ pub fn split_leaf<E: Editioned>(f: &mut [u8], r: Record, spot: Spot, edition: E)
     let to = from + spot.shared;
     let b = keys::at(r.word, to);
     let c = parts::old_byte(f, here.place, to, edition);
-    let node = heap::take(f, Kind::NODE4);
+    let node = heap::take(f, Kind::Node4);
     let need = chain::bodies_of(spot.shared);
     let mut row: [usize; chain::MOST] = [0; chain::MOST];
     chain::take_row(f, &mut row, 0, need);
