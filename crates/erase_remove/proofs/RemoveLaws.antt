@@ -7,7 +7,7 @@ use native.Mathlib.Omega.{arith}
 use native.Mathlib.Decide.{ℕ_discrete}
 use lib.ListN.{length}
 use Rattle.layout.specs.Number.{Bytes}
-use Rattle.layout.specs.Kind.{leaf_kind, fewest, shrink_mark}
+use Rattle.layout.specs.Kind.{number_of, leaf_kind, fewest, shrink_mark}
 use Rattle.layout.proofs.KindLaws.{fewest_mark}
 use Rattle.model.specs.Edition.{Edition}
 use Rattle.model.specs.Tree.{Art, Change, Left, extent_of, erase_tree}
@@ -55,7 +55,7 @@ module _ {E : Edition} {f k : List ℕ} {p : Spot} (P : Stays E f k p) (s : Stat
   o = p.node.place
 
   abbrev kind : ℕ
-  kind = p.node.kind
+  kind = number_of p.node.kind
 
   abbrev rest : LayKids
   rest = left P.erase s w

@@ -10,7 +10,7 @@ use native.Mathlib.Decide.{dec_lt}
 use lib.ListN.{length}
 use Rattle.layout.specs.Number.{Bytes, put}
 use Rattle.layout.specs.Place.{at_root, entry_at}
-use Rattle.layout.specs.Kind.{leaf_kind, body_size, Kind, fewest, most, shrink_mark, kind_down, prefix_kind}
+use Rattle.layout.specs.Kind.{number_of, leaf_kind, body_size, Kind, fewest, most, shrink_mark, kind_down, prefix_kind}
 use Rattle.layout.specs.Entry.{place_of}
 use Rattle.layout.proofs.KindLaws.{size_least, shrunk_enough, shrunk_fits}
 use Rattle.model.specs.Edition.{Edition}
@@ -83,10 +83,10 @@ one_row h k K e = booked_row h (k ∷ []) (book.cons K book.nil) e
 
 -- ---- the edit
 
-pub large : {E : Edition} {f k : List ℕ} {p : Spot} (P : Falls E f k p) → (5 ≤ p.node.kind) × (p.node.kind ≤ 7)
+pub large : {E : Edition} {f k : List ℕ} {p : Spot} (P : Falls E f k p) → (5 ≤ number_of p.node.kind) × (number_of p.node.kind ≤ 7)
 large P = (P.large, (N0 P.erase P.erase.st P.erase.stands).inner.range.1)
 
-module _ {E : Edition} {f k : List ℕ} {p : Spot} (P : Falls E f k p) (s : State) (w : Stands E f s) {kd : ℕ} (ekd : kd ≡ kind_down p.node.kind) where
+module _ {E : Edition} {f k : List ℕ} {p : Spot} (P : Falls E f k p) (s : State) (w : Stands E f s) {kd : ℕ} (ekd : kd ≡ kind_down (number_of p.node.kind)) where
   abbrev n : ℕ
   n = p.node.slot
 
@@ -94,7 +94,7 @@ module _ {E : Edition} {f k : List ℕ} {p : Spot} (P : Falls E f k p) (s : Stat
   o = p.node.place
 
   abbrev kind : ℕ
-  kind = p.node.kind
+  kind = number_of p.node.kind
 
   abbrev ys : List Step
   ys = xs P.erase s w

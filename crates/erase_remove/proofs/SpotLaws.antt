@@ -6,7 +6,7 @@ use mathlib.Core.Bool.{true, false}
 use mathlib.Core.Option.{some}
 use native.Mathlib.Omega.{arith}
 use lib.ListN.{length}
-use Rattle.layout.specs.Kind.{leaf_kind, shrink_mark, kind_down, Inner}
+use Rattle.layout.specs.Kind.{number_of, leaf_kind, shrink_mark, kind_down, Inner}
 use Rattle.layout.specs.Kind.Inner.{node4, node16, node48, node256}
 use Rattle.layout.proofs.KindLaws.{range_inner}
 use Rattle.model.specs.Edition.{Edition, Value}
@@ -77,7 +77,7 @@ pub record Held (E : Edition) (k : List ℕ) (p : Spot) (whole : Lay) : Type 0 w
   pub leads : Leads E k steps (p.byte ∷ rest)
   pub link : Link steps p.node.link
   pub top : Topped steps p.above p.first p.first_link
-  pub is : whole ≡ plug steps (node p.node.slot p.node.place p.node.kind (app before (kid p.byte place (leaf p.here.slot p.here.place extent k value) after)))
+  pub is : whole ≡ plug steps (node p.node.slot p.node.place (number_of p.node.kind) (app before (kid p.byte place (leaf p.here.slot p.here.place extent k value) after)))
 
 pub held : {E : Edition} {f k : List ℕ} {p : Spot} (P : EraseAt E f k p) → Held E k p P.lay
 held {E} {f} {k} {p} P =
@@ -93,11 +93,11 @@ held {E} {f} {k} {p} P =
       extent = F.extent;
       value = F.value;
       rest = P.way.rest;
-      leads = leads_up n.slot n.place n.kind H.before p.byte H.place H.after H.up P.way.rest (subst (λ (ys : List Step). Leads E k ys P.way.rest) H.is P.way.leads);
+      leads = leads_up n.slot n.place (number_of n.kind) H.before p.byte H.place H.after H.up P.way.rest (subst (λ (ys : List Step). Leads E k ys P.way.rest) H.is P.way.leads);
       link = H.link;
       top = H.top;
-      is = P.way.whole ∙ ap (λ (ys : List Step). plug ys P.way.sub) H.is ∙ ap (plug (among n.slot n.place n.kind H.before p.byte H.place H.after ∷ H.up)) F.is
-          ∙ plug_among n.slot n.place n.kind H.before p.byte H.place H.after H.up t;
+      is = P.way.whole ∙ ap (λ (ys : List Step). plug ys P.way.sub) H.is ∙ ap (plug (among n.slot n.place (number_of n.kind) H.before p.byte H.place H.after ∷ H.up)) F.is
+          ∙ plug_among n.slot n.place (number_of n.kind) H.before p.byte H.place H.after H.up t;
     }
 
 -- ---- the node in the good frame, seen through any witness of it
@@ -120,7 +120,7 @@ module _ {E : Edition} {f k : List ℕ} {p : Spot} (P : EraseAt E f k p) (s : St
   left = app (held P).before (held P).after
 
   abbrev pub holder : Lay
-  holder = node p.node.slot p.node.place p.node.kind kids
+  holder = node p.node.slot p.node.place (number_of p.node.kind) kids
 
   pub root_is : w.root ≡ tree (plug xs holder)
   root_is = root_unique E f s P.st w P.stands ∙ P.is ∙ ap tree (held P).is
@@ -133,8 +133,8 @@ module _ {E : Edition} {f k : List ℕ} {p : Spot} (P : EraseAt E f k p) (s : St
   abbrev pub W0 : Work E f (stands_view w) xs p.node.slot ((path, holder) ∷ []) []
   W0 = (work_open xs holder [] (work_of w (plug xs holder) root_is) refl).0
 
-  abbrev pub N0 : NodeOf f p.node.place p.node.kind kids
-  N0 = (open_node path [] [] p.node.slot p.node.place p.node.kind kids W0).1
+  abbrev pub N0 : NodeOf f p.node.place (number_of p.node.kind) kids
+  N0 = (open_node path [] [] p.node.slot p.node.place (number_of p.node.kind) kids W0).1
 
   pub left_none : has_byte p.byte (held P).before ≡ false
   left_none = app_left p.byte (held P).place gone 0 (held P).before (held P).after (inner_asc (pairs kids) N0.inner)
@@ -153,7 +153,7 @@ module _ {E : Edition} {f k : List ℕ} {p : Spot} (P : EraseAt E f k p) (s : St
         w.counted,
         stands_sum w (plug xs holder) root_is leafy,
         plug_sum leafy xs holder,
-        node_sum leafy p.node.slot p.node.place p.node.kind kids,
+        node_sum leafy p.node.slot p.node.place (number_of p.node.kind) kids,
         remove_sum leafy (held P).before (held P).after p.byte (held P).place gone,
         leafy_leaf p.here.slot p.here.place (held P).extent k (held P).value,
       )
@@ -169,8 +169,8 @@ module _ {E : Edition} {f k : List ℕ} {p : Spot} (P : EraseAt E f k p) (s : St
   pub bare_count : count bare ≡ length (pairs left)
   bare_count = ap count (sym left_art) ∙ sym (length_pairs left)
 
-  art_is : art holder ≡ Art.node p.node.kind (app_kids (art_kids (held P).before) (Kids.kid p.byte (held P).place (Art.leaf k (held P).value) (art_kids (held P).after)))
-  art_is = ap (Art.node p.node.kind) (art_app (held P).before (kid p.byte (held P).place gone (held P).after))
+  art_is : art holder ≡ Art.node (number_of p.node.kind) (app_kids (art_kids (held P).before) (Kids.kid p.byte (held P).place (Art.leaf k (held P).value) (art_kids (held P).after)))
+  art_is = ap (Art.node (number_of p.node.kind)) (art_app (held P).before (kid p.byte (held P).place gone (held P).after))
 
   pub node_found : find_tree E (art holder) (length path) k ≡ some (held P).value
   node_found =
@@ -180,25 +180,25 @@ module _ {E : Edition} {f k : List ℕ} {p : Spot} (P : EraseAt E f k p) (s : St
 
   -- the node after its Leaf went
   pub node_erased : erase_tree E (art holder) (length path) k
-      ≡ less_one p.node.kind bare (record { now = Left.gone; takes = []; frees = leaf_kind ∷ []; extent = 0; dead = extent_of k (held P).value; fresh = false })
+      ≡ less_one (number_of p.node.kind) bare (record { now = Left.gone; takes = []; frees = leaf_kind ∷ []; extent = 0; dead = extent_of k (held P).value; fresh = false })
   node_erased =
       ap (λ a. erase_tree E a (length path) k) art_is
-      ∙ node_erase E k (length path) p.byte (held P).place (leads_byte (held P).leads) p.node.kind k (held P).value (held P).before (held P).after (same_refl k) left_none
+      ∙ node_erase E k (length path) p.byte (held P).place (leads_byte (held P).leads) (number_of p.node.kind) k (held P).value (held P).before (held P).after (same_refl k) left_none
 
-  pub node_touched : touch_erase E holder (above_of xs) (length path) k ≡ touch_lost (above_of xs) p.node.slot p.node.kind p.here.slot left
+  pub node_touched : touch_erase E holder (above_of xs) (length path) k ≡ touch_lost (above_of xs) p.node.slot (number_of p.node.kind) p.here.slot left
   node_touched =
-      node_touch E k (length path) p.byte (held P).place p.here.slot p.here.place (held P).extent k (held P).value (held P).before (held P).after (above_of xs) p.node.slot p.node.place p.node.kind
+      node_touch E k (length path) p.byte (held P).place p.here.slot p.here.place (held P).extent k (held P).value (held P).before (held P).after (above_of xs) p.node.slot p.node.place (number_of p.node.kind)
       (leads_byte (held P).leads) left_none
 
   -- the items of the tree
   pub items_are : (v : Item → ℕ) → sum v (root_items w.root)
-      ≡ sum v (steps_items xs) + (v (body p.node.slot p.node.kind p.node.place) + ((v (body p.here.slot leaf_kind p.here.place) + v (extent (held P).extent (extent_of k (held P).value))) + sum v (items_all left)))
+      ≡ sum v (steps_items xs) + (v (body p.node.slot (number_of p.node.kind) p.node.place) + ((v (body p.here.slot leaf_kind p.here.place) + v (extent (held P).extent (extent_of k (held P).value))) + sum v (items_all left)))
   items_are v =
       omega (
         arith,
         stands_sum w (plug xs holder) root_is v,
         plug_sum v xs holder,
-        node_sum v p.node.slot p.node.place p.node.kind kids,
+        node_sum v p.node.slot p.node.place (number_of p.node.kind) kids,
         remove_sum v (held P).before (held P).after p.byte (held P).place gone,
         leaf_sum v p.here.slot p.here.place (held P).extent k (held P).value,
       )
@@ -219,9 +219,9 @@ module _ {E : Edition} {f k : List ℕ} {p : Spot} (P : EraseAt E f k p) (s : St
       )
 
   -- the node has the byte, also in a frame on the way
-  pub has_byte_lem : {g : List ℕ} {h : View} {loose : List Item} → Work E g h xs p.node.slot ((path, holder) ∷ []) loose → NodeHas g p.node.place p.node.kind p.byte
+  pub has_byte_lem : {g : List ℕ} {h : View} {loose : List Item} → Work E g h xs p.node.slot ((path, holder) ∷ []) loose → NodeHas g p.node.place (number_of p.node.kind) p.byte
   has_byte_lem {loose = loose} W =
-      let N = (open_node path [] loose p.node.slot p.node.place p.node.kind kids W).1 in
+      let N = (open_node path [] loose p.node.slot p.node.place (number_of p.node.kind) kids W).1 in
       record { kids = pairs kids; node = N.inner; child = p.here.slot; has = app_look p.byte (held P).place gone 0 (held P).before (held P).after (inner_asc (pairs kids) N.inner) }
 
 -- where the key's extent stands at entry

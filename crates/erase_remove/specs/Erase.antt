@@ -1,4 +1,5 @@
 -- Erase at a spot of a good frame: what an edit counts on, and what it leaves.
+use Rattle.layout.specs.Kind.{number_of}
 use Rattle.std.specs.Prelude.{ℕ, ◌+◌, ◌≤◌, ◌≡◌, List, [], true, false, length}
 use Rattle.layout.specs.Number.{le}
 use Rattle.layout.specs.Place.{node_count}
@@ -34,13 +35,13 @@ counted f p = le 2 f (p.node.place + node_count)
 -- without the Leaf the node keeps its kind
 pub record Stays (E : Edition) (f k : List ℕ) (p : Spot) : Type 0 where
   pub erase : EraseAt E f k p
-  pub more : counted f p ≡ table.shrink_mark p.node.kind + 1 → ⊥
+  pub more : counted f p ≡ table.shrink_mark (number_of p.node.kind) + 1 → ⊥
 
 -- without the Leaf a node falls to the mark of its kind
 pub record Falls (E : Edition) (f k : List ℕ) (p : Spot) : Type 0 where
   pub erase : EraseAt E f k p
-  pub large : 5 ≤ p.node.kind
-  pub mark : counted f p ≡ table.shrink_mark p.node.kind + 1
+  pub large : 5 ≤ number_of p.node.kind
+  pub mark : counted f p ≡ table.shrink_mark (number_of p.node.kind) + 1
 
 -- the erase is done: the model's answer is 0, and the promise's clause of the frame after
 pub record EraseStep (E : Edition) (f k f' : List ℕ) : Type 0 where

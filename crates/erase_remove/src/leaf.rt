@@ -22,7 +22,7 @@ pub fn drop_leaf(f: &mut [u8], slot: usize, place: usize)
     let k = Leaf::key_length(f, place);
     let v = Leaf::value_length(f, place);
     let extent = Leaf::extent(f, place);
-    heap::release(f, slot, Kind::LEAF);
+    heap::release(f, slot, Kind::Leaf);
     heap::retire(f, extent, Leaf::rounded(k + v));
     let r = Header::records(f);
     heap::set_records(f, r - 1);

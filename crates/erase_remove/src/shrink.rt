@@ -8,7 +8,6 @@ use crate::leaf;
 use descent::spot::Spot;
 use inner::{carry, change};
 use layout::entry::Entry;
-use layout::kind;
 use room::heap;
 
 // A smaller body is taken and gets the children that stay; the old body and the Leaf go.
@@ -18,7 +17,9 @@ pub fn shrink(f: &mut [u8], spot: Spot)
 {
     let node = spot.node;
     let here = spot.here;
-    let smaller = kind::kind_down(node.kind);
+    let Some(smaller) = node.kind.down() else {
+        unreachable!()
+    };
     let slot = heap::take(f, smaller);
     let new = Entry::read(f, slot);
     change::remove(f, node.place, node.kind, spot.byte);
