@@ -1,3 +1,4 @@
+pub mod KindTests
 pub mod DropLaws
 pub mod SiteLaws
 pub mod JoinLaws

@@ -1,5 +1,5 @@
 -- The spot of a key whose Leaf stands in a Node4 of two: the other child, what is read of it, and the site of the join. Assumes nothing.
-use Prim.Native.Nat.{ℕ, ◌+◌, ◌<◌, ◌≤◌}
+use Prim.Native.Nat.{ℕ, ◌+◌, ◌<◌}
 use mathlib.Core.Path.{◌≡◌, refl, sym, ap, subst, ◌∙◌}
 use mathlib.Core.List.{List, [], ◌∷◌, ◌++◌}
 use mathlib.Core.Bool.{true}
@@ -8,8 +8,9 @@ use native.Mathlib.Omega.{arith}
 use native.Mathlib.Decide.{ℕ_discrete}
 use lib.ListN.{length}
 use borrow.Author.Tests.{eq-eqb, ne_eqb}
-use Rattle.layout.specs.Place.{entry_at}
-use Rattle.layout.specs.Kind.{leaf_kind, prefix_kind, node4_kind}
+use Rattle.layout.specs.declared.kind.Kind.{Kind}
+use Rattle.layout.specs.declared.kind.Kind.TheVariants as named
+use Rattle.layout.specs.Kind.{number_of, leaf_kind, prefix_kind, node4_kind}
 use Rattle.layout.specs.Entry.{high_of}
 use Rattle.model.specs.Edition.{Edition}
 use Rattle.model.specs.State.{State, room, erase_change}
@@ -26,6 +27,8 @@ use Rattle.between.specs.Hole.{Step, under, among, plug, path_of}
 use Rattle.between.proofs.TreeLaws.{leaf_parts, prefix_parts, node_parts}
 use Rattle.between.proofs.KidsLaws.{app_look, app_remove}
 use Rattle.between.proofs.WorkLaws.{forest_first}
+use Rattle.chain.specs.Row.{Entered}
+use Rattle.chain.proofs.ReadLaws.{entered_at}
 use Rattle.descent.specs.declared.spot.Spot.{Spot}
 use Rattle.erase_remove.proofs.SpotLaws.{held, path, kids, left, gone, N0, left_none, count_is}
 use Rattle.erase_join.specs.declared.lone.Lone.{Lone}
@@ -93,16 +96,16 @@ module _ {f : List ℕ} {o b : ℕ} (C : Couple f o b) where
 
 -- ---- the entry of a child
 
-told : (E : Edition) (f path : List ℕ) (u : Lay) (l : Lone) → Tree E f path u → slot_of u ≡ l.child → l.kind ≡ high_of f l.child → Told l u
+told : (E : Edition) (f path : List ℕ) (u : Lay) (l : Lone) → Tree E f path u → slot_of u ≡ l.child → number_of l.kind ≡ high_of f l.child → Told l u
 told E f path (leaf n o e k v) l T es ek =
-    let q : l.kind ≡ leaf_kind = ek ∙ ap (high_of f) (sym es) ∙ (leaf_parts E f path n o e k v T).0.kind_is in
+    let q : number_of l.kind ≡ leaf_kind = ek ∙ ap (high_of f) (sym es) ∙ (leaf_parts E f path n o e k v T).0.kind_is in
     record { as_leaf = λ z. tt; other = λ z. absurd (z q) }
 told E f path (prefix n o p t) l T es ek =
-    let q : l.kind ≡ prefix_kind = ek ∙ ap (high_of f) (sym es) ∙ (prefix_parts E f path n o p t T).0.kind_is in
+    let q : number_of l.kind ≡ prefix_kind = ek ∙ ap (high_of f) (sym es) ∙ (prefix_parts E f path n o p t T).0.kind_is in
     record { as_leaf = λ z. absurd (omega arith); other = λ z. tt }
 told E f path (node n o kind ks) l T es ek =
     let P = node_parts E f path n o kind ks T in
-    let q : l.kind ≡ kind = ek ∙ ap (high_of f) (sym es) ∙ P.0.kind_is in
+    let q : number_of l.kind ≡ kind = ek ∙ ap (high_of f) (sym es) ∙ P.0.kind_is in
     let r = P.1.inner.range in
     record { as_leaf = λ z. absurd (omega arith); other = λ z. tt }
 
@@ -144,7 +147,7 @@ module _ {E : Edition} {f k : List ℕ} {p : Spot} (P : Pair E f k p) where
       }
 
   -- what is read
-  abbrev lone_of : ℕ → ℕ → ℕ → Lone
+  abbrev lone_of : ℕ → ℕ → Kind → Lone
   lone_of b c kind = record { node = p.node.slot; leaf = p.here.slot; at = p.here.place; byte = b; child = c; kind = kind }
 
   module _ {b c : ℕ} (O : Other f p.node.place p.byte b c) where
@@ -161,7 +164,7 @@ module _ {E : Edition} {f k : List ℕ} {p : Spot} (P : Pair E f k p) where
     whole_is : P.at.lay ≡ plug (held P.at).steps (node p.node.slot p.node.place node4_kind (kids P.at s P.at.stands))
     whole_is = (held P.at).is ∙ ap (λ z. plug (held P.at).steps (node p.node.slot p.node.place z (kids P.at s P.at.stands))) P.kind
 
-    pair_site : (kind : ℕ) → Site E k P.at.stands.root (held P.at).steps (lone_of b c kind) left_one.child
+    pair_site : (kind : Kind) → Site E k P.at.stands.root (held P.at).steps (lone_of b c kind) left_one.child
     pair_site kind =
         let H = held P.at in
         record {
@@ -182,13 +185,10 @@ module _ {E : Edition} {f k : List ℕ} {p : Spot} (P : Pair E f k p) where
         }
 
     -- the child's entry
-    pub child_entry : (1 ≤ c) × (entry_at c + 4 ≤ length f)
-    child_entry =
-        let C = child_stood P.at.stands (pair_site 0) in
-        let e = slot_is in
-        (omega (arith, C.low), omega (arith, C.entry))
+    pub child_entry : Entered f c
+    child_entry = entered_at (child_stood P.at.stands (pair_site named.Leaf)) slot_is
 
-    pub pair_read : {kind : ℕ} → kind ≡ high_of f c → AtSpot E f k p (lone_of b c kind)
+    pub pair_read : {kind : Kind} → number_of kind ≡ high_of f c → AtSpot E f k p (lone_of b c kind)
     unfolding pair_site
     pair_read {kind} ek =
         let H = held P.at in
@@ -217,7 +217,7 @@ module _ {E : Edition} {f k : List ℕ} {p : Spot} {l : Lone} (A : AtSpot E f k 
   pub above_of : Above f p.above
   above_of n = let P = above_at (capped_of {Q = λ u. Unit {0}} tt n) in (P.room, omega (arith, P.long, P.most))
 
-  module _ (kind : l.kind ≡ leaf_kind) where
+  module _ (kind : number_of l.kind ≡ leaf_kind) where
     pub leaf_bare : p.above.slot ≡ 0 → Bare E NotUnder IsLeaf f k l p.node.link
     leaf_bare e = record { steps = A.steps; child = A.child; is = A.is.as_leaf kind; ready = A.ready; free = A.top.without e; link_is = A.link_is }
 
@@ -236,7 +236,7 @@ module _ {E : Edition} {f k : List ℕ} {p : Spot} {l : Lone} (A : AtSpot E f k 
           link_is = R.link;
         }
 
-  module _ {n : ℕ} (kind : l.kind ≡ leaf_kind → ⊥) (H : HasRoom f p.above n) where
+  module _ {n : ℕ} (kind : number_of l.kind ≡ leaf_kind → ⊥) (H : HasRoom f p.above n) where
     none_full : (xs : List Step) → NotUnder xs → Full xs
     none_full [] u = tt
     none_full (under s o q ∷ xs) u = absurd u

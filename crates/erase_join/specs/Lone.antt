@@ -3,7 +3,7 @@ use Rattle.std.specs.Prelude.{ℕ, ◌+◌, ◌-◌, ◌<◌, ◌≤◌, ◌≡�
 use Rattle.std.proofs.Math.Option.{some}
 use Rattle.layout.specs.Number.{le}
 use Rattle.layout.specs.Place.{prefix_length, prefix_most}
-use Rattle.layout.specs.Kind.{leaf_kind, node4_kind}
+use Rattle.layout.specs.Kind.{number_of, leaf_kind, node4_kind}
 use Rattle.model.specs.Edition.{Edition, Lawful, Value}
 use Rattle.model.specs.State.{State, erase_change}
 use Rattle.model.specs.State as state
@@ -28,8 +28,8 @@ IsLeaf (node s o kind ks) = ⊥
 
 -- what its entry, read into l, says
 pub record Told (l : Lone) (t : Lay) : Type 0 where
-  pub as_leaf : l.kind ≡ leaf_kind → IsLeaf t
-  pub other : (l.kind ≡ leaf_kind → ⊥) → NotLeaf t
+  pub as_leaf : number_of l.kind ≡ leaf_kind → IsLeaf t
+  pub other : (number_of l.kind ≡ leaf_kind → ⊥) → NotLeaf t
 
 -- ---- the site
 

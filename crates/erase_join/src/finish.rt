@@ -10,6 +10,6 @@ pub fn drop_both(f: &mut [u8], leaf: usize, node: usize, at: usize)
     requires { Drops f.old leaf node at }
     ensures { DropsAll f.old f.new leaf node at }
 {
-    heap::release(f, node, Kind::NODE4);
+    heap::release(f, node, Kind::Node4);
     leaf::drop_leaf(f, leaf, at);
 }

@@ -22,9 +22,9 @@ pub fn other_child(f: &[u8], o: usize, b: u8) -> Child
     requires { Couple f.now o b }
     ensures { (result.byte < 256) × ((ks : List (ℕ × ℕ)) → InnerAt f.now o node4_kind ks → remove_kid b ks ≡ (result.byte, result.slot) ∷ []) }
 {
-    let first = visit::child_at(f, o, Kind::NODE4, 0, 0);
+    let first = visit::child_at(f, o, Kind::Node4, 0, 0);
     if first.byte == usize::from(b) {
-        return visit::child_at(f, o, Kind::NODE4, 1, first.byte + 1);
+        return visit::child_at(f, o, Kind::Node4, 1, first.byte + 1);
     }
     first
 }
@@ -44,7 +44,7 @@ fn read(f: &[u8], key: &[u8], spot: Spot) -> Lone
         at: here.place,
         byte: other.byte as u8,
         child: other.slot,
-        kind: entry.high,
+        kind: entry.kind(),
     }
 }
 
@@ -67,7 +67,7 @@ pub fn join(f: &mut [u8], key: &[u8], spot: Spot)
     let l = read(f, key, spot);
     let node = spot.node;
     let above = spot.above;
-    if l.kind != Kind::LEAF {
+    if l.kind != Kind::Leaf {
         if spare(f, above) == 0 {
             lone::up(f, key, l, node.link);
             return;

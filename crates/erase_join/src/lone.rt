@@ -7,6 +7,7 @@ ghost use Rattle.erase_join.specs.Lone.{IsLeaf, Full, Bare, UnderRun, Roomy};
 use crate::finish;
 use chain::shift;
 use descent::spot::Body;
+use layout::kind::Kind;
 use room::link;
 
 // A Node4 that loses its Leaf, and the child that is left.
@@ -19,7 +20,7 @@ pub struct Lone {
     // the child's byte, slot and kind
     pub byte: u8,
     pub child: usize,
-    pub kind: usize,
+    pub kind: Kind,
 }
 
 // ---- a Leaf is left
