@@ -1,13 +1,13 @@
 -- An erase happens in the node that holds the Leaf, and what is left of that node tells what the erase takes. Assumes nothing.
-use Prim.Native.Nat.{ℕ, suc, ◌+◌, ◌-◌, ◌%◌, ◌<◌, ◌≤◌}
+use Prim.Native.Nat.{ℕ, suc, ◌+◌, ◌-◌, ◌%◌, ◌≤◌}
 use mathlib.Core.Path.{◌≡◌, refl, sym, ap, subst, ◌∙◌}
 use mathlib.Core.List.{List, [], ◌∷◌, ◌++◌, append_assoc}
 use mathlib.Core.Bool.{false}
 use native.Mathlib.Omega.{arith}
 use native.Mathlib.Decide.{ℕ_discrete}
 use lib.ListN.{length}
-use Rattle.layout.specs.Place.{entry_at}
-use Rattle.layout.specs.Kind.{leaf_kind, prefix_kind, node4_kind, fewest, shrink_mark, kind_down, Inner}
+use Rattle.layout.specs.declared.kind.Kind.TheVariants as named
+use Rattle.layout.specs.Kind.{number_of, leaf_kind, prefix_kind, node4_kind, fewest, shrink_mark, kind_down, Inner}
 use Rattle.layout.specs.Kind.Inner.{node4, node16, node48, node256}
 use Rattle.layout.specs.Entry.{high_of}
 use Rattle.layout.proofs.KindLaws.{range_inner}
@@ -26,7 +26,7 @@ use Rattle.node.specs.Kids.{remove_kid}
 use Rattle.inner.proofs.InnerLaws.{inner_asc}
 use Rattle.room.specs.declared.fit.Needs.{Needs}
 use Rattle.room.specs.Fit.{Asks}
-use Rattle.room.proofs.FitLaws.{nine, asks_small}
+use Rattle.room.proofs.FitLaws.{asks_small}
 use Rattle.between.specs.Hole.{Step, under, among, app, plug, path_of, app_kids, art_in}
 use Rattle.between.specs.Work.{Around}
 use Rattle.between.specs.Lead.{Leads, NotUnder, NotLeaf}
@@ -39,7 +39,7 @@ use Rattle.between.proofs.EraseLaws.{with_now, node_erase, less_stays, less_shri
 use Rattle.descent.specs.declared.spot.End.TheVariants as end
 use Rattle.descent.specs.declared.spot.Spot.{Spot}
 use Rattle.descent.specs.Spot.{Topped, InTree, SpotAt}
-use Rattle.chain.specs.Row.{bytes_of}
+use Rattle.chain.specs.Row.{Entered, bytes_of}
 use Rattle.chain.specs.Shift.{lacks}
 use Rattle.erase_join.specs.declared.lone.Lone.{Lone}
 use Rattle.erase_join.specs.Lone.{IsLeaf, Full, Site, pair_of, Couple, Above, HasRoom}
@@ -49,6 +49,7 @@ use Rattle.erase_join.proofs.OverLaws.{opened_above}
 use Rattle.erase_join.proofs.NeedLaws.{Taking, leaf_taking, full_taking, roomy_taking}
 use Rattle.plan.specs.Run.{RunAt, Measured}
 use Rattle.plan.specs.Erase.{EraseFrom, PairFrom, Erasing, ErasePlan}
+use Rattle.chain.proofs.ReadLaws.{entered_at}
 use Rattle.chain.proofs.LongLaws.{run_low, run_long_lem}
 use Rattle.plan.proofs.PutLaws.{inner_fits}
 
@@ -109,12 +110,6 @@ marks_two kind l h n = go (range_inner kind l h) n
     go node48 n = omega arith
     go node256 n = omega arith
 
-pub mark_small : (kind : ℕ) → kind < 9 → shrink_mark kind < 256
-mark_small = nine (λ k. shrink_mark k < 256) (omega arith) (omega arith) (omega arith) (omega arith) (omega arith) (omega arith) (omega arith) (omega arith) (omega arith)
-
-pub down_kind : (kind : ℕ) → kind < 9 → kind_down kind < 9
-down_kind = nine (λ k. kind_down k < 9) (omega arith) (omega arith) (omega arith) (omega arith) (omega arith) (omega arith) (omega arith) (omega arith) (omega arith)
-
 -- ---- the child that is left
 
 is_leaf : (E : Edition) (f path : List ℕ) (t : Lay) → Tree E f path t → high_of f (slot_of t) ≡ leaf_kind → IsLeaf t
@@ -171,7 +166,7 @@ pub record Losing (E : Edition) (f k : List ℕ) (s : Spot) (l : Lay) : Type 0 w
   pub after : LayKids
   pub up : List Step
   pub rest : List ℕ
-  pub whole : l ≡ plug up (node s.node.slot s.node.place s.node.kind (app before (kid s.byte place (leaf s.here.slot s.here.place extent k value) after)))
+  pub whole : l ≡ plug up (node s.node.slot s.node.place (number_of s.node.kind) (app before (kid s.byte place (leaf s.here.slot s.here.place extent k value) after)))
   pub word : E.walked k ≡ path_of up ++ s.byte ∷ rest
   pub top : Topped up s.above s.first s.first_link
 
@@ -192,9 +187,9 @@ module _ {E : Edition} {f k : List ℕ} {st : State} {s : Spot} (W : Stands E f 
         after = H.after;
         up = H.up;
         rest = w.rest;
-        whole = tree_same l I.lay (sym q ∙ I.is) ∙ w.whole ∙ ap (λ (xs : List Step). plug xs w.sub) H.is ∙ ap (plug (among n.slot n.place n.kind H.before s.byte H.place H.after ∷ H.up)) F.is
-            ∙ plug_among n.slot n.place n.kind H.before s.byte H.place H.after H.up t;
-        word = w.leads.word ∙ ap (λ (xs : List Step). path_of xs ++ w.rest) H.is ∙ ap (λ p. p ++ w.rest) (path_among n.slot n.place n.kind H.before s.byte H.place H.after H.up)
+        whole = tree_same l I.lay (sym q ∙ I.is) ∙ w.whole ∙ ap (λ (xs : List Step). plug xs w.sub) H.is ∙ ap (plug (among n.slot n.place (number_of n.kind) H.before s.byte H.place H.after ∷ H.up)) F.is
+            ∙ plug_among n.slot n.place (number_of n.kind) H.before s.byte H.place H.after H.up t;
+        word = w.leads.word ∙ ap (λ (xs : List Step). path_of xs ++ w.rest) H.is ∙ ap (λ p. p ++ w.rest) (path_among n.slot n.place (number_of n.kind) H.before s.byte H.place H.after H.up)
             ∙ append_assoc (path_of H.up) (s.byte ∷ []) w.rest;
         top = H.top;
       }
@@ -213,7 +208,7 @@ module _ {E : Edition} {f k : List ℕ} {st : State} {s : Spot} (W : Stands E f 
   stays = app D.before D.after
 
   abbrev holder_lay : Lay
-  holder_lay = node s.node.slot s.node.place s.node.kind kids
+  holder_lay = node s.node.slot s.node.place (number_of s.node.kind) kids
 
   whole_tree : Tree E f [] (plug D.up holder_lay)
   whole_tree = stands_tree W (plug D.up holder_lay) (q ∙ ap tree D.whole)
@@ -221,15 +216,15 @@ module _ {E : Edition} {f k : List ℕ} {st : State} {s : Spot} (W : Stands E f 
   hole_there : Around E f D.up s.node.slot × Tree E f (path_of D.up) holder_lay
   hole_there = let z = hole_out E f D.up holder_lay whole_tree in (z.0, z.2)
 
-  pub node_of_lem : NodeOf f s.node.place s.node.kind kids
-  node_of_lem = (node_parts E f (path_of D.up) s.node.slot s.node.place s.node.kind kids hole_there.1).1
+  pub node_of_lem : NodeOf f s.node.place (number_of s.node.kind) kids
+  node_of_lem = (node_parts E f (path_of D.up) s.node.slot s.node.place (number_of s.node.kind) kids hole_there.1).1
 
   leads : Leads E k D.up (s.byte ∷ D.rest)
   leads = leads_of f s.node.slot (s.byte ∷ D.rest) hole_there.0 D.word
 
-  holder_hangs : HangsIn D.up (Art.node s.node.kind (app_kids (art_kids D.before) (Kids.kid s.byte D.place (Art.leaf k D.value) (art_kids D.after))))
+  holder_hangs : HangsIn D.up (Art.node (number_of s.node.kind) (app_kids (art_kids D.before) (Kids.kid s.byte D.place (Art.leaf k D.value) (art_kids D.after))))
   holder_hangs =
-      subst (λ (z : Kids). HangsIn D.up (Art.node s.node.kind z)) (art_app D.before (kid s.byte D.place lost_leaf D.after)) (hangs_in E f D.up holder_lay whole_tree)
+      subst (λ (z : Kids). HangsIn D.up (Art.node (number_of s.node.kind) z)) (art_app D.before (kid s.byte D.place lost_leaf D.after)) (hangs_in E f D.up holder_lay whole_tree)
 
   first : has_byte s.byte D.before ≡ false
   first = app_left s.byte D.place lost_leaf 0 D.before D.after (inner_asc (pairs kids) node_of_lem.inner)
@@ -237,21 +232,21 @@ module _ {E : Edition} {f k : List ℕ} {st : State} {s : Spot} (W : Stands E f 
   fewer : length (pairs kids) ≡ length (pairs stays) + 1
   fewer = remove_len s.byte D.place lost_leaf D.before D.after
 
-  art_is : art l ≡ art_in D.up (Art.node s.node.kind (app_kids (art_kids D.before) (Kids.kid s.byte D.place (Art.leaf k D.value) (art_kids D.after))))
-  art_is = ap art D.whole ∙ art_plug D.up holder_lay ∙ ap (λ (z : Kids). art_in D.up (Art.node s.node.kind z)) (art_app D.before (kid s.byte D.place lost_leaf D.after))
+  art_is : art l ≡ art_in D.up (Art.node (number_of s.node.kind) (app_kids (art_kids D.before) (Kids.kid s.byte D.place (Art.leaf k D.value) (art_kids D.after))))
+  art_is = ap art D.whole ∙ art_plug D.up holder_lay ∙ ap (λ (z : Kids). art_in D.up (Art.node (number_of s.node.kind) z)) (art_app D.before (kid s.byte D.place lost_leaf D.after))
 
   module _ {n : Needs} where
-    pub end_keeps : (length (pairs kids) ≡ shrink_mark s.node.kind + 1 → ⊥) → Asks n [] 0 → Erasing E k (art l) n
+    pub end_keeps : (length (pairs kids) ≡ shrink_mark (number_of s.node.kind) + 1 → ⊥) → Asks n [] 0 → Erasing E k (art l) n
     end_keeps m A =
         let r = node_of_lem.inner.range in
-        let m' : length (pairs stays) ≡ shrink_mark s.node.kind → ⊥ = λ z. m (fewer ∙ ap (λ i. i + 1) z) in
-        rw art_is (keeps s.node.kind D.before s.byte D.place D.after D.up leads first D.value holder_hangs (enough s.node.kind (length (pairs stays)) r.0 r.1 (omega (arith, fewer, node_of_lem.least)) m') m' A)
+        let m' : length (pairs stays) ≡ shrink_mark (number_of s.node.kind) → ⊥ = λ z. m (fewer ∙ ap (λ i. i + 1) z) in
+        rw art_is (keeps (number_of s.node.kind) D.before s.byte D.place D.after D.up leads first D.value holder_hangs (enough (number_of s.node.kind) (length (pairs stays)) r.0 r.1 (omega (arith, fewer, node_of_lem.least)) m') m' A)
 
-    pub end_falls : length (pairs kids) ≡ shrink_mark s.node.kind + 1 → (s.node.kind ≡ 4 → ⊥) → Asks n (kind_down s.node.kind ∷ []) 0 → Erasing E k (art l) n
+    pub end_falls : length (pairs kids) ≡ shrink_mark (number_of s.node.kind) + 1 → (number_of s.node.kind ≡ 4 → ⊥) → Asks n (kind_down (number_of s.node.kind) ∷ []) 0 → Erasing E k (art l) n
     end_falls m d A =
         let r = node_of_lem.inner.range in
-        let e : length (pairs stays) ≡ shrink_mark s.node.kind = omega (arith, fewer) in
-        rw art_is (falls s.node.kind D.before s.byte D.place D.after D.up leads first D.value holder_hangs (omega (arith, e, marks_two s.node.kind r.0 r.1 d)) e A)
+        let e : length (pairs stays) ≡ shrink_mark (number_of s.node.kind) = omega (arith, fewer) in
+        rw art_is (falls (number_of s.node.kind) D.before s.byte D.place D.after D.up leads first D.value holder_hangs (omega (arith, e, marks_two (number_of s.node.kind) r.0 r.1 d)) e A)
 
   -- of two children one is left
   module _ (two : length (pairs kids) ≡ 2) where
@@ -267,12 +262,12 @@ module _ {E : Edition} {f k : List ℕ} {st : State} {s : Spot} (W : Stands E f 
     own_pair = app_remove s.byte D.place lost_leaf 0 D.before D.after (inner_asc (pairs kids) node_of_lem.inner) ∙ ap pairs left_alone.is
 
     -- its byte c and slot r
-    module _ (four : s.node.kind ≡ 4) (c r : ℕ) (is : remove_kid s.byte (pairs kids) ≡ (c, r) ∷ []) where
+    module _ (four : number_of s.node.kind ≡ 4) (c r : ℕ) (is : remove_kid s.byte (pairs kids) ≡ (c, r) ∷ []) where
       one_pair : ◌≡◌ {A = List (ℕ × ℕ)} ((left_alone.byte, slot_of child) ∷ []) ((c, r) ∷ [])
       one_pair = sym own_pair ∙ is
 
       abbrev lone : Lone
-      lone = record { node = s.node.slot; leaf = s.here.slot; at = s.here.place; byte = c; child = r; kind = 0 }
+      lone = record { node = s.node.slot; leaf = s.here.slot; at = s.here.place; byte = c; child = r; kind = named.Leaf }
 
       abbrev pair : Lay
       pair = node s.node.slot s.node.place node4_kind kids
@@ -303,11 +298,8 @@ module _ {E : Edition} {f k : List ℕ} {st : State} {s : Spot} (W : Stands E f 
       child_at : Tree E f (path_of D.up ++ c ∷ []) child
       child_at = child_tree W site
 
-      pub child_entry : (1 ≤ r) × (entry_at r + 4 ≤ length f)
-      child_entry =
-          let C = child_stood W site in
-          let e : slot_of child ≡ r = ap (λ x. child_in x 0) one_pair in
-          (omega (arith, C.low), omega (arith, C.entry))
+      pub child_entry : Entered f r
+      child_entry = entered_at (child_stood W site) (ap (λ x. child_in x 0) one_pair)
 
       -- by its entry it is a Leaf, or it is not
       pub child_leaf : high_of f r ≡ leaf_kind → IsLeaf child
@@ -388,27 +380,30 @@ module _ {E : Edition} {f k : List ℕ} {s : Spot} (P : EraseFrom E f k s) where
   abbrev in_tree : InTree E k P.stands.root s
   in_tree = P.spot.in_tree (λ z. let e = P.found in clash (cc))
 
-  pub node_fits : (s.node.place + 2 ≤ length f) × (s.node.kind < 9)
-  node_fits = inner_fits _ (node_of_lem P.stands P.spot P.found P.held in_tree.lay in_tree.is).inner
+  pub node_room : s.node.place + 2 ≤ length f
+  node_room = (inner_fits _ (node_of_lem P.stands P.spot P.found P.held in_tree.lay in_tree.is).inner).0
+
+  pub node_inner : (4 ≤ number_of s.node.kind) × (number_of s.node.kind ≤ 7)
+  node_inner = (node_of_lem P.stands P.spot P.found P.held in_tree.lay in_tree.is).inner.range
 
   -- m: the children that are counted
   module _ (m : ℕ) (q : (kind : ℕ) (ks : List (ℕ × ℕ)) → InnerAt f s.node.place kind ks → m ≡ length ks) where
-    pub plan_keeps : {n : Needs} → (m ≡ shrink_mark s.node.kind + 1 → ⊥) → Asks n [] 0 → ErasePlan E f k s n
+    pub plan_keeps : {n : Needs} → (m ≡ shrink_mark (number_of s.node.kind) + 1 → ⊥) → Asks n [] 0 → ErasePlan E f k s n
     plan_keeps d A =
         record {
           small = asks_small A (omega arith) (omega arith);
-          erasing = λ st W S l e. end_keeps W S P.found P.held l e (λ z. d (q s.node.kind _ (node_of_lem W S P.found P.held l e).inner ∙ z)) A;
+          erasing = λ st W S l e. end_keeps W S P.found P.held l e (λ z. d (q (number_of s.node.kind) _ (node_of_lem W S P.found P.held l e).inner ∙ z)) A;
         }
 
-    pub plan_falls : {n : Needs} (g : ℕ) → m ≡ shrink_mark s.node.kind + 1 → (s.node.kind ≡ 4 → ⊥) → g ≡ kind_down s.node.kind → Asks n (g ∷ []) 0 → ErasePlan E f k s n
+    pub plan_falls : {n : Needs} (g : ℕ) → m ≡ shrink_mark (number_of s.node.kind) + 1 → (number_of s.node.kind ≡ 4 → ⊥) → g ≡ kind_down (number_of s.node.kind) → Asks n (g ∷ []) 0 → ErasePlan E f k s n
     plan_falls g d u e A =
         record {
           small = asks_small A (omega arith) (omega arith);
-          erasing = λ st W S l x. end_falls W S P.found P.held l x (sym (q s.node.kind _ (node_of_lem W S P.found P.held l x).inner) ∙ d) u (rw (← e) A);
+          erasing = λ st W S l x. end_falls W S P.found P.held l x (sym (q (number_of s.node.kind) _ (node_of_lem W S P.found P.held l x).inner) ∙ d) u (rw (← e) A);
         }
 
-    pub pair_from : m ≡ shrink_mark s.node.kind + 1 → s.node.kind ≡ 4 → PairFrom E f k s
-    pair_from d e = record { from = P; kind = e; two = λ ks N. sym (q s.node.kind ks N) ∙ d ∙ ap (λ i. shrink_mark i + 1) e }
+    pub pair_from : m ≡ shrink_mark (number_of s.node.kind) + 1 → number_of s.node.kind ≡ 4 → PairFrom E f k s
+    pair_from d e = record { from = P; kind = e; two = λ ks N. sym (q (number_of s.node.kind) ks N) ∙ d ∙ ap (λ i. shrink_mark i + 1) e }
 
 module _ {E : Edition} {f k : List ℕ} {s : Spot} (P : PairFrom E f k s) where
   abbrev from : EraseFrom E f k s
@@ -418,7 +413,7 @@ module _ {E : Edition} {f k : List ℕ} {s : Spot} (P : PairFrom E f k s) where
     abbrev two_kids : List (ℕ × ℕ)
     two_kids = pairs (kids W S from.found from.held l e)
 
-    pair_at : InnerAt f s.node.place s.node.kind two_kids
+    pair_at : InnerAt f s.node.place (number_of s.node.kind) two_kids
     pair_at = (node_of_lem W S from.found from.held l e).inner
 
     four_at : InnerAt f s.node.place 4 two_kids
@@ -465,7 +460,7 @@ module _ {E : Edition} {f k : List ℕ} {s : Spot} (P : PairFrom E f k s) where
     left_there : {st : State} (W : Stands E f st) (S : SpotAt E k W.root s) (l : Lay) (e : W.root ≡ tree l) → remove_kid s.byte (two_kids W S l e) ≡ (c, r) ∷ []
     left_there W S l e = q (two_kids W S l e) (four_at W S l e)
 
-    pub other_entry : (1 ≤ r) × (entry_at r + 4 ≤ length f)
+    pub other_entry : Entered f r
     other_entry =
         let W = from.stands in
         let S = from.spot in

@@ -1,3 +1,4 @@
+pub mod KidLaws
 pub mod RunLaws
 pub mod PutLaws
 pub mod EraseLaws

@@ -10,7 +10,7 @@ use lib.Dec.{ltb, eqb}
 use borrow.Author.Tests.{eq-eqb, ne_eqb, lt-ltb, le-ltb}
 use Rattle.layout.specs.Number.{le}
 use Rattle.layout.specs.Place.{leaf_value}
-use Rattle.layout.specs.Kind.{prefix_kind, node4_kind, body_size, most, kind_up}
+use Rattle.layout.specs.Kind.{number_of, prefix_kind, node4_kind, body_size, most, kind_up}
 use Rattle.model.specs.Strings.{pick, same, shared}
 use Rattle.model.specs.Edition.{Edition, Value, text_of}
 use Rattle.model.specs.Tree.{Art, Change, over, up8, extent_of, chain, prefixes, put_leaf, cut_prefix, put_tree}
@@ -21,7 +21,7 @@ use Rattle.model.specs.Frame.{Lay, tree, slot_of, Below, art, pairs, root_art, T
 use Rattle.model.specs.Frame.Lay.{leaf, prefix, node}
 use Rattle.model.proofs.StringLaws.{bool_cases, ltb_cases, same_refl, same_true, shared_left, clash}
 use Rattle.model.proofs.ChainLaws.{as_some, shared_off}
-use Rattle.inner.proofs.InnerLaws.{inner_room}
+use Rattle.inner.proofs.InnerLaws.{inner_room, inner_asc}
 use Rattle.room.specs.declared.fit.Needs.{Needs}
 use Rattle.room.specs.Fit.{Small, Asks}
 use Rattle.room.proofs.FitLaws.{nine, asks_small}
@@ -41,6 +41,7 @@ use Rattle.descent.specs.Spot.{Way, InTree, SpotAt, Going}
 use Rattle.descent.proofs.EndLaws.{by_end}
 use Rattle.descent.proofs.SeatLaws.{hole}
 use Rattle.descent.proofs.LookLaws.{found_leaf}
+use Rattle.plan.proofs.KidLaws.{full_up, byte_first}
 use Rattle.plan.specs.Run.{Begun, BeginningAt}
 use Rattle.plan.specs.Plan.{Bodies, PutFrom, with_leaf, fork_takes, grow_takes}
 use Rattle.chain.proofs.LongLaws.{run_low, run_long_lem}
@@ -119,9 +120,6 @@ grow_few m kind = go (ltb m (most kind))
     go true = omega arith
     go false = omega arith
 
-pub up_kind : (kind : ℕ) → kind < 9 → kind_up kind < 9
-up_kind = nine (λ k. kind_up k < 9) (omega arith) (omega arith) (omega arith) (omega arith) (omega arith) (omega arith) (omega arith) (omega arith) (omega arith)
-
 -- ---- the change of a put is that of the subtree where the descent ended
 
 root_tree : {E : Edition} {f : List ℕ} (k : List ℕ) (v : Value) {st : State} (W : Stands E f st) → put_change E st k v ≡ put_in E (root_art W.root) k v
@@ -191,26 +189,26 @@ module _ {E : Edition} {f k : List ℕ} {st : State} {s : Spot} (W : Stands E f 
       let z : same k F.key ≡ false = bool_cases (same k F.key) (λ t. absurd (F.differs (same_true k F.key t))) (λ t. t) in
       asks_there v W I t F.is (put_leaf E s.depth k v F.key F.value) refl (rw (z, q) A)
 
-  pub node_there : s.end ≡ end.Missing → (ks : List (ℕ × ℕ)) × InnerAt f s.here.place s.here.kind ks
+  pub node_there : s.end ≡ end.Missing → (ks : List (ℕ × ℕ)) × InnerAt f s.here.place (number_of s.here.kind) ks
   node_there e =
       let I = S.in_tree (λ z. clash (cc)) in
       let F = I.spot.missing e in
-      (pairs F.kids, (node_parts E f (path_of I.spot.way.steps) s.here.slot s.here.place s.here.kind F.kids (stands_there I (node s.here.slot s.here.place s.here.kind F.kids) F.is)).1.inner)
+      (pairs F.kids, (node_parts E f (path_of I.spot.way.steps) s.here.slot s.here.place (number_of s.here.kind) F.kids (stands_there I (node s.here.slot s.here.place (number_of s.here.kind) F.kids) F.is)).1.inner)
 
-  pub asks_missing : {n : Needs} (v : Value) (m : ℕ) → s.end ≡ end.Missing → ((ks : List (ℕ × ℕ)) → InnerAt f s.here.place s.here.kind ks → m ≡ length ks) → Asks n (with_leaf (grow_takes m s.here.kind)) (extent_of k v) → AsksFor n (put_change E st k v)
+  pub asks_missing : {n : Needs} (v : Value) (m : ℕ) → s.end ≡ end.Missing → ((ks : List (ℕ × ℕ)) → InnerAt f s.here.place (number_of s.here.kind) ks → m ≡ length ks) → Asks n (with_leaf (grow_takes m (number_of s.here.kind))) (extent_of k v) → AsksFor n (put_change E st k v)
   asks_missing {n} v m e q A =
       let I = S.in_tree (λ z. clash (cc)) in
       let F = I.spot.missing e in
-      let t = node s.here.slot s.here.place s.here.kind F.kids in
-      let N = (node_parts E f (path_of I.spot.way.steps) s.here.slot s.here.place s.here.kind F.kids (stands_there I t F.is)).1.inner in
+      let t = node s.here.slot s.here.place (number_of s.here.kind) F.kids in
+      let N = (node_parts E f (path_of I.spot.way.steps) s.here.slot s.here.place (number_of s.here.kind) F.kids (stands_there I t F.is)).1.inner in
       let w = E.walked k in
       let z : s.depth + 0 ≡ s.depth = omega arith in
       let b : get_or w s.depth 0 ≡ F.byte = ap (λ i. get_or w i 0) (sym z) ∙ sym (get_or-drop s.depth w 0 0) ∙ ap (λ x. get_or x 0 0) F.next in
       let absent = look_none F.byte F.kids F.absent in
       let y : m ≡ length (pairs F.kids) = q (pairs F.kids) N in
-      ltb_cases m (most s.here.kind)
-      (λ l h. asks_there v W I t F.is _ (node_put E k v s.depth F.byte s.here.kind F.kids b absent (omega arith)) (rw l at A))
-      (λ l h. asks_there v W I t F.is _ (node_grow E k v s.depth F.byte s.here.kind F.kids b absent (omega arith)) (rw l at A))
+      ltb_cases m (most (number_of s.here.kind))
+      (λ l h. asks_there v W I t F.is _ (node_put E k v s.depth F.byte (number_of s.here.kind) F.kids b absent (omega arith)) (rw l at A))
+      (λ l h. asks_there v W I t F.is _ (node_grow E k v s.depth F.byte (number_of s.here.kind) F.kids b absent (omega arith)) (rw l at A))
 
   -- the Prefix that is matched in part, and what stands below it
   pub parted_at : (I : InTree E k W.root s) (e : s.end ≡ end.Parted) → let F = I.spot.parted e in
@@ -277,8 +275,17 @@ module _ {E : Edition} {f k v : List ℕ} {s : Spot} (P : PutFrom E f k v s) whe
   pub leaf_room : s.end ≡ end.Found → s.here.place + 16 ≤ length f
   leaf_room e = (found_leaf E P.stands P.spot e).room
 
-  pub node_room : s.end ≡ end.Missing → (s.here.place + 2 ≤ length f) × (s.here.kind < 9)
+  pub node_room : s.end ≡ end.Missing → (s.here.place + 2 ≤ length f) × (number_of s.here.kind < 9)
   node_room e = let N = node_there P.stands P.spot e in inner_fits N.0 N.1
+
+  -- where the node is full, there is a larger kind
+  pub node_grows : s.end ≡ end.Missing → {m : ℕ} → ((ks : List (ℕ × ℕ)) → InnerAt f s.here.place (number_of s.here.kind) ks → m ≡ length ks) → most (number_of s.here.kind) ≤ m → 1 ≤ kind_up (number_of s.here.kind)
+  unfolding node_there pairs
+  node_grows e {m} q full =
+      let F = (P.spot.in_tree (λ z. clash (cc))).spot.missing e in
+      let N = node_there P.stands P.spot e in
+      let n = q N.0 N.1 in
+      full_up _ F.byte N.0 N.1.range.0 N.1.range.1 (inner_asc N.0 N.1) F.absent (byte_first s.depth (E.walked k) (P.lawful.bytes k P.key) F.next) (omega arith)
 
   -- two walked strings share no more than they have
   pub other_short : s.end ≡ end.Other → s.shared ≤ 512

@@ -18,7 +18,7 @@ use Rattle.between.specs.Work.{Work}
 use Rattle.between.proofs.WorkLaws.{entries_first, open_prefix}
 use Rattle.chain.specs.Row.{Entered, run_long, run_many}
 use Rattle.chain.proofs.RunLaws.{below_short}
-use Rattle.chain.proofs.ReadLaws.{Stood, tree_stood, Pre, pre_of}
+use Rattle.chain.proofs.ReadLaws.{Stood, tree_stood, Pre, pre_of, entered_at}
 use Rattle.plan.specs.Run.{Sunk, Sinks, Measured, RunAt, Begun, BeginningAt}
 
 no_run : (t : Lay) → run_many t ≡ 0 → run_long t ≡ 0
@@ -87,7 +87,7 @@ module _ {f : List ℕ} {slot n s : ℕ} (S : Sinks f slot n s) where
     here = S A.edition A.view A.steps A.top A.path A.tree A.trees A.loose A.work A.slot_is
 
     pub run_slot : Entered f s
-    run_slot = let T = stands here in let e = here.slot in record { some = omega (arith, T.low); entry = rw e at T.entry }
+    run_slot = entered_at (stands here) here.slot
 
     pub run_place : high_of f s ≡ 2 → {o : ℕ} → o ≡ place_of f s → o + 128 ≤ length f
     run_place k eo = (sunk_bounds here k eo refl).0

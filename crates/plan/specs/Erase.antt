@@ -1,4 +1,5 @@
 -- What the plan of an erase counts on, and what it says.
+use Rattle.layout.specs.Kind.{number_of}
 use Rattle.std.specs.Prelude.{ℕ, ◌≤◌, ◌≡◌, List, length}
 use Rattle.model.specs.Edition.{Edition, Lawful}
 use Rattle.model.specs.Tree.{Art}
@@ -25,8 +26,8 @@ module _ (E : Edition) where
   -- a Node4 of two
   pub record PairFrom (f k : List ℕ) (s : Spot) : Type 0 where
     pub from : EraseFrom f k s
-    pub kind : s.node.kind ≡ 4
-    pub two : (ks : List (ℕ × ℕ)) → InnerAt f s.node.place s.node.kind ks → length ks ≡ 2
+    pub kind : number_of s.node.kind ≡ 4
+    pub two : (ks : List (ℕ × ℕ)) → InnerAt f s.node.place (number_of s.node.kind) ks → length ks ≡ 2
 
   -- the erase of k from the tree a leaves a tree, and these are its needs
   pub record Erasing (k : List ℕ) (a : Art) (n : Needs) : Type 0 where

@@ -7,7 +7,6 @@ use descent::spot::Spot;
 use erase_join::join;
 use inner::look;
 use layout::entry::Entry;
-use layout::kind;
 use layout::kind::Kind;
 use room::fit::Needs;
 
@@ -25,14 +24,14 @@ fn joining(f: &[u8], key: &[u8], spot: Spot) -> Needs
     let node = spot.node;
     let other = join::other_child(f, node.place, spot.byte);
     let entry = Entry::read(f, other.slot);
-    if entry.high == Kind::LEAF {
+    if entry.kind() == Kind::Leaf {
         return none;
     }
     // the last Prefix of the run has room
     if chain::left_of(run::long(f, other.slot)) != 0 {
         return none;
     }
-    none.with(Kind::PREFIX)
+    none.with(Kind::Prefix)
 }
 
 // What an erase needs whose Leaf, where the descent ended, stands in an inner node: "A Node256 that falls to 37, a Node48 to 12, a
@@ -43,11 +42,11 @@ pub fn erase_needs(f: &[u8], key: &[u8], spot: Spot) -> Needs
 {
     let node = spot.node;
     let none = Needs::none();
-    if look::count(f, node.place) != kind::shrink_mark(node.kind) + 1 {
+    if look::count(f, node.place) != node.kind.shrink_mark() + 1 {
         return none;
     }
-    if node.kind == Kind::NODE4 {
-        return joining(f, key, spot);
+    match node.kind.down() {
+        Some(smaller) => none.with(smaller),
+        None => joining(f, key, spot),
     }
-    none.with(kind::kind_down(node.kind))
 }

@@ -1,5 +1,6 @@
 // The plan of a put.
-ghost use Rattle.std.specs.Prelude.{◌≡◌, List, [], ℕ, suc, ◌+◌, ◌-◌, ◌<◌, eqb};
+ghost use Rattle.std.specs.Prelude.{◌≡◌, List, [], ℕ, suc, ◌+◌, ◌-◌, ◌<◌, ◌≤◌, eqb};
+ghost use Rattle.layout.specs.Kind.{number_of, most, kind_up};
 ghost use Rattle.model.specs.Strings.{pick};
 ghost use Rattle.model.specs.Edition.{Edition, SomeEdition};
 ghost use Rattle.model.specs.Tree.{chain};
@@ -11,7 +12,6 @@ use crate::run;
 use descent::spot::{End, Spot};
 use fields::body::{Leaf, Prefix};
 use inner::look;
-use layout::kind;
 use layout::kind::Kind;
 use room::fit::Needs;
 
@@ -21,8 +21,8 @@ fn forking(n: usize) -> Needs
     ensures { Bodies result (fork_takes n) }
 {
     let none = Needs::none();
-    let mut next = none.with(Kind::NODE4);
-    next.bodies[Kind::PREFIX] = n;
+    let mut next = none.with(Kind::Node4);
+    next.bodies[Kind::Prefix as usize] = n;
     next
 }
 
@@ -49,16 +49,19 @@ fn beginning(f: &[u8], o: usize) -> usize
     n + run::long(f, Prefix::child(f, o))
 }
 
-// One more child: the next kind if the node is full.
-fn growing(count: usize, kind: usize) -> Needs
-    requires { kind < 9 }
-    ensures { Bodies result (grow_takes count kind) }
+// One more child: the next kind if the node is full. A full Node256 lacks no byte.
+fn growing(count: usize, kind: Kind) -> Needs
+    requires { most (number_of kind) ≤ count → 1 ≤ kind_up (number_of kind) }
+    ensures { Bodies result (grow_takes count (number_of kind)) }
 {
     let none = Needs::none();
-    if count < kind::most_children(kind) {
+    if count < kind.most_children() {
         return none;
     }
-    none.with(kind::kind_up(kind))
+    match kind.up() {
+        Some(larger) => none.with(larger),
+        None => none,
+    }
 }
 
 // A new record: these bodies, a Leaf and the extent.
@@ -66,7 +69,7 @@ fn recording(bodies: Needs, extent: usize) -> Needs
     requires { Small bodies }
     ensures { (takes : List ℕ) → Asks bodies takes 0 → Asks result (with_leaf takes) extent }
 {
-    let leaf = bodies.with(Kind::LEAF);
+    let leaf = bodies.with(Kind::Leaf);
     leaf.with_extent(extent)
 }
 

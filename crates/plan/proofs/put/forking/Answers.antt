@@ -7,7 +7,7 @@ use Rattle.plan.proofs.PutLaws.{fork_many}
 use Rattle.plan.proofs.put.forking.Goals as goal
 
 pub with-next-requires : goal.with-next-requires
-with-next-requires c = (omega arith, asks_small c.none-none.ensures (omega arith) (omega arith))
+with-next-requires c = asks_small c.none-none.ensures (omega arith) (omega arith)
 
 pub returns : goal.returns
 returns c =

@@ -4,10 +4,11 @@ use mathlib.Core.List.{[]}
 use native.Mathlib.Omega.{arith}
 use lib.ListN.{length}
 use lib.Dec.{eqb}
+use Rattle.layout.specs.Kind.{number_of}
 use Rattle.model.specs.Tree.{up8}
 use Rattle.room.proofs.FitLaws.{asks_small}
 use Rattle.plan.specs.Plan.{fork_takes, grow_takes}
-use Rattle.plan.proofs.PutLaws.{sized, sized_if, small_found, small_new, fork_few, grow_few, asks_empty, asks_found, asks_other, asks_missing, asks_parted, size_fits, extent_fits, leaf_room, node_room, other_short, beginning_at, cut_fits, cut_few, last_end}
+use Rattle.plan.proofs.PutLaws.{sized, sized_if, small_found, small_new, fork_few, grow_few, asks_empty, asks_found, asks_other, asks_missing, asks_parted, size_fits, extent_fits, leaf_room, node_room, node_grows, other_short, beginning_at, cut_fits, cut_few, last_end}
 use Rattle.plan.proofs.put.put_needs.Goals as goal
 
 pub rounded-extent-requires : goal.rounded-extent-requires
@@ -53,14 +54,14 @@ pub count-requires : goal.count-requires
 count-requires c = (node_room c.requires.holds c.in-Missing.is).0
 
 pub growing-requires : goal.growing-requires
-growing-requires c = (node_room c.requires.holds c.in-Missing.is).1
+growing-requires c = node_grows c.requires.holds c.in-Missing.is (c.count.ensures.1 (number_of c.args.spot.here.kind))
 
 pub recording-requires-in-Missing : goal.recording-requires-in-Missing
 recording-requires-in-Missing c = c.growing.ensures.small
 
 pub returns-in-Missing : goal.returns-in-Missing
 returns-in-Missing c =
-    let kind = c.args.spot.here.kind in let A = c.recording-in-Missing.ensures (grow_takes c.count.result kind) c.growing.ensures.asks in (
+    let kind = (number_of c.args.spot.here.kind) in let A = c.recording-in-Missing.ensures (grow_takes c.count.result kind) c.growing.ensures.asks in (
       small_new A (grow_few c.count.result kind) (extent_fits c.requires.holds c.rounded-extent.ensures),
       λ E st W S t. asks_missing W S (record { bytes = c.args.value.now; stamp = t }) c.count.result c.in-Missing.is (c.count.ensures.1 kind) (sized c.rounded-extent.ensures A),
     )
