@@ -7,7 +7,7 @@ use native.Mathlib.Decide.{dec_lt}
 use lib.ListN.{length, take, drop}
 use lib.Seq.{take_all}
 use Rattle.layout.specs.Number.{le}
-use Rattle.layout.specs.Place.{entry_at, prefix_child, prefix_length}
+use Rattle.layout.specs.Place.{prefix_child, prefix_length}
 use Rattle.layout.specs.Kind.{prefix_kind}
 use Rattle.layout.specs.Entry.{high_of}
 use Rattle.model.specs.Item.{body, cover}
@@ -20,7 +20,7 @@ use Rattle.between.proofs.ChangeLaws.{changed_none, changed_only}
 use Rattle.between.proofs.WorkLaws.{work_path, work_write, make_prefix}
 use Rattle.prefix_body.specs.Prefix.{Longer, Shortened}
 use Rattle.chain.specs.Row.{Entered, row_items, bodies_of, bytes_of}
-use Rattle.chain.proofs.ReadLaws.{tree_stood}
+use Rattle.chain.proofs.ReadLaws.{tree_stood, entered_at}
 use Rattle.put_cut.specs.After.{FirstDropped, Drops}
 use Rattle.put_cut.proofs.RunLists.{none_past, path_parts, bare_node}
 use Rattle.put_cut.proofs.UpLaws.{opens}
@@ -37,10 +37,7 @@ module _ {f : List ℕ} {n o : ℕ} (A : Drops f n o) where
 
   pub drop_entry : {c : ℕ} → c ≡ le 4 f (o + prefix_child) → Entered f c
   drop_entry e =
-      let O = opens A.work in
-      let S = tree_stood (A.path ++ A.bytes) A.trees (body n prefix_kind o ∷ A.loose) A.below O.0 in
-      let z = e ∙ O.1.child in
-      record { some = omega (arith, S.low); entry = omega (arith, S.entry, ap entry_at z) }
+      let O = opens A.work in entered_at (tree_stood (A.path ++ A.bytes) A.trees (body n prefix_kind o ∷ A.loose) A.below O.0) (sym (e ∙ O.1.child))
 
   pub drop_longer : {m : ℕ} → m ≡ le 2 f (o + prefix_length) → (m ≡ 1 → ⊥) → Longer f o 1
   drop_longer e n1 = let P = (opens A.work).1 in record { bytes = A.bytes; below = slot_of A.below; at = P; more = not_one (e ∙ P.long) P.some n1 }

@@ -33,7 +33,7 @@ use Rattle.between.proofs.WorkLaws.{work_path, work_sum, work_take, work_write, 
 use Rattle.prefix_body.specs.Prefix.{Longer, Elsewhere}
 use Rattle.chain.specs.Row.{Entered, bodies_of, bytes_of}
 use Rattle.chain.proofs.TakeLaws.{prefix_kind_lem}
-use Rattle.chain.proofs.ReadLaws.{tree_stood}
+use Rattle.chain.proofs.ReadLaws.{tree_stood, entered_at}
 use Rattle.chain.proofs.RunLaws.{node_run}
 use Rattle.put_cut.specs.After.{lacking, Splitting, Split, SplitOff, Splits}
 use Rattle.put_cut.proofs.RunLists.{none_past, path_parts, bare_node}
@@ -56,10 +56,7 @@ module _ {f : List ℕ} {o q : ℕ} (A : Splits f o q) where
   split_room = (body_at A.splitting).room
 
   pub split_entry : {c : ℕ} → c ≡ le 4 f (o + prefix_child) → Entered f c
-  split_entry e =
-      let S = tree_stood (path_of A.steps ++ A.bytes) A.trees A.loose A.below A.splitting.work in
-      let z = e ∙ (body_at A.splitting).child in
-      record { some = omega (arith, S.low); entry = omega (arith, S.entry, ap entry_at z) }
+  split_entry e = entered_at (tree_stood (path_of A.steps ++ A.bytes) A.trees A.loose A.below A.splitting.work) (sym (e ∙ (body_at A.splitting).child))
 
 -- ---- no byte of the Prefix: what is below stays as it is
 

@@ -94,7 +94,7 @@ pub fn split_off(f: &mut [u8], place: usize, q: usize) -> usize
     if chain::prefix_at(f, child).is_some() {
         return move_down(f, place, q);
     }
-    let s = heap::take(f, Kind::PREFIX);
+    let s = heap::take(f, Kind::Prefix);
     let body = Entry::read(f, s);
     prefix_body::tail(f, body.place, place, q);
     s

@@ -25,7 +25,7 @@ fn cut_first(f: &mut [u8], r: Record, spot: Spot)
     let here = spot.here;
     let b = keys::at(r.word, spot.depth);
     let c = Prefix::byte(f, here.place, 0);
-    let node = heap::take(f, Kind::NODE4);
+    let node = heap::take(f, Kind::Node4);
     let rest = after::drop_first(f, here.slot, here.place);
     parts::fork(f, node, r, b, c, rest.slot);
     room::link::relink(f, here.link, node);
@@ -42,7 +42,7 @@ fn cut_within(f: &mut [u8], r: Record, spot: Spot)
     let q = spot.shared;
     let b = keys::at(r.word, spot.depth + q);
     let c = Prefix::byte(f, here.place, q);
-    let node = heap::take(f, Kind::NODE4);
+    let node = heap::take(f, Kind::Node4);
     let below = after::split_off(f, here.place, q + 1);
     parts::fork(f, node, r, b, c, below);
     prefix_body::keep(f, here.place, q, node);
