@@ -50,7 +50,8 @@ pub fn next(f: &[u8], o: usize, from: usize) -> Option<Child>
     None
 }
 
-// The lowest place from 1 that no entry names, or 49.
+// The lowest place from 1 that no entry names, or 49. A search in a search, the outer one left with the place: a rule of the project, and
+// no plainer by two `for`s, which give no value.
 fn lowest(f: &[u8], o: usize) -> usize
     requires { o + 456 ≤ length f.now }
     ensures { Lowest f.now (o + node48_index) result }
@@ -61,14 +62,14 @@ fn lowest(f: &[u8], o: usize) -> usize
             break 'places place;
         }
         for b in 0..Node::BYTE_VALUES {
-            if Node48::entry(f, o, b) == place as usize {
+            if Node48::entry(f, o, b) == usize::from(place) {
                 place += 1;
                 continue 'places;
             }
         }
         break 'places place;
     };
-    found as usize
+    usize::from(found)
 }
 
 // The entry of byte b is x, the child at place p is slot, and n children are in use.
