@@ -268,11 +268,11 @@ module _ {f path : List ℕ} {depth s o d u b : ℕ} {m : List ℕ} {t : Sums} {
 
 pub prefix_told : {f path : List ℕ} {depth s o d u b : ℕ} {m : List ℕ} {t : Sums} {now : List ℕ} {m₁ : List ℕ} {t₁ : Sums} {c n deep kind o' : ℕ} (P : PrefixHere f o) → BodyTaken d u b 2 o m t m₁ t₁ → Entry f s 2 o → 1 ≤ s → s ≤ u
     → BelowSlot f c u n → c ≡ le 4 f (o + prefix_child) → n ≡ le 2 f (o + prefix_length) → kind ≡ high_of f c → o' ≡ place_of f c → o' < 1048576 → depth ≤ deep → deep < length now → take deep now ≡ path ++ P.bytes
-    → PrefixTold f path depth s d u b m t now m₁ (Some (record { sums = t₁; slot = c; place = o'; kind = kind; depth = deep }))
+    → PrefixTold f path depth s d u b m t now m₁ (Some (record { sums = t₁; slot = c; entry = record { high = kind; place = o' }; depth = deep }))
 prefix_told {f} {path} {depth} {s} {o} {d} {u} {b} {m} {t} {now} {m₁} {t₁} {c} {n} {deep} {kind} {o'} P T E a z I ec en ek eo small le short e =
     let q = body_slots T in
     let low = I.low in
-    let k : Inner = record { sums = t₁; slot = c; place = o'; kind = kind; depth = deep } in
+    let k : Inner = record { sums = t₁; slot = c; entry = record { high = kind; place = o' }; depth = deep } in
     let L : PrefixLeads f path depth s d u b m t now m₁ k = record {
       first = I.first;
       last = I.last;

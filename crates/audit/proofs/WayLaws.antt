@@ -164,6 +164,8 @@ pub record Above (f : List ℕ) (u b : ℕ) (path : List ℕ) (w depth : ℕ) : 
   pub last : slot_in w ≤ u
   pub less : depth_in w < depth
   pub room : place_of f (slot_in w) + 2 ≤ b
+  pub least : 4 ≤ high_of f (slot_in w)
+  pub most : high_of f (slot_in w) ≤ 7
   pub turn : turn_in w < 256
   pub byte : get_or path (depth_in w) 0 < 256
 
@@ -290,7 +292,7 @@ module _ {Ed : Edition} {G : List Item → Type 0} {f : List ℕ} {d u b : ℕ} 
 
   -- it was a Prefix
   pub come_prefix : {now m' : List ℕ} {k : walk.Inner} → Kept depth path now → PrefixLeads f (take depth path) depth slot d u b m t now m' k
-      → Coming Ed G f d u b m₀ t₀ m' now waits waiting k.sums k.slot k.place k.kind k.depth
+      → Coming Ed G f d u b m₀ t₀ m' now waits waiting k.sums k.slot k.entry.place k.entry.high k.depth
   come_prefix {now} {m'} {k} K L =
       record {
         ways = C.ways;
@@ -459,7 +461,7 @@ module _ {Ed : Edition} {G : List Item → Type 0} {f : List ℕ} {d u b : ℕ} 
           let es : slot_in (get_or waits top 0) ≡ w.slot = ap (λ (k : ℕ). slot_in (get_or waits k 0)) e ∙ N.slot_is in
           let ed : depth_in (get_or waits top 0) ≡ w.depth = ap (λ (k : ℕ). depth_in (get_or waits k 0)) e ∙ N.depth_is in
           let r = node_room N.node N.room in
-          record { first = rw es N.first; last = rw es N.last; less = omega arith; room = rw (es, N.entry.place_is) r; turn = rw e (let h = N.inside in let k = N.few in omega arith); byte = rw ed N.small }
+          record { first = rw es N.first; last = rw es N.last; less = omega arith; room = rw (es, N.entry.place_is) r; least = rw (es, N.entry.kind_is) N.node.range.0; most = rw (es, N.entry.kind_is) N.node.range.1; turn = rw e (let h = N.inside in let k = N.few in omega arith); byte = rw ed N.small }
 
   -- after the last child the walk goes back to the node that waits
   pub walk_back : {top back deep turn high at count to : ℕ} → n ≤ i → waiting ≡ top + 1 → back ≡ slot_in (get_or waits top 0) → deep ≡ depth_in (get_or waits top 0) → turn ≡ turn_in (get_or waits top 0) + 1 → to ≡ get_or path deep 0 + 1 → high ≡ high_of f back → at ≡ place_of f back

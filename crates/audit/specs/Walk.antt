@@ -109,10 +109,10 @@ pub record NodeTold (f : List ℕ) (limit depth kind o d u b : ℕ) (m : List �
 pub record PrefixLeads (f path : List ℕ) (depth s d u b : ℕ) (m : List ℕ) (t : Sums) (now m' : List ℕ) (i : Inner) : Type 0 where
   pub first : 1 ≤ i.slot
   pub last : i.slot ≤ u
-  pub other : i.kind ≡ leaf_kind → ⊥
-  pub kind_is : i.kind ≡ high_of f i.slot
-  pub place_is : i.place ≡ place_of f i.slot
-  pub small : i.place < 1048576
+  pub other : i.entry.high ≡ leaf_kind → ⊥
+  pub kind_is : i.entry.high ≡ high_of f i.slot
+  pub place_is : i.entry.place ≡ place_of f i.slot
+  pub small : i.entry.place < 1048576
   pub deeper : depth ≤ i.depth
   pub short : i.depth < length now
   pub tally : Tally u 0 i.sums

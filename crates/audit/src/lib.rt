@@ -4,39 +4,35 @@
 pub mod walk;
 pub mod whole;
 
-ghost use Rattle.model.specs.Edition.{edition_of};
+ghost use Rattle.answers.specs.Number.{done_number};
 ghost use Rattle.model.specs.Promise.{CheckPromise};
-ghost use Rattle.audit.specs.Audit.{by_rule};
+ghost use Rattle.audit.specs.Audit.{ruled};
 
+use answers::Refusal;
+use editions::Editioned;
 use shape::header::{header_good, length_good};
 
-// document 01's numbers
-pub const GOOD: usize = 0;
-
-pub const BAD_LENGTH: usize = 1;
-
-pub const BAD_FRAME: usize = 2;
-
-// 1 exactly if the slice's length is outside F's limits or differs from the stored F, 0 exactly if the frame is good in the edition, else 2: by
-// the rule that what is freed is wiped, or by the one from before.
-pub fn check_by(f: &[u8], edition: usize, wiped: bool) -> usize
-    ensures { CheckPromise (by_rule edition wiped) f.now result }
+// Refused for its length exactly if the slice's length is outside F's limits or differs from the stored F, done exactly if the frame is good in the
+// edition, else refused as no good frame: by the rule that what is freed is wiped, or by the one from before.
+pub fn check_by<E: Editioned>(f: &[u8], edition: E, wiped: bool) -> Result<(), Refusal>
+    ensures { CheckPromise (ruled wiped (E.rules edition)) f.now (done_number result) }
 {
+    let edition = edition.edition();
     if !length_good(f) {
-        return BAD_LENGTH;
+        return Err(Refusal::Length);
     }
     if !header_good(f, edition) {
-        return BAD_FRAME;
+        return Err(Refusal::Frame);
     }
     if !whole::all(f, edition, wiped) {
-        return BAD_FRAME;
+        return Err(Refusal::Frame);
     }
-    GOOD
+    Ok(())
 }
 
 // The same by the rule in force.
-pub fn check(f: &[u8], edition: usize) -> usize
-    ensures { CheckPromise (edition_of edition) f.now result }
+pub fn check<E: Editioned>(f: &[u8], edition: E) -> Result<(), Refusal>
+    ensures { CheckPromise (E.rules edition) f.now (done_number result) }
 {
-    check_by(f, edition, true)
+    check_by(f, edition.edition(), true)
 }

@@ -5,10 +5,11 @@ ghost use Rattle.layout.specs.Place.{prefix_bytes};
 ghost use Rattle.layout.specs.Entry.{place_of, high_of};
 ghost use Rattle.pieces.specs.Decides.{Decides};
 ghost use Rattle.census.specs.Told.{Tally, Told};
-ghost use Rattle.model.specs.Edition.{edition_of};
+ghost use Rattle.editions.specs.Rules.{rules_of};
 ghost use Rattle.audit.specs.Walk.{BelowSlot, Arrays, wait_of, slot_in, depth_in, turn_in, Kept, Extended, At, TreeItems, NodeTold, PrefixTold};
 
 use census::{Bounds, Sums, take};
+use editions::{Edition, Editioned};
 use fields::body::Prefix;
 use inner::look;
 use inner::visit::child_at;
@@ -23,8 +24,7 @@ use shape_inner::inner_good;
 pub struct Inner {
     pub sums: Sums,
     pub slot: usize,
-    pub place: usize,
-    pub kind: usize,
+    pub entry: Entry,
     pub depth: usize,
 }
 
@@ -80,14 +80,14 @@ fn below_slot(f: &[u8], s: usize, u: usize, n: usize) -> bool
     if u < s {
         return false;
     }
-    let e = Entry::read(f, s);
-    if e.high < Kind::NODE4 {
-        if e.high != Kind::PREFIX {
-            return false;
-        }
-        return n == Prefix::MOST;
+    match Kind::try_from(Entry::read(f, s).high) {
+        Ok(Kind::Prefix) => n == Prefix::MOST,
+        Ok(Kind::Node4) => true,
+        Ok(Kind::Node16) => true,
+        Ok(Kind::Node48) => true,
+        Ok(Kind::Node256) => true,
+        _ => false,
     }
-    e.high <= Kind::NODE256
 }
 
 // The first n bytes of the Prefix at o follow the first bytes of the path, as many as depth.
@@ -98,35 +98,34 @@ fn extend(path: &mut [u8], depth: usize, f: &[u8], o: usize, n: usize)
     path[depth..depth + n].copy_from_slice(&f[o + Prefix::BYTES..o + Prefix::BYTES + n]);
 }
 
-// The Leaf whose body lies at o: its body and its extent. It has one caller for the whole walk, and a copy of its own there.
+// The Leaf whose body lies at o: its body and its extent. The walk has a copy of its own, so that its other caller costs it no call.
 #[inline(always)]
-pub fn leaf(
+pub(crate) fn leaf(
     f: &[u8],
     map: &mut [u64],
     path: &[u8],
     o: usize,
     bounds: Bounds,
     t: Sums,
-    edition: usize,
+    edition: Edition,
 ) -> Option<Sums>
     requires inside { bounds.next ≤ length f.now }
     requires room { bounds.next ≤ 512 * length map.old }
     requires tally { Tally bounds.given 0 t }
     requires place { (o % 8 ≡ 0) × (o < 1048576) }
-    ensures { At (edition_of edition) f.now path.now 1 o bounds.start bounds.given bounds.next map.old t map.new result }
+    ensures { At (rules_of edition) f.now path.now 1 o bounds.start bounds.given bounds.next map.old t map.new result }
 {
-    let r = take::body(map, Kind::LEAF, o, bounds, t)?;
+    let r = take::body(map, Kind::Leaf, o, bounds, t)?;
     let x = leaf_good(f, o, path, bounds.start, bounds.next, edition)?;
     take::extent(map, x.place, x.size, bounds, r)
 }
 
-// The inner node whose body lies at o: the body alone. A path to it is shorter than the limit.
+// The inner node that an entry tells: the body alone. A path to it is shorter than the limit.
 fn node(
     f: &[u8],
     map: &mut [u64],
     depth: usize,
-    kind: usize,
-    o: usize,
+    entry: Entry,
     bounds: Bounds,
     t: Sums,
     limit: usize,
@@ -134,21 +133,22 @@ fn node(
     requires inside { bounds.next ≤ length f.now }
     requires room { bounds.next ≤ 512 * length map.old }
     requires tally { Tally bounds.given 0 t }
-    requires other { (kind ≡ 1 → ⊥) × (kind ≡ 2 → ⊥) }
-    requires place { (o % 8 ≡ 0) × (o < 1048576) }
-    ensures { NodeTold f.now limit depth kind o bounds.start bounds.given bounds.next map.old t map.new result }
+    requires other { (entry.high ≡ 1 → ⊥) × (entry.high ≡ 2 → ⊥) }
+    requires place { (entry.place % 8 ≡ 0) × (entry.place < 1048576) }
+    ensures { NodeTold f.now limit depth entry.high entry.place bounds.start bounds.given bounds.next map.old t map.new result }
 {
-    if kind < Kind::NODE4 {
+    if entry.high < Kind::Node4.number() {
         return None;
     }
-    if kind > Kind::NODE256 {
+    if entry.high > Kind::Node256.number() {
         return None;
     }
-    let r = take::body(map, kind, o, bounds, t)?;
+    let kind = entry.kind();
+    let r = take::body(map, kind, entry.place, bounds, t)?;
     if limit <= depth {
         return None;
     }
-    if !inner_good(f, o, kind) {
+    if !inner_good(f, entry.place, kind) {
         return None;
     }
     Some(r)
@@ -174,7 +174,7 @@ fn past_prefix(
     requires place { (o ≡ place_of f.now s) × (o < 1048576) }
     ensures { Kept depth path.old path.new × PrefixTold f.now (take depth path.old) depth s bounds.start bounds.given bounds.next map.old t path.new map.new result }
 {
-    let sums = take::body(map, Kind::PREFIX, o, bounds, t)?;
+    let sums = take::body(map, Kind::Prefix, o, bounds, t)?;
     if !prefix_good(f, o) {
         return None;
     }
@@ -187,12 +187,10 @@ fn past_prefix(
         return None;
     }
     extend(path, depth, f, o, n);
-    let e = Entry::read(f, slot);
     Some(Inner {
         sums,
         slot,
-        place: e.place,
-        kind: e.high,
+        entry: Entry::read(f, slot),
         depth: depth + n,
     })
 }
@@ -200,7 +198,7 @@ fn past_prefix(
 // The tree at slot s, to which no path leads, of a kind other than a Leaf's. The outer loop arrives at a slot: a Prefix leads it to another, and a
 // node is counted. The inner one is then at child i of a node: where that is a Leaf it is counted, else the node waits and the outer loop arrives
 // at the child; after the last child the inner loop goes back to the node that waits. Both follow slots and step no index: a range is no plainer.
-pub fn along(
+pub fn along<E: Editioned>(
     f: &[u8],
     map: &mut [u64],
     path: &mut [u8],
@@ -208,7 +206,7 @@ pub fn along(
     s: usize,
     bounds: Bounds,
     t: Sums,
-    edition: usize,
+    edition: E,
 ) -> Option<Sums>
     requires inside { bounds.next ≤ length f.now }
     requires room { bounds.next ≤ 512 * length map.old }
@@ -216,27 +214,27 @@ pub fn along(
     requires slot { (1 ≤ s) × (s ≤ bounds.given) }
     requires other { high_of f.now s ≡ 1 → ⊥ }
     requires few { bounds.given ≤ 10240 }
-    requires arrays { Arrays (edition_of edition) bounds.given (length path.old) (length waits.old) }
-    ensures { Told (TreeItems (edition_of edition) f.now [] s) (TreeItems (edition_of edition) f.now [] s) f.now bounds.start bounds.given bounds.next map.old t map.new result }
+    requires arrays { Arrays (E.rules edition) bounds.given (length path.old) (length waits.old) }
+    ensures { Told (TreeItems (E.rules edition) f.now [] s) (TreeItems (E.rules edition) f.now [] s) f.now bounds.start bounds.given bounds.next map.old t map.new result }
 {
+    let named = edition.edition();
     let mut waiting = 0;
     let mut sums = t;
-    let top = Entry::read(f, s);
     let mut slot = s;
-    let mut place = top.place;
-    let mut kind = top.high;
+    let mut entry = Entry::read(f, s);
     let mut depth = 0;
     'arrive: loop {
-        if kind == Kind::PREFIX {
-            let k = past_prefix(f, map, path, depth, slot, place, bounds, sums)?;
+        if entry.high == Kind::Prefix.number() {
+            let k = past_prefix(f, map, path, depth, slot, entry.place, bounds, sums)?;
             sums = k.sums;
             slot = k.slot;
-            place = k.place;
-            kind = k.kind;
+            entry = k.entry;
             depth = k.depth;
             continue;
         }
-        sums = node(f, map, depth, kind, place, bounds, sums, path.len())?;
+        sums = node(f, map, depth, entry, bounds, sums, path.len())?;
+        let mut place = entry.place;
+        let mut kind = entry.kind();
         let mut n = look::count(f, place);
         let mut i = 0;
         let mut from = 0;
@@ -251,8 +249,8 @@ pub fn along(
                     return None;
                 }
                 let e = Entry::read(f, c.slot);
-                if e.high == Kind::LEAF {
-                    sums = leaf(f, map, &path[..depth + 1], e.place, bounds, sums, edition)?;
+                if e.high == Kind::Leaf.number() {
+                    sums = leaf(f, map, &path[..depth + 1], e.place, bounds, sums, named)?;
                     from = c.byte + 1;
                     i += 1;
                     continue;
@@ -264,8 +262,7 @@ pub fn along(
                 });
                 waiting += 1;
                 slot = c.slot;
-                place = e.place;
-                kind = e.high;
+                entry = e;
                 depth += 1;
                 continue 'arrive;
             }
@@ -280,7 +277,7 @@ pub fn along(
             from = usize::from(path[depth]) + 1;
             let e = Entry::read(f, slot);
             place = e.place;
-            kind = e.high;
+            kind = e.kind();
             n = look::count(f, place);
         }
     }

@@ -1,6 +1,6 @@
 // The root with all below it, the lists of freed slots, and the sums over both.
 ghost use Rattle.std.specs.Prelude.{◌≡◌, [], ◌+◌, ◌-◌, ◌*◌, ◌%◌, ◌<◌, ◌≤◌, length};
-ghost use Rattle.model.specs.Edition.{edition_of};
+ghost use Rattle.editions.specs.Rules.{rules_of};
 ghost use Rattle.model.specs.Frame.{Good};
 ghost use Rattle.pieces.specs.Decides.{Decides};
 ghost use Rattle.claims.specs.Units.{Seen};
@@ -8,11 +8,12 @@ ghost use Rattle.census.specs.Told.{Tally, Told};
 ghost use Rattle.layout.specs.Number.{le};
 ghost use Rattle.layout.specs.Place.{at_u};
 ghost use Rattle.audit.specs.Walk.{At, Arrays};
-ghost use Rattle.audit.specs.Audit.{by_rule, HeaderFits, RootItems, EmptyTold, Unmarked, Closes};
+ghost use Rattle.audit.specs.Audit.{ruled, HeaderFits, RootItems, EmptyTold, Unmarked, Closes};
 
 use crate::walk::{along, leaf};
 use census::freed::lists;
 use census::{Bounds, Sums, take};
+use editions::{Edition, Editioned};
 use fields::body::EmptyRoot;
 use fields::header::Header;
 use layout::entry::Entry;
@@ -28,7 +29,7 @@ fn empty(f: &[u8], map: &mut [u64], o: usize, bounds: Bounds, t: Sums) -> Option
     requires place { (o % 8 ≡ 0) × (o < 1048576) }
     ensures { EmptyTold f.now o bounds.start bounds.given bounds.next map.old t map.new result }
 {
-    let r = take::body(map, Kind::EMPTY_ROOT, o, bounds, t)?;
+    let r = take::body(map, Kind::EmptyRoot, o, bounds, t)?;
     if !zero_eight(f, o + EmptyRoot::ZERO) {
         return None;
     }
@@ -44,14 +45,14 @@ fn root(
     s: usize,
     bounds: Bounds,
     t: Sums,
-    edition: usize,
+    edition: Edition,
 ) -> Option<Sums>
     requires inside { bounds.next ≤ length f.now }
     requires room { bounds.next ≤ 512 * length map.old }
     requires tally { Tally bounds.given 0 t }
     requires few { bounds.given ≤ 10240 }
-    requires arrays { Arrays (edition_of edition) bounds.given (length path.old) (length waits.old) }
-    ensures { Told (RootItems (edition_of edition) f.now s) (RootItems (edition_of edition) f.now s) f.now bounds.start bounds.given bounds.next map.old t map.new result }
+    requires arrays { Arrays (rules_of edition) bounds.given (length path.old) (length waits.old) }
+    ensures { Told (RootItems (rules_of edition) f.now s) (RootItems (rules_of edition) f.now s) f.now bounds.start bounds.given bounds.next map.old t map.new result }
 {
     if s < 1 {
         return None;
@@ -60,10 +61,10 @@ fn root(
         return None;
     }
     let e = Entry::read(f, s);
-    if e.high == Kind::EMPTY_ROOT {
+    if e.high == Kind::EmptyRoot.number() {
         return empty(f, map, e.place, bounds, t);
     }
-    if e.high == Kind::LEAF {
+    if e.high == Kind::Leaf.number() {
         return leaf(f, map, &[], e.place, bounds, t, edition);
     }
     along(f, map, path, waits, s, bounds, t, edition)
@@ -102,14 +103,14 @@ fn over(
     map: &mut [u64],
     path: &mut [u8],
     waits: &mut [u32],
-    edition: usize,
+    edition: Edition,
     wiped: bool,
 ) -> bool
-    requires header { HeaderFits (edition_of edition) f.now }
+    requires header { HeaderFits (rules_of edition) f.now }
     requires room { length f.now ≤ 512 * length map.old }
     requires fresh { Seen map.old [] }
-    requires arrays { Arrays (edition_of edition) (le 4 f.now at_u) (length path.old) (length waits.old) }
-    ensures { Decides (Good (by_rule edition wiped) f.now) result }
+    requires arrays { Arrays (rules_of edition) (le 4 f.now at_u) (length path.old) (length waits.old) }
+    ensures { Decides (Good (ruled wiped (rules_of edition)) f.now) result }
 {
     let bounds = Bounds {
         start: Header::data_start(f),
@@ -150,15 +151,15 @@ const MANY_SLOTS: usize = 128;
 fn with_arrays<const PATH: usize, const WAITS: usize>(
     f: &[u8],
     map: &mut [u64],
-    edition: usize,
+    edition: Edition,
     wiped: bool,
 ) -> bool
-    requires header { HeaderFits (edition_of edition) f.now }
+    requires header { HeaderFits (rules_of edition) f.now }
     requires room { length f.now ≤ 512 * length map.old }
     requires fresh { Seen map.old [] }
-    requires arrays { Arrays (edition_of edition) (le 4 f.now at_u) PATH WAITS }
+    requires arrays { Arrays (rules_of edition) (le 4 f.now at_u) PATH WAITS }
     requires waits_fit { WAITS ≤ 512 }
-    ensures { Decides (Good (by_rule edition wiped) f.now) result }
+    ensures { Decides (Good (ruled wiped (rules_of edition)) f.now) result }
 {
     let mut path = [0u8; PATH];
     let mut waits = [0u32; WAITS];
@@ -166,29 +167,33 @@ fn with_arrays<const PATH: usize, const WAITS: usize>(
 }
 
 // The same with arrays that are no longer than they need be.
-fn by_slots(f: &[u8], map: &mut [u64], edition: usize, wiped: bool) -> bool
-    requires header { HeaderFits (edition_of edition) f.now }
+fn by_slots(f: &[u8], map: &mut [u64], edition: Edition, wiped: bool) -> bool
+    requires header { HeaderFits (rules_of edition) f.now }
     requires room { length f.now ≤ 512 * length map.old }
     requires fresh { Seen map.old [] }
-    ensures { Decides (Good (by_rule edition wiped) f.now) result }
+    ensures { Decides (Good (ruled wiped (rules_of edition)) f.now) result }
 {
     let given = Header::slots_given(f);
-    if edition == Header::SECOND_EDITION {
-        if given <= FEW_SLOTS {
-            return with_arrays::<DEPTHS_SECOND, FEW_SLOTS>(f, map, edition, wiped);
+    match edition {
+        Edition::First => {
+            if given <= FEW_SLOTS {
+                return with_arrays::<DEPTHS, FEW_SLOTS>(f, map, edition, wiped);
+            }
+            with_arrays::<DEPTHS, DEPTHS>(f, map, edition, wiped)
         }
-        if given <= SOME_SLOTS {
-            return with_arrays::<DEPTHS_SECOND, SOME_SLOTS>(f, map, edition, wiped);
+        Edition::Second => {
+            if given <= FEW_SLOTS {
+                return with_arrays::<DEPTHS_SECOND, FEW_SLOTS>(f, map, edition, wiped);
+            }
+            if given <= SOME_SLOTS {
+                return with_arrays::<DEPTHS_SECOND, SOME_SLOTS>(f, map, edition, wiped);
+            }
+            if given <= MANY_SLOTS {
+                return with_arrays::<DEPTHS_SECOND, MANY_SLOTS>(f, map, edition, wiped);
+            }
+            with_arrays::<DEPTHS_SECOND, DEPTHS_SECOND>(f, map, edition, wiped)
         }
-        if given <= MANY_SLOTS {
-            return with_arrays::<DEPTHS_SECOND, MANY_SLOTS>(f, map, edition, wiped);
-        }
-        return with_arrays::<DEPTHS_SECOND, DEPTHS_SECOND>(f, map, edition, wiped);
     }
-    if given <= FEW_SLOTS {
-        return with_arrays::<DEPTHS, FEW_SLOTS>(f, map, edition, wiped);
-    }
-    with_arrays::<DEPTHS, DEPTHS>(f, map, edition, wiped)
 }
 
 // Words of the map, 64 units each, and the longest frames that the smaller maps are for.
@@ -204,21 +209,22 @@ const SMALL_FRAME: usize = 16384;
 
 // The same with a map of so many words, in a part of the stack of its own.
 #[inline(never)]
-fn with_map<const WORDS: usize>(f: &[u8], edition: usize, wiped: bool) -> bool
-    requires header { HeaderFits (edition_of edition) f.now }
+fn with_map<const WORDS: usize>(f: &[u8], edition: Edition, wiped: bool) -> bool
+    requires header { HeaderFits (rules_of edition) f.now }
     requires room { length f.now ≤ 512 * WORDS }
     requires words_fit { WORDS ≤ 1024 }
-    ensures { Decides (Good (by_rule edition wiped) f.now) result }
+    ensures { Decides (Good (ruled wiped (rules_of edition)) f.now) result }
 {
     let mut map = [0u64; WORDS];
     by_slots(f, &mut map, edition, wiped)
 }
 
 // All, with a map on the stack that is no larger than it need be.
-pub fn all(f: &[u8], edition: usize, wiped: bool) -> bool
-    requires { HeaderFits (edition_of edition) f.now }
-    ensures { Decides (Good (by_rule edition wiped) f.now) result }
+pub fn all<E: Editioned>(f: &[u8], edition: E, wiped: bool) -> bool
+    requires { HeaderFits (E.rules edition) f.now }
+    ensures { Decides (Good (ruled wiped (E.rules edition)) f.now) result }
 {
+    let edition = edition.edition();
     if f.len() <= SMALLEST_FRAME {
         return with_map::<SMALLEST_MAP>(f, edition, wiped);
     }

@@ -1,7 +1,7 @@
 -- The root, the sweep, the lists and the sums together (WholeLaws). Assumes nothing.
 use mathlib.Core.Path.{refl}
 use native.Mathlib.Omega.{arith}
-use Rattle.model.specs.Edition.{edition_of}
+use Rattle.editions.specs.Rules.{rules_of}
 use Rattle.pieces.proofs.DecideLaws.{denied, refuted, passed}
 use Rattle.audit.proofs.RuleLaws.{rule_before}
 use Rattle.audit.proofs.WholeLaws.{whole_root, whole_unclean, whole_lists, whole_open, whole_good}
@@ -9,7 +9,7 @@ use Rattle.audit.proofs.whole.over.Goals as goal
 
 pub returns-in_default : goal.returns-in_default
 returns-in_default c =
-    let p = c.requires in denied (λ G. whole_root p.header c.data_start.ensures.0 c.slots_given.ensures.0 c.next_byte.ensures.0 c.root.ensures.0 p.fresh (refl, refl, refl) c.root-2.ensures c.in_default.is (rule_before c.args.wiped (edition_of c.args.edition) G))
+    let p = c.requires in denied (λ G. whole_root p.header c.data_start.ensures.0 c.slots_given.ensures.0 c.next_byte.ensures.0 c.root.ensures.0 p.fresh (refl, refl, refl) c.root-2.ensures c.in_default.is (rule_before c.args.wiped (rules_of c.args.edition) G))
 
 pub returns-then-not-unmarked : goal.returns-then-not-unmarked
 returns-then-not-unmarked c =
@@ -20,7 +20,7 @@ lists-requires-clause-tally c = (c.root-2.ensures.holds _ c.in-Some.is).tally
 
 pub returns-in_default-lists : goal.returns-in_default-lists
 returns-in_default-lists c =
-    let p = c.requires in denied (λ G. whole_lists p.header c.data_start.ensures.0 c.slots_given.ensures.0 c.next_byte.ensures.0 c.root.ensures.0 p.fresh (refl, refl, refl) (c.root-2.ensures.holds _ c.in-Some.is) c.lists.ensures c.in_default-lists.is (rule_before c.args.wiped (edition_of c.args.edition) G))
+    let p = c.requires in denied (λ G. whole_lists p.header c.data_start.ensures.0 c.slots_given.ensures.0 c.next_byte.ensures.0 c.root.ensures.0 p.fresh (refl, refl, refl) (c.root-2.ensures.holds _ c.in-Some.is) c.lists.ensures c.in_default-lists.is (rule_before c.args.wiped (rules_of c.args.edition) G))
 
 pub closes-requires : goal.closes-requires
 closes-requires c =
@@ -33,5 +33,5 @@ returns c =
     let J = c.lists.ensures.holds _ c.in-Some-lists.is in
     let C = c.closes.ensures in record {
       holds = λ e. whole_good p.header c.data_start.ensures.0 c.slots_given.ensures.0 c.next_byte.ensures.0 c.root.ensures.0 p.fresh (refl, refl, refl) K J c.args.wiped (passed c.unmarked.ensures c.if-not-unmarked.false-raw) (C.holds e);
-      fails = λ e G. whole_open p.header c.data_start.ensures.0 c.slots_given.ensures.0 c.next_byte.ensures.0 c.root.ensures.0 p.fresh (refl, refl, refl) K J (C.fails e) (rule_before c.args.wiped (edition_of c.args.edition) G);
+      fails = λ e G. whole_open p.header c.data_start.ensures.0 c.slots_given.ensures.0 c.next_byte.ensures.0 c.root.ensures.0 p.fresh (refl, refl, refl) K J (C.fails e) (rule_before c.args.wiped (rules_of c.args.edition) G);
     }
