@@ -1,120 +1,82 @@
 // Which command a line is, its newline left out.
-ghost use Rattle.std.specs.Prelude.{◌≡◌, List, ℕ};
-ghost use Rattle.lines.specs.Line.{Inside, part_of, numbers as Line·numbers, bare as Line·bare, one_field, two_fields, Parsed, said};
+ghost use Rattle.std.specs.Prelude.{◌≡◌};
+ghost use Rattle.lines.specs.Line.{numbers as Line·numbers, bare as Line·bare, one_field, two_fields, meant, said};
 
 use crate::find::find;
-use crate::number::{Number, read};
+use crate::number::read;
 
-// The bytes of a line from `from` up to, not including, `to`.
-#[derive(Clone, Copy)]
-pub struct Part {
-    pub from: usize,
-    pub to: usize,
-}
-
-impl Part {
-    pub fn of(self, line: &[u8]) -> &[u8]
-        requires { Inside line.now self }
-        ensures { result.now ≡ part_of line.now self }
-    {
-        let from = self.from;
-        let to = self.to;
-        &line[from..to]
-    }
-}
-
-#[derive(Clone, Copy)]
-pub enum Command {
+// A key and a value are parts of the line.
+#[derive(Clone, Copy, Debug, PartialEq, Eq)]
+pub enum Command<'a> {
     // f F N
     Format(usize, usize),
     // p key value
-    Put(Part, Part),
+    Put(&'a [u8], &'a [u8]),
     // g key
-    Get(Part),
+    Get(&'a [u8]),
     // e key
-    Erase(Part),
+    Erase(&'a [u8]),
     // k
     Pack,
-    Unknown,
 }
 
-const SPACE: u8 = 32;
+const SPACE: u8 = b' ';
 
 // A letter and nothing more.
-fn bare(letter: u8) -> Command
-    ensures { (l : List ℕ) → Parsed l (Line·bare letter) result }
+fn bare<'a>(letter: u8) -> Option<Command<'a>>
+    ensures { meant result ≡ Line·bare letter }
 {
     match letter {
-        b'k' => Command::Pack,
-        _ => Command::Unknown,
+        b'k' => Some(Command::Pack),
+        _ => None,
     }
 }
 
 // A letter and one field.
-fn one_field(letter: u8, key: Part) -> Command
-    ensures { (l : List ℕ) → Inside l key → Parsed l (one_field letter (part_of l key)) result }
+fn one_field<'a>(letter: u8, key: &'a [u8]) -> Option<Command<'a>>
+    ensures { meant result ≡ one_field letter key.now }
 {
     match letter {
-        b'g' => Command::Get(key),
-        b'e' => Command::Erase(key),
-        _ => Command::Unknown,
+        b'g' => Some(Command::Get(key)),
+        b'e' => Some(Command::Erase(key)),
+        _ => None,
     }
 }
 
-fn numbers(f: Number, n: Number) -> Command
-    ensures { (l : List ℕ) → Parsed l (Line·numbers f n) result }
+fn numbers<'a>(f: Option<usize>, n: Option<usize>) -> Option<Command<'a>>
+    ensures { meant result ≡ Line·numbers f n }
 {
-    let Number::Is(f) = f else {
-        return Command::Unknown;
-    };
-    let Number::Is(n) = n else {
-        return Command::Unknown;
-    };
-    Command::Format(f, n)
+    Some(Command::Format(f?, n?))
 }
 
 // A letter and two fields.
-fn two_fields(line: &[u8], letter: u8, first: Part, second: Part) -> Command
-    requires { Inside line.now first × Inside line.now second }
-    ensures { Parsed line.now (two_fields letter (part_of line.now first) (part_of line.now second)) result }
+fn two_fields<'a>(letter: u8, first: &'a [u8], second: &'a [u8]) -> Option<Command<'a>>
+    ensures { meant result ≡ two_fields letter first.now second.now }
 {
     match letter {
-        b'p' => Command::Put(first, second),
-        b'f' => numbers(read(first.of(line)), read(second.of(line))),
-        _ => Command::Unknown,
+        b'p' => Some(Command::Put(first, second)),
+        b'f' => numbers(read(first), read(second)),
+        _ => None,
     }
 }
 
-pub fn parse(line: &[u8]) -> Command
-    ensures { Parsed line.now (said line.now) result }
+// None where a line is no command.
+pub fn parse(line: &[u8]) -> Option<Command>
+    ensures { meant result ≡ said line.now }
 {
-    let n = line.len();
-    if n < 1 {
-        return Command::Unknown;
-    }
-    let letter = line[0];
-    if n == 1 {
+    let (&letter, rest) = line.split_first()?;
+    let Some((&space, fields)) = rest.split_first() else {
         return bare(letter);
+    };
+    if space != SPACE {
+        return None;
     }
-    if line[1] != SPACE {
-        return Command::Unknown;
+    let Some(end) = find(fields, SPACE) else {
+        return one_field(letter, fields);
+    };
+    let second = &fields[end + 1..];
+    if find(second, SPACE).is_some() {
+        return None;
     }
-    let first = find(line, 2, SPACE);
-    let key = Part { from: 2, to: first };
-    if first == n {
-        return one_field(letter, key);
-    }
-    let second = find(line, first + 1, SPACE);
-    if second < n {
-        return Command::Unknown;
-    }
-    two_fields(
-        line,
-        letter,
-        key,
-        Part {
-            from: first + 1,
-            to: second,
-        },
-    )
+    two_fields(letter, &fields[..end], second)
 }
