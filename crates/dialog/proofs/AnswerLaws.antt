@@ -3,6 +3,7 @@ use Prim.Native.Nat.{ℕ, ◌<◌, ◌≤◌}
 use mathlib.Core.Path.{◌≡◌, refl, sym, ◌∙◌}
 use mathlib.Core.List.{List, ◌++◌}
 use native.Mathlib.Omega.{arith}
+use Rattle.std.specs.Prelude.{Option, Some}
 use lib.ListN.{length, take, drop, take-append-drop, length-take, length-drop}
 use lib.Seq.{take_at, length-take-le}
 use borrow.Author.Tests.{eq-eqb, ne_eqb}
@@ -27,7 +28,7 @@ good t e = t.good (λ h. absurd (omega arith)) (λ h. absurd (omega arith))
 pub back : (b ys : List ℕ) (F : ℕ) → F ≤ length b → length ys ≡ length (take F b) → take F (ys ++ drop F b) ≡ ys
 back b ys F g k = take_at ys (drop F b) F (k ∙ length-take-le F b g)
 
-module _ {E : Edition} (b ys : List ℕ) {long : ℕ} (F : ℕ) {N n : ℕ} {text : List ℕ} (says : text ≡ alone n) where
+module _ {E : Edition} (b ys : List ℕ) {long : Option ℕ} (F : ℕ) {N n : ℕ} {text : List ℕ} (says : text ≡ alone n) where
   pub above : 16384 < F → n ≡ 1 → Formats E b long F N b long text
   above h e =
       record {
@@ -40,7 +41,7 @@ module _ {E : Edition} (b ys : List ℕ) {long : ℕ} (F : ℕ) {N n : ℕ} {tex
       }
 
   module _ (h : F ≤ 16384) (g : F ≤ length b) (k : length ys ≡ length (take F b)) (p : FormatPromise E (take F b) F N n ys) where
-    pub formats : n ≡ 0 → Formats E b long F N (ys ++ drop F b) F text
+    pub formats : n ≡ 0 → Formats E b long F N (ys ++ drop F b) (Some F) text
     formats e =
         record {
           n = n;

@@ -1,6 +1,6 @@
 -- What a line does in the session, and the answer that is written (document 01, end of "Worked frames"). The frame in use is the
--- first `long` bytes of a buffer; there is none before the first `f` that is not refused, and `long` is then 0.
-use Rattle.std.specs.Prelude.{ℕ, ◌<◌, ◌≤◌, ◌≡◌, List, [], ◌∷◌, ◌++◌, cond, length, take, drop, eqb}
+-- first `long` bytes of a buffer; there is none before the first `f` that is not refused, and `long` is then None.
+use Rattle.std.specs.Prelude.{ℕ, ◌<◌, ◌≤◌, ◌≡◌, List, [], ◌∷◌, ◌++◌, Option, Some, None, cond, length, take, drop, eqb}
 use Rattle.layout.specs.Number.{le}
 use Rattle.layout.specs.Place.{at_b, at_u, at_r}
 use Rattle.model.specs.Edition.{Edition, unstamped}
@@ -40,12 +40,12 @@ abbrev pub with_counts : ℕ → ℕ → ℕ → List ℕ
 with_counts U B R = (48 ∷ []) ++ count U ++ count B ++ count R ++ (10 ∷ [])
 
 -- "F above 16,384 gives 1"; a refused `f` keeps the frame in use
-pub record Formats (E : Edition) (b : List ℕ) (long F N : ℕ) (b' : List ℕ) (long' : ℕ) (text : List ℕ) : Type 0 where
+pub record Formats (E : Edition) (b : List ℕ) (long : Option ℕ) (F N : ℕ) (b' : List ℕ) (long' : Option ℕ) (text : List ℕ) : Type 0 where
   pub n : ℕ
   pub says : text ≡ alone n
   pub above : 16384 < F → n ≡ 1
   pub call : F ≤ 16384 → FormatPromise E (take F b) F N n (take F b')
-  pub done : n ≡ 0 → long' ≡ F
+  pub done : n ≡ 0 → long' ≡ Some F
   pub refused : (n ≡ 0 → ⊥) → (long' ≡ long) × (b' ≡ b)
 
 -- `p` asks for replacement too: "0", and "9" where the key was there
@@ -89,12 +89,12 @@ Does E f pack f' text = Packs E f f' text
 Does E f unknown f' text = Asks f f' text
 
 -- "one before a successful `f` that isn't `f`, is answered `?`"
-pub record Goes (E : Edition) (b : List ℕ) (long : ℕ) (s : Said) (b' : List ℕ) (long' : ℕ) (text : List ℕ) : Type 0 where
-  pub none : long ≡ 0 → Asks b b' text
-  pub some : 0 < long → Does E (take long b) s (take long b') text
+pub record Goes (E : Edition) (b : List ℕ) (long : Option ℕ) (s : Said) (b' : List ℕ) (long' : Option ℕ) (text : List ℕ) : Type 0 where
+  pub none : long ≡ None → Asks b b' text
+  pub some : (n : ℕ) → long ≡ Some n → Does E (take n b) s (take n b') text
   pub same : long' ≡ long
 
-abbrev pub Steps : Edition → List ℕ → ℕ → Said → List ℕ → ℕ → List ℕ → Type 0
+abbrev pub Steps : Edition → List ℕ → Option ℕ → Said → List ℕ → Option ℕ → List ℕ → Type 0
 Steps E b long (format F N) b' long' text = Formats E b long F N b' long' text
 Steps E b long (put k v) b' long' text = Goes E b long (put k v) b' long' text
 Steps E b long (get k) b' long' text = Goes E b long (get k) b' long' text
@@ -103,6 +103,6 @@ Steps E b long pack b' long' text = Goes E b long pack b' long' text
 Steps E b long unknown b' long' text = Goes E b long unknown b' long' text
 
 -- "one over 1,024 bytes before its newline .. is answered `?`"; any other does what it says
-pub record Replies (E : Edition) (b : List ℕ) (long : ℕ) (line b' : List ℕ) (long' : ℕ) (text : List ℕ) : Type 0 where
+pub record Replies (E : Edition) (b : List ℕ) (long : Option ℕ) (line b' : List ℕ) (long' : Option ℕ) (text : List ℕ) : Type 0 where
   pub over : 1024 < length line → Asks b b' text × (long' ≡ long)
   pub steps : length line ≤ 1024 → Steps E b long (said line) b' long' text

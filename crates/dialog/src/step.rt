@@ -1,15 +1,16 @@
 // One line of the session: the command that it is, carried out on the frame in use, and the answer to write.
 ghost use Rattle.std.specs.Prelude.{◌≡◌, List, ℕ, ◌+◌, ◌≤◌, length as List·length};
+ghost use Rattle.std.specs.Option.{ForSome};
 ghost use Rattle.model.specs.Edition.{edition_of};
-ghost use Rattle.lines.specs.Input.{Held};
-ghost use Rattle.lines.specs.Line.{Places, meant, said};
+ghost use Rattle.lines.specs.Input.{come, Held};
+ghost use Rattle.lines.specs.Line.{of_command, said};
 ghost use Rattle.lines.specs.Text.{Appended};
 ghost use Rattle.dialog.specs.Answer.{Wide, Answer, alone, question as Answer·question, count as Answer·count, with_counts, Formats, Puts, Gets, Erases, Packs, Does, Steps, Replies};
 
 use answers;
 use fields::header::Header;
 use lines::command::{Command, parse};
-use lines::input::MOST;
+use lines::input::Line;
 use lines::output::{append, append_number};
 use pack::pack;
 use store::erase::erase;
@@ -26,14 +27,6 @@ const NO_STAMP: usize = 0;
 // Bytes for one answer: a value of any frame, and what is written around it.
 pub const ANSWER: usize = 16640;
 
-// The frame in use is the first `long` bytes of the buffer; 0 before the first `f` that is not refused.
-#[derive(Clone, Copy)]
-pub struct Stepped {
-    pub long: usize,
-    // the bytes of the answer
-    pub written: usize,
-}
-
 pub fn question(out: &mut [u8]) -> usize
     requires { Wide out.old }
     ensures { Answer out.new result (λ t. t ≡ Answer·question) }
@@ -47,39 +40,6 @@ fn number(out: &mut [u8], n: u32) -> usize
 {
     let at = append_number(out, 0, n as u64);
     append(out, at, b"\n")
-}
-
-fn format_line(
-    buffer: &mut [u8],
-    long: usize,
-    length: usize,
-    capacity: usize,
-    out: &mut [u8],
-) -> Stepped
-    requires { Wide out.old × (16384 ≤ List·length buffer.old) }
-    ensures { Answer out.new result.written (λ t. Formats (edition_of 1) buffer.old long length capacity buffer.new result.long t) }
-{
-    if length > MOST_FRAME {
-        return Stepped {
-            long,
-            written: number(out, 1),
-        };
-    }
-    let n = answers::format_number(format(
-        &mut buffer[..length],
-        length,
-        capacity,
-        Header::FIRST_EDITION,
-    ));
-    let written = number(out, n);
-    if n == 0 {
-        Stepped {
-            long: length,
-            written,
-        }
-    } else {
-        Stepped { long, written }
-    }
 }
 
 // "The session program's `p` and every other caller that relied on replacement must ask for it."
@@ -157,60 +117,87 @@ fn pack_line(frame: &[u8], packed: &mut [u8], out: &mut [u8]) -> usize
 }
 
 // Any command but `f`.
-fn frame_line(
-    frame: &mut [u8],
-    packed: &mut [u8],
-    line: &[u8],
-    command: Command,
-    out: &mut [u8],
-) -> usize
-    requires { Wide out.old × (List·length packed.old ≡ List·length frame.old) × (List·length frame.old ≤ 16384) × Places line.now command }
-    ensures { Answer out.new result (λ t. Does (edition_of 1) frame.old (meant line.now command) frame.new t) }
+fn frame_line(frame: &mut [u8], packed: &mut [u8], command: Command, out: &mut [u8]) -> usize
+    requires { Wide out.old × (List·length packed.old ≡ List·length frame.old) × (List·length frame.old ≤ 16384) }
+    ensures { Answer out.new result (λ t. Does (edition_of 1) frame.old (of_command command.entry) frame.new t) }
 {
     match command {
-        Command::Put(key, value) => put_line(frame, key.of(line), value.of(line), out),
-        Command::Get(key) => get_line(frame, key.of(line), out),
-        Command::Erase(key) => erase_line(frame, key.of(line), out),
+        Command::Format(_, _) => question(out),
+        Command::Put(key, value) => put_line(frame, key, value, out),
+        Command::Get(key) => get_line(frame, key, out),
+        Command::Erase(key) => erase_line(frame, key, out),
         Command::Pack => pack_line(frame, packed, out),
-        _ => question(out),
     }
 }
 
-fn step(buffer: &mut [u8], long: usize, packed: &mut [u8], line: &[u8], out: &mut [u8]) -> Stepped
-    requires { Wide out.old × (16384 ≤ List·length buffer.old) × (16384 ≤ List·length packed.old) × (long ≤ 16384) }
-    ensures { Answer out.new result.written (λ t. Steps (edition_of 1) buffer.old long (said line.now) buffer.new result.long t) × (result.long ≤ 16384) }
-{
-    let command = parse(line);
-    if let Command::Format(length, capacity) = command {
-        return format_line(buffer, long, length, capacity, out);
-    }
-    if long == 0 {
-        return Stepped {
-            long,
-            written: question(out),
-        };
-    }
-    let written = frame_line(&mut buffer[..long], &mut packed[..long], line, command, out);
-    Stepped { long, written }
+// The frame in use is the first `long` bytes of the buffer; there is none before the first `f` that is not refused. `k` packs
+// into `packed`.
+#[derive(Drop)]
+pub struct Frames<'a> {
+    pub buffer: &'a mut [u8],
+    pub packed: &'a mut [u8],
+    pub long: Option<usize>,
+    ghost room: { 16384 ≤ List·length buffer.now },
+    ghost packing: { 16384 ≤ List·length packed.now },
+    ghost fits: { ForSome long (λ n. n ≤ 16384) },
 }
 
-// A line as it was gathered: `have` bytes of it stand in `held`, or it is too long and none does.
-pub fn reply(
-    buffer: &mut [u8],
-    long: usize,
-    packed: &mut [u8],
-    held: &[u8],
-    have: usize,
-    out: &mut [u8],
-) -> Stepped
-    requires { Wide out.old × (16384 ≤ List·length buffer.old) × (16384 ≤ List·length packed.old) × (1024 ≤ List·length held.now) × (long ≤ 16384) }
-    ensures { Answer out.new result.written (λ t. ((line : List ℕ) → Held line held.now have → Replies (edition_of 1) buffer.old long line buffer.new result.long t)) × (result.long ≤ 16384) }
-{
-    if have > MOST {
-        return Stepped {
-            long,
-            written: question(out),
-        };
+impl<'a> Frames<'a> {
+    fn format(&mut self, length: usize, capacity: usize, out: &mut [u8]) -> usize
+        requires { Wide out.old }
+        ensures same_buffer { self.new.buffer.ghost_name ≡ self.old.buffer.ghost_name }
+        ensures same_packed { self.new.packed.ghost_name ≡ self.old.packed.ghost_name }
+        ensures answer { Answer out.new result (λ t. Formats (edition_of 1) self.old.buffer.now self.old.long length capacity self.new.buffer.now self.new.long t) }
+    {
+        if length > MOST_FRAME {
+            return number(out, 1);
+        }
+        let n = answers::format_number(format(
+            &mut self.buffer[..length],
+            length,
+            capacity,
+            Header::FIRST_EDITION,
+        ));
+        if n != 0 {
+            return number(out, n);
+        }
+        self.long = Some(length);
+        number(out, 0)
     }
-    step(buffer, long, packed, &held[..have], out)
+
+    fn step(&mut self, line: &[u8], out: &mut [u8]) -> usize
+        requires { Wide out.old }
+        ensures same_buffer { self.new.buffer.ghost_name ≡ self.old.buffer.ghost_name }
+        ensures same_packed { self.new.packed.ghost_name ≡ self.old.packed.ghost_name }
+        ensures answer { Answer out.new result (λ t. Steps (edition_of 1) self.old.buffer.now self.old.long (said line.now) self.new.buffer.now self.new.long t) }
+    {
+        let Some(command) = parse(line) else {
+            return question(out);
+        };
+        if let Command::Format(length, capacity) = command {
+            return self.format(length, capacity, out);
+        }
+        let Some(long) = self.long else {
+            return question(out);
+        };
+        frame_line(
+            &mut self.buffer[..long],
+            &mut self.packed[..long],
+            command,
+            out,
+        )
+    }
+
+    // The reply to a line as it was gathered.
+    pub fn reply(&mut self, line: &Line, out: &mut [u8]) -> usize
+        requires { Wide out.old }
+        ensures same_buffer { self.new.buffer.ghost_name ≡ self.old.buffer.ghost_name }
+        ensures same_packed { self.new.packed.ghost_name ≡ self.old.packed.ghost_name }
+        ensures answer { Answer out.new result (λ t. ((l : List ℕ) → Held l line.now.held.now (come line.now.have) → Replies (edition_of 1) self.old.buffer.now self.old.long l self.new.buffer.now self.new.long t)) }
+    {
+        let Some(line) = line.bytes() else {
+            return question(out);
+        };
+        self.step(line, out)
+    }
 }
