@@ -147,6 +147,7 @@ impl<'a> Frames<'a> {
         requires { Wide out.old }
         ensures same_buffer { self.new.buffer.ghost_name ≡ self.old.buffer.ghost_name }
         ensures same_packed { self.new.packed.ghost_name ≡ self.old.packed.ghost_name }
+        ensures same_length { List·length self.new.buffer.now ≡ List·length self.old.buffer.now }
         ensures answer { Answer out.new result (λ t. Formats (edition_of 1) self.old.buffer.now self.old.long length capacity self.new.buffer.now self.new.long t) }
     {
         if length > MOST_FRAME {
@@ -169,6 +170,7 @@ impl<'a> Frames<'a> {
         requires { Wide out.old }
         ensures same_buffer { self.new.buffer.ghost_name ≡ self.old.buffer.ghost_name }
         ensures same_packed { self.new.packed.ghost_name ≡ self.old.packed.ghost_name }
+        ensures same_length { List·length self.new.buffer.now ≡ List·length self.old.buffer.now }
         ensures answer { Answer out.new result (λ t. Steps (edition_of 1) self.old.buffer.now self.old.long (said line.now) self.new.buffer.now self.new.long t) }
     {
         let Some(command) = parse(line) else {
@@ -193,6 +195,7 @@ impl<'a> Frames<'a> {
         requires { Wide out.old }
         ensures same_buffer { self.new.buffer.ghost_name ≡ self.old.buffer.ghost_name }
         ensures same_packed { self.new.packed.ghost_name ≡ self.old.packed.ghost_name }
+        ensures same_length { List·length self.new.buffer.now ≡ List·length self.old.buffer.now }
         ensures answer { Answer out.new result (λ t. ((l : List ℕ) → Held l line.now.held.now (come line.now.have) → Replies (edition_of 1) self.old.buffer.now self.old.long l self.new.buffer.now self.new.long t)) }
     {
         let Some(line) = line.bytes() else {

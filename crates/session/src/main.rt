@@ -5,13 +5,14 @@
 
 mod part;
 
-ghost use Rattle.std.specs.Prelude.{List, [], ℕ, ◌≤◌, length};
+ghost use Rattle.std.specs.Prelude.{◌≡◌, List, ℕ, ◌≤◌, length};
 ghost use Rattle.model.specs.Edition.{edition_of};
-ghost use Rattle.lines.specs.Input.{Held};
-ghost use Rattle.session.specs.Part.{Lent, Part};
+ghost use Rattle.lines.specs.Input.{come, Held};
+ghost use Rattle.dialog.specs.Answer.{Wide};
+ghost use Rattle.session.specs.Part.{Part};
 
-use dialog::step::MOST_FRAME;
-use lines::input::MOST;
+use dialog::step::{Frames, MOST_FRAME};
+use lines::input::{Line, MOST};
 use part::{answer_lines, end, greet};
 use std::io::Read;
 
@@ -20,13 +21,6 @@ const REPLIES: usize = 20480;
 
 // Bytes of a piece of the input.
 const PIECE: usize = 4096;
-
-// What is kept from piece to piece: the length of the frame in use, and how much of a line has come.
-#[derive(Clone, Copy)]
-struct Kept {
-    long: usize,
-    have: usize,
-}
 
 // Writes the bytes, as far as they can be written: nobody is there to be told that they cannot.
 fn write(rt: &HostRuntime, bytes: &[u8]) {
@@ -37,73 +31,58 @@ fn write(rt: &HostRuntime, bytes: &[u8]) {
 fn read(rt: &HostRuntime, piece: &mut [u8]) -> usize
     ensures { result ≤ length piece.new }
 {
-    match rt.stdin().read(piece) {
-        Ok(n) => n,
-        Err(_) => 0,
-    }
+    rt.stdin().read(piece).unwrap_or(0)
 }
 
 // Answers every line that ends in the piece.
 fn answer_piece(
     rt: &HostRuntime,
-    buffer: &mut [u8],
-    packed: &mut [u8],
-    held: &mut [u8],
+    frames: &mut Frames,
+    line: &mut Line,
     out: &mut [u8],
     piece: &[u8],
-    kept: Kept,
-) -> Kept
-    requires { Lent buffer.old packed.old held.old out.old × (kept.long ≤ 16384) }
-    ensures { (result.long ≤ 16384) × ((begun : List ℕ) → Held begun held.old kept.have → (text : List ℕ) × Part (edition_of 1) buffer.old kept.long begun piece.now buffer.new result.long held.new result.have text) }
+)
+    requires { Wide out.old }
+    ensures { (begun : List ℕ) → Held begun line.old.held.now (come line.old.have) → (text : List ℕ) × Part (edition_of 1) frames.old.buffer.now frames.old.long begun piece.now frames.new.buffer.now frames.new.long line.new.held.now (come line.new.have) text }
 {
-    let mut long = kept.long;
-    let mut have = kept.have;
-    let mut from = 0;
-    while from < piece.len() {
-        let done = answer_lines(buffer, packed, held, out, piece, from, long, have);
-        let written = done.written;
-        write(rt, &out[..written]);
-        long = done.long;
-        have = done.have;
-        from = done.next;
+    let mut rest = piece;
+    while rest.len() > 0 {
+        let answered = answer_lines(frames, line, out, rest);
+        write(rt, &out[..answered.written]);
+        rest = answered.rest;
     }
-    Kept { long, have }
 }
 
-// A proved loop has to end, and nothing says that the input does. So the loop counts its turns down, from a number that no run uses up.
-fn answer_all(
-    rt: &HostRuntime,
-    buffer: &mut [u8],
-    packed: &mut [u8],
-    held: &mut [u8],
-    out: &mut [u8],
-) -> Kept
-    requires { Lent buffer.old packed.old held.old out.old }
-    ensures { (input : List ℕ) × (text : List ℕ) × Part (edition_of 1) buffer.old 0 [] input buffer.new result.long held.new result.have text }
+// A proved loop has to end, and nothing says that the input does: no run uses up these turns.
+fn answer_all(rt: &HostRuntime, frames: &mut Frames, line: &mut Line, out: &mut [u8])
+    requires { Wide out.old }
+    ensures { (begun : List ℕ) → Held begun line.old.held.now (come line.old.have) → (input : List ℕ) × (text : List ℕ) × Part (edition_of 1) frames.old.buffer.now frames.old.long begun input frames.new.buffer.now frames.new.long line.new.held.now (come line.new.have) text }
 {
-    let mut kept = Kept { long: 0, have: 0 };
-    let mut turns = u64::MAX;
-    while turns > 0 {
-        let mut piece = [0u8; PIECE];
+    for _ in 0..u64::MAX {
+        let mut piece = [0; PIECE];
         let n = read(rt, &mut piece);
         if n == 0 {
             break;
         }
-        kept = answer_piece(rt, buffer, packed, held, out, &piece[..n], kept);
-        turns -= 1;
+        answer_piece(rt, frames, line, out, &piece[..n]);
     }
-    kept
 }
 
 // The session, from the greeting to the end of standard input.
 fn main(rt: HostRuntime) {
-    let mut buffer = [0u8; MOST_FRAME];
-    let mut packed = [0u8; MOST_FRAME];
-    let mut held = [0u8; MOST];
-    let mut out = [0u8; REPLIES];
+    let mut buffer = [0; MOST_FRAME];
+    let mut packed = [0; MOST_FRAME];
+    let mut held = [0; MOST];
+    let mut out = [0; REPLIES];
+    let mut frames = Frames {
+        buffer: &mut buffer,
+        packed: &mut packed,
+        long: None,
+    };
+    let mut line = Line::new(&mut held);
     let greeted = greet(&mut out);
     write(&rt, &out[..greeted]);
-    let kept = answer_all(&rt, &mut buffer, &mut packed, &mut held, &mut out);
-    let ended = end(kept.have, &mut out);
+    answer_all(&rt, &mut frames, &mut line, &mut out);
+    let ended = end(&line, &mut out);
     write(&rt, &out[..ended]);
 }
