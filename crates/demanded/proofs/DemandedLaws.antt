@@ -18,23 +18,29 @@ use Rattle.model.proofs.TextLaws.{bytes_all}
 use Rattle.demands.specs.Words.{NotRefused, Holds, OfBytes}
 use Rattle.demands.proofs.DoneLaws.{good_frame, did, packed_of, packed_to}
 use Rattle.demands.proofs.Theorems.{faults, two, three}
-use Rattle.demanded.specs.declared.orders.Kind.{Kind}
-use Rattle.demanded.specs.declared.orders.Kind.TheVariants.{Put, Replace, Erase}
+use Rattle.demanded.specs.declared.change.Kind.{Kind}
+use Rattle.demanded.specs.declared.change.Kind.TheVariants.{Put, Replace, Erase}
+use Rattle.demanded.specs.declared.change.Change.{Change}
 use Rattle.demanded.specs.declared.orders.Given.{Given}
-use Rattle.demanded.specs.declared.orders.Orders.TheVariants.{Made}
+use Rattle.std.specs.Prelude.{Some}
 use Rattle.demanded.specs.declared.orders.Packs.{Packs}
 use Rattle.demanded.specs.declared.readings.InNew.{InNew}
 use Rattle.demanded.specs.declared.readings.InImage.{InImage}
 use Rattle.store.specs.Found.{found_in}
-use Rattle.demanded.specs.Orders.{call_of, InOrder, InBothOrders, Ordered, PackedBoth}
+use Rattle.store.specs.Write.{value_for}
+use Rattle.store.proofs.PutCallLaws.{stamp_held}
+use Rattle.demanded.specs.Orders.{call_at, call_of, InOrder, InBothOrders, Ordered, PackedBoth}
 use Rattle.demanded.specs.Readings.{ReadInNew, ReadInImage}
 
 -- ---- demand 3
 
-pub of_bytes : (E : Edition) (e : Kind) (k : List ℕ) (v : Value) → Bytes k → Bytes (text_of v) → v.stamp < E.stamps → OfBytes E (call_of e k v)
-of_bytes E Put k v bk bv held = (bytes_all k bk, (bytes_all (text_of v) bv, held))
-of_bytes E Replace k v bk bv held = (bytes_all k bk, (bytes_all (text_of v) bv, held))
-of_bytes E Erase k v bk bv held = bytes_all k bk
+pub of_bytes : (ed : ℕ) (c : Change) → OfBytes (edition_of ed) (call_of (edition_of ed) c)
+of_bytes ed c = at c.kind
+  where
+    at : (e : Kind) → OfBytes (edition_of ed) (call_at e c.key.now (value_for (edition_of ed) c.value.now c.stamp))
+    at Put = (bytes_all c.key.now c.bytes.0, (bytes_all c.value.now c.bytes.1, stamp_held ed c.stamp))
+    at Replace = (bytes_all c.key.now c.bytes.0, (bytes_all c.value.now c.bytes.1, stamp_held ed c.stamp))
+    at Erase = bytes_all c.key.now c.bytes.0
 
 -- a copy of all the bytes
 pub copied : (f g : List ℕ) → length g ≡ length f → take (length f) f ++ drop (length f) g ≡ f
@@ -50,11 +56,10 @@ in_both_orders ed {f} {o} {p} {f'} {o'} {g'} {p'} {c} {d} {x} {y} bc bd F B = re
 }
 
 -- h is the copy
-module _ (ed : ℕ) (e : Kind) (k : List ℕ) (v : Value) (bk : Bytes k) (bv : Bytes (text_of v)) (held : v.stamp < (edition_of ed).stamps) (e' : Kind) (k' : List ℕ) (v' : Value) (bk' : Bytes k') (bv' : Bytes (text_of v')) (held' : v'.stamp < (edition_of ed).stamps) where
-  pub ordered : (g : List ℕ) {f o h p f' o' g' p' : List ℕ} {x y : Given} → length g ≡ length f → h ≡ take (length f) f ++ drop (length f) g → InOrder (edition_of ed) f o (call_of e k v) (call_of e' k' v') x f' o' → InOrder (edition_of ed) h p (call_of e' k' v') (call_of e k v) y g' p'
-      → Ordered (edition_of ed) f o g p (call_of e k v) (call_of e' k' v') (Made x y) f' o' g' p'
-  ordered g {f} {p = p} {g' = g'} {p' = p'} {y = y} q z F B =
-      (q, in_both_orders ed (of_bytes (edition_of ed) e k v bk bv held) (of_bytes (edition_of ed) e' k' v' bk' bv' held') F (subst (λ (l : List ℕ). InOrder (edition_of ed) l p (call_of e' k' v') (call_of e k v) y g' p') (z ∙ copied f g q) B))
+pub ordered : (ed : ℕ) {c d : Call} → OfBytes (edition_of ed) c → OfBytes (edition_of ed) d → (g : List ℕ) {f o h p f' o' g' p' : List ℕ} {x y : Given} → length g ≡ length f → h ≡ take (length f) f ++ drop (length f) g
+    → InOrder (edition_of ed) f o c d x f' o' → InOrder (edition_of ed) h p d c y g' p' → Ordered (edition_of ed) f o g p c d (Some (x, y)) f' o' g' p'
+ordered ed {c} {d} bc bd g {f} {p = p} {g' = g'} {p' = p'} {y = y} q z F B =
+    (q, in_both_orders ed bc bd F (subst (λ (l : List ℕ). InOrder (edition_of ed) l p d c y g' p') (z ∙ copied f g q) B))
 
 pub packed_both : (ed : ℕ) {f o g p : List ℕ} {r : Packs} {o' p' : List ℕ} → PackPromise (edition_of ed) f o r.first o' → PackPromise (edition_of ed) g p r.second p' → PackedBoth (edition_of ed) f o g p r o' p'
 packed_both ed {f} {o} {g} {p} {r} {o'} {p'} F S =

@@ -9,7 +9,7 @@ use Rattle.demands.specs.Words.{OfBytes}
 use Rattle.demands.proofs.DoneLaws.{good_called}
 use Rattle.demands.proofs.Theorems as theorems
 use Rattle.demanded.specs.declared.sequences.Three.{Three}
-use Rattle.demanded.specs.declared.sequences.Rows.TheVariants.{Made}
+use Rattle.std.specs.Prelude.{Some}
 use Rattle.demanded.specs.Sequences.{numbers, InRow, InTwoOrders, InAnyOrder}
 use Rattle.demanded.proofs.DemandedLaws.{copied}
 
@@ -26,6 +26,6 @@ in_two_orders ed {f} {o} {p} {f'} {o'} {g'} {p'} {a} {b} {c} {x} {y} ba bb bc F 
 
 -- h is the copy
 pub in_any_order : (ed : ℕ) {a b c : Call} → OfBytes (edition_of ed) a → OfBytes (edition_of ed) b → OfBytes (edition_of ed) c → (g : List ℕ) {f o h p f' o' g' p' : List ℕ} {x y : Three} → length g ≡ length f → h ≡ take (length f) f ++ drop (length f) g
-    → InRow (edition_of ed) f o (a ∷ b ∷ c ∷ []) x f' o' → InRow (edition_of ed) h p (c ∷ a ∷ b ∷ []) y g' p' → InAnyOrder (edition_of ed) f o g p a b c (Made x y) f' o' g' p'
+    → InRow (edition_of ed) f o (a ∷ b ∷ c ∷ []) x f' o' → InRow (edition_of ed) h p (c ∷ a ∷ b ∷ []) y g' p' → InAnyOrder (edition_of ed) f o g p a b c (Some (x, y)) f' o' g' p'
 in_any_order ed {a} {b} {c} ba bb bc g {f} {p = p} {g' = g'} {p' = p'} {y = y} q z F B =
     (q, in_two_orders ed ba bb bc F (subst (λ (l : List ℕ). InRow (edition_of ed) l p (c ∷ a ∷ b ∷ []) y g' p') (z ∙ copied f g q) B))

@@ -1,22 +1,25 @@
 -- Demand 3 of calls that were made: which calls, by their own promises, and what is demanded of them. `f` and `o` are a lent frame and output
 -- at entry, `g` and `p` a second pair; `f'`, `o'`, `g'`, `p'` are they at exit.
-use Rattle.std.specs.Prelude.{ℕ, ◌≡◌, List, ◌↔◌, ◌≢◌, length}
+use Rattle.std.specs.Prelude.{ℕ, ◌≡◌, List, Option, Some, None, ◌↔◌, ◌≢◌, length}
 use Rattle.model.specs.Edition.{Edition, Value}
 use Rattle.model.specs.Records.{Record}
 use Rattle.model.specs.Promise.{PackPromise}
 use Rattle.model.specs.Call.{Call, put, replace, erase, key_of, Called}
 use Rattle.demands.specs.Words.{NotRefused, Holds, slots_of}
-use Rattle.demanded.specs.declared.orders.Kind.{Kind}
-use Rattle.demanded.specs.declared.orders.Kind.TheVariants.{Put, Replace, Erase}
+use Rattle.store.specs.Write.{value_for}
+use Rattle.demanded.specs.declared.change.Kind.{Kind}
+use Rattle.demanded.specs.declared.change.Kind.TheVariants.{Put, Replace, Erase}
+use Rattle.demanded.specs.declared.change.Change.{Change}
 use Rattle.demanded.specs.declared.orders.Given.{Given}
-use Rattle.demanded.specs.declared.orders.Orders.{Orders}
-use Rattle.demanded.specs.declared.orders.Orders.TheVariants.{Made, Uncopied}
 use Rattle.demanded.specs.declared.orders.Packs.{Packs}
 
-abbrev pub call_of : Kind → List ℕ → Value → Call
-call_of Put k v = put k v
-call_of Replace k v = replace k v
-call_of Erase k v = erase k
+abbrev pub call_at : Kind → List ℕ → Value → Call
+call_at Put k v = put k v
+call_at Replace k v = replace k v
+call_at Erase k v = erase k
+
+abbrev pub call_of : Edition → Change → Call
+call_of E c = call_at c.kind c.key.now (value_for E c.value.now c.stamp)
 
 -- c and then d were made on f, and what they left was packed
 pub record InOrder (E : Edition) (f o : List ℕ) (c d : Call) (r : Given) (f' o' : List ℕ) : Type 0 where
@@ -35,9 +38,9 @@ pub record InBothOrders (E : Edition) (f o p : List ℕ) (c d : Call) (x y : Giv
   pub same : key_of c ≢ key_of d → NoneRefused x → NoneRefused y → (x.first ≡ y.second) × (x.second ≡ y.first) × (o' ≡ p')
 
 -- a copy is made exactly if there are as many bytes for it; else nothing changes
-abbrev pub Ordered : Edition → (f o g p : List ℕ) → Call → Call → Orders → (f' o' g' p' : List ℕ) → Type 0
-Ordered E f o g p c d (Made x y) f' o' g' p' = (length g ≡ length f) × InBothOrders E f o p c d x y f' o' g' p'
-Ordered E f o g p c d Uncopied f' o' g' p' = (length g ≢ length f) × (f' ≡ f) × (o' ≡ o) × (g' ≡ g) × (p' ≡ p)
+abbrev pub Ordered : Edition → (f o g p : List ℕ) → Call → Call → Option (Given × Given) → (f' o' g' p' : List ℕ) → Type 0
+Ordered E f o g p c d (Some r) f' o' g' p' = (length g ≡ length f) × InBothOrders E f o p c d r.0 r.1 f' o' g' p'
+Ordered E f o g p c d None f' o' g' p' = (length g ≢ length f) × (f' ≡ f) × (o' ≡ o) × (g' ≡ g) × (p' ≡ p)
 
 pub record PackedBoth (E : Edition) (f o g p : List ℕ) (r : Packs) (o' p' : List ℕ) : Type 0 where
   pub first : PackPromise E f o r.first o'

@@ -1,6 +1,6 @@
 -- Any order (document 02, Q-14) of calls that were made: three on a frame, and on its copy the last of them first. `f` and `o` are a lent frame and
 -- output at entry, `g` and `p` a second pair; `f'`, `o'`, `g'`, `p'` are they at exit.
-use Rattle.std.specs.Prelude.{ℕ, ◌≡◌, List, [], ◌∷◌, ◌≢◌, length}
+use Rattle.std.specs.Prelude.{ℕ, ◌≡◌, List, [], ◌∷◌, Option, Some, None, ◌≢◌, length}
 use Rattle.model.specs.Edition.{Edition}
 use Rattle.model.specs.Promise.{PackPromise}
 use Rattle.model.specs.Call.{Call}
@@ -9,8 +9,6 @@ use Rattle.sequence.specs.Sequence.{SameCalls, SameAnswers}
 use Rattle.demands.specs.Words.{NotRefused}
 use Rattle.demands.specs.AnyOrder.{NoneRefused}
 use Rattle.demanded.specs.declared.sequences.Three.{Three}
-use Rattle.demanded.specs.declared.sequences.Rows.{Rows}
-use Rattle.demanded.specs.declared.sequences.Rows.TheVariants.{Made, Uncopied}
 
 abbrev pub numbers : Three → List ℕ
 numbers r = r.first ∷ r.second ∷ r.third ∷ []
@@ -27,6 +25,6 @@ pub record InTwoOrders (E : Edition) (f o p : List ℕ) (cs ds : List Call) (x y
   pub same : SameCalls cs ds → NoneRefused (numbers x) → NoneRefused (numbers y) → NotRefused x.packed → NotRefused y.packed → SameAnswers cs (numbers x) ds (numbers y) × (o' ≡ p')
 
 -- a copy is made exactly if there are as many bytes for it; else nothing changes
-abbrev pub InAnyOrder : Edition → (f o g p : List ℕ) → Call → Call → Call → Rows → (f' o' g' p' : List ℕ) → Type 0
-InAnyOrder E f o g p a b c (Made x y) f' o' g' p' = (length g ≡ length f) × InTwoOrders E f o p (a ∷ b ∷ c ∷ []) (c ∷ a ∷ b ∷ []) x y f' o' g' p'
-InAnyOrder E f o g p a b c Uncopied f' o' g' p' = (length g ≢ length f) × (f' ≡ f) × (o' ≡ o) × (g' ≡ g) × (p' ≡ p)
+abbrev pub InAnyOrder : Edition → (f o g p : List ℕ) → Call → Call → Call → Option (Three × Three) → (f' o' g' p' : List ℕ) → Type 0
+InAnyOrder E f o g p a b c (Some r) f' o' g' p' = (length g ≡ length f) × InTwoOrders E f o p (a ∷ b ∷ c ∷ []) (c ∷ a ∷ b ∷ []) r.0 r.1 f' o' g' p'
+InAnyOrder E f o g p a b c None f' o' g' p' = (length g ≢ length f) × (f' ≡ f) × (o' ≡ o) × (g' ≡ g) × (p' ≡ p)

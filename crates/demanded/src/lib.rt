@@ -3,6 +3,7 @@
 // promises can be met: a demand over a promise that no call keeps would not pass here.
 #![tactic(auto)]
 
+pub mod change;
 pub mod orders;
 pub mod readings;
 pub mod sequences;

@@ -8,5 +8,5 @@ use Rattle.demanded.proofs.readings.in_new.Goals as goal
 
 pub returns : goal.returns
 returns c =
-    let z = c.args in read_in_new _ z.key.now (value_for (edition_of z.edition) z.value.now z.stamp) (λ a. omega (arith, c.shared_slice_known-1.given a)) (λ a. omega (arith, c.shared_slice_known-2-1.given a)) (stamp_held z.edition z.stamp)
+    let z = c.args in read_in_new _ z.key.now (value_for (edition_of z.edition) z.value.now z.stamp) (λ a. omega (arith, c.type_inv.key a)) (λ a. omega (arith, c.type_inv.value a)) (stamp_held z.edition z.stamp)
     (rw (← c.format_number-formatted.ensures) at c.format.ensures) (rw (← c.put_number-given.ensures) at c.put.ensures) c.look_up-found.ensures
