@@ -8,9 +8,7 @@ use native.Mathlib.Omega.{arith}
 use native.Mathlib.Decide.{ℕ_discrete}
 use lib.ListN.{length}
 use borrow.Author.Tests.{eq-eqb, ne_eqb}
-use Rattle.layout.specs.declared.kind.Kind.{Kind}
-use Rattle.layout.specs.declared.kind.Kind.TheVariants as named
-use Rattle.layout.specs.Kind.{number_of, leaf_kind, prefix_kind, node4_kind}
+use Rattle.layout.specs.Kind.{leaf_kind, prefix_kind, node4_kind}
 use Rattle.layout.specs.Entry.{high_of}
 use Rattle.model.specs.Edition.{Edition}
 use Rattle.model.specs.State.{State, room, erase_change}
@@ -96,16 +94,16 @@ module _ {f : List ℕ} {o b : ℕ} (C : Couple f o b) where
 
 -- ---- the entry of a child
 
-told : (E : Edition) (f path : List ℕ) (u : Lay) (l : Lone) → Tree E f path u → slot_of u ≡ l.child → number_of l.kind ≡ high_of f l.child → Told l u
-told E f path (leaf n o e k v) l T es ek =
-    let q : number_of l.kind ≡ leaf_kind = ek ∙ ap (high_of f) (sym es) ∙ (leaf_parts E f path n o e k v T).0.kind_is in
+told : (E : Edition) (f path : List ℕ) (u : Lay) (c : ℕ) → Tree E f path u → slot_of u ≡ c → Told (high_of f c) u
+told E f path (leaf n o e k v) c T es =
+    let q : high_of f c ≡ leaf_kind = ap (high_of f) (sym es) ∙ (leaf_parts E f path n o e k v T).0.kind_is in
     record { as_leaf = λ z. tt; other = λ z. absurd (z q) }
-told E f path (prefix n o p t) l T es ek =
-    let q : number_of l.kind ≡ prefix_kind = ek ∙ ap (high_of f) (sym es) ∙ (prefix_parts E f path n o p t T).0.kind_is in
+told E f path (prefix n o p t) c T es =
+    let q : high_of f c ≡ prefix_kind = ap (high_of f) (sym es) ∙ (prefix_parts E f path n o p t T).0.kind_is in
     record { as_leaf = λ z. absurd (omega arith); other = λ z. tt }
-told E f path (node n o kind ks) l T es ek =
+told E f path (node n o kind ks) c T es =
     let P = node_parts E f path n o kind ks T in
-    let q : number_of l.kind ≡ kind = ek ∙ ap (high_of f) (sym es) ∙ P.0.kind_is in
+    let q : high_of f c ≡ kind = ap (high_of f) (sym es) ∙ P.0.kind_is in
     let r = P.1.inner.range in
     record { as_leaf = λ z. absurd (omega arith); other = λ z. tt }
 
@@ -147,8 +145,8 @@ module _ {E : Edition} {f k : List ℕ} {p : Spot} (P : Pair E f k p) where
       }
 
   -- what is read
-  abbrev lone_of : ℕ → ℕ → Kind → Lone
-  lone_of b c kind = record { node = p.node.slot; leaf = p.here.slot; at = p.here.place; byte = b; child = c; kind = kind }
+  abbrev lone_of : ℕ → ℕ → Lone
+  lone_of b c = record { node = p.node.slot; leaf = p.here.slot; at = p.here.place; byte = b; child = c }
 
   module _ {b c : ℕ} (O : Other f p.node.place p.byte b c) where
     one_pair : ◌≡◌ {A = List (ℕ × ℕ)} ((left_one.byte, slot_of left_one.child) ∷ []) ((b, c) ∷ [])
@@ -164,8 +162,8 @@ module _ {E : Edition} {f k : List ℕ} {p : Spot} (P : Pair E f k p) where
     whole_is : P.at.lay ≡ plug (held P.at).steps (node p.node.slot p.node.place node4_kind (kids P.at s P.at.stands))
     whole_is = (held P.at).is ∙ ap (λ z. plug (held P.at).steps (node p.node.slot p.node.place z (kids P.at s P.at.stands))) P.kind
 
-    pair_site : (kind : Kind) → Site E k P.at.stands.root (held P.at).steps (lone_of b c kind) left_one.child
-    pair_site kind =
+    pair_site : Site E k P.at.stands.root (held P.at).steps (lone_of b c) left_one.child
+    pair_site =
         let H = held P.at in
         record {
           node_at = p.node.place;
@@ -186,18 +184,19 @@ module _ {E : Edition} {f k : List ℕ} {p : Spot} (P : Pair E f k p) where
 
     -- the child's entry
     pub child_entry : Entered f c
-    child_entry = entered_at (child_stood P.at.stands (pair_site named.Leaf)) slot_is
+    child_entry = entered_at (child_stood P.at.stands pair_site) slot_is
 
-    pub pair_read : {kind : Kind} → number_of kind ≡ high_of f c → AtSpot E f k p (lone_of b c kind)
+    pub pair_read : AtSpot E f k p (lone_of b c)
     unfolding pair_site
-    pair_read {kind} ek =
+    pair_read =
         let H = held P.at in
-        let S = pair_site kind in
+        let S = pair_site in
         let q = path_of H.steps ++ b ∷ [] in
         record {
           steps = H.steps;
           child = left_one.child;
-          is = told E f q left_one.child (lone_of b c kind) (forest_first E f q left_one.child (beside S) (site_open P.at.stands S).trees).0 slot_is ek;
+          entered = child_entry;
+          is = told E f q left_one.child c (forest_first E f q left_one.child (beside S) (site_open P.at.stands S).trees).0 slot_is;
           ready = record { lawful = P.at.lawful; some = P.at.some; st = s; stands = P.at.stands; site = S; room = subst (λ (z : Lay). room s (erase_change E (art z) k) ≡ true) whole_is P.at.room };
           link_is = H.link;
           top = H.top;
@@ -217,7 +216,7 @@ module _ {E : Edition} {f k : List ℕ} {p : Spot} {l : Lone} (A : AtSpot E f k 
   pub above_of : Above f p.above
   above_of n = let P = above_at (capped_of {Q = λ u. Unit {0}} tt n) in (P.room, omega (arith, P.long, P.most))
 
-  module _ (kind : number_of l.kind ≡ leaf_kind) where
+  module _ (kind : high_of f l.child ≡ leaf_kind) where
     pub leaf_bare : p.above.slot ≡ 0 → Bare E NotUnder IsLeaf f k l p.node.link
     leaf_bare e = record { steps = A.steps; child = A.child; is = A.is.as_leaf kind; ready = A.ready; free = A.top.without e; link_is = A.link_is }
 
@@ -236,7 +235,7 @@ module _ {E : Edition} {f k : List ℕ} {p : Spot} {l : Lone} (A : AtSpot E f k 
           link_is = R.link;
         }
 
-  module _ {n : ℕ} (kind : number_of l.kind ≡ leaf_kind → ⊥) (H : HasRoom f p.above n) where
+  module _ {n : ℕ} (kind : high_of f l.child ≡ leaf_kind → ⊥) (H : HasRoom f p.above n) where
     none_full : (xs : List Step) → NotUnder xs → Full xs
     none_full [] u = tt
     none_full (under s o q ∷ xs) u = absurd u

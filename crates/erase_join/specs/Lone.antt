@@ -3,7 +3,8 @@ use Rattle.std.specs.Prelude.{ℕ, ◌+◌, ◌-◌, ◌<◌, ◌≤◌, ◌≡�
 use Rattle.std.proofs.Math.Option.{some}
 use Rattle.layout.specs.Number.{le}
 use Rattle.layout.specs.Place.{prefix_length, prefix_most}
-use Rattle.layout.specs.Kind.{number_of, leaf_kind, node4_kind}
+use Rattle.layout.specs.Kind.{leaf_kind, node4_kind}
+use Rattle.layout.specs.Entry.{high_of}
 use Rattle.model.specs.Edition.{Edition, Lawful, Value}
 use Rattle.model.specs.State.{State, erase_change}
 use Rattle.model.specs.State as state
@@ -14,6 +15,7 @@ use Rattle.model.specs.Frame.LayKids.{nil, kid}
 use Rattle.model.specs.Touch.{has_byte}
 use Rattle.between.specs.Hole.{app, Step, under, among, plug, Link}
 use Rattle.between.specs.Lead.{Leads, NotUnder, NotLeaf}
+use Rattle.chain.specs.Row.{Entered}
 use Rattle.descent.specs.declared.spot.Body.{Body}
 use Rattle.descent.specs.declared.spot.Spot.{Spot}
 use Rattle.descent.specs.Spot.{Prefixes, Topped}
@@ -26,10 +28,10 @@ IsLeaf (leaf s o e k v) = Unit {0}
 IsLeaf (prefix s o p t) = ⊥
 IsLeaf (node s o kind ks) = ⊥
 
--- what its entry, read into l, says
-pub record Told (l : Lone) (t : Lay) : Type 0 where
-  pub as_leaf : number_of l.kind ≡ leaf_kind → IsLeaf t
-  pub other : (number_of l.kind ≡ leaf_kind → ⊥) → NotLeaf t
+-- what the kind in its entry says
+pub record Told (kind : ℕ) (t : Lay) : Type 0 where
+  pub as_leaf : kind ≡ leaf_kind → IsLeaf t
+  pub other : (kind ≡ leaf_kind → ⊥) → NotLeaf t
 
 -- ---- the site
 
@@ -118,7 +120,8 @@ pub record Couple (f : List ℕ) (o b : ℕ) : Type 0 where
 pub record AtSpot (E : Edition) (f k : List ℕ) (p : Spot) (l : Lone) : Type 0 where
   pub steps : List Step
   pub child : Lay
-  pub is : Told l child
+  pub entered : Entered f l.child
+  pub is : Told (high_of f l.child) child
   pub ready : Ready E f k steps l child
   pub link_is : Link steps p.node.link
   pub top : Topped steps p.above p.first p.first_link

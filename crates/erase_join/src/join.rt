@@ -37,14 +37,12 @@ fn read(f: &[u8], key: &[u8], spot: Spot) -> Lone
     let node = spot.node;
     let here = spot.here;
     let other = other_child(f, node.place, spot.byte);
-    let entry = Entry::read(f, other.slot);
     Lone {
         node: node.slot,
         leaf: here.slot,
         at: here.place,
         byte: other.byte as u8,
         child: other.slot,
-        kind: entry.kind(),
     }
 }
 
@@ -67,7 +65,8 @@ pub fn join(f: &mut [u8], key: &[u8], spot: Spot)
     let l = read(f, key, spot);
     let node = spot.node;
     let above = spot.above;
-    if l.kind != Kind::Leaf {
+    let child = Entry::read(f, l.child);
+    if child.kind() != Kind::Leaf {
         if spare(f, above) == 0 {
             lone::up(f, key, l, node.link);
             return;

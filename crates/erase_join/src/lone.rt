@@ -7,7 +7,6 @@ ghost use Rattle.erase_join.specs.Lone.{IsLeaf, Full, Bare, UnderRun, Roomy};
 use crate::finish;
 use chain::shift;
 use descent::spot::Body;
-use layout::kind::Kind;
 use room::link;
 
 // A Node4 that loses its Leaf, and the child that is left.
@@ -17,10 +16,9 @@ pub struct Lone {
     // the Leaf's slot and the place of its body
     pub leaf: usize,
     pub at: usize,
-    // the child's byte, slot and kind
+    // the child's byte and slot
     pub byte: u8,
     pub child: usize,
-    pub kind: Kind,
 }
 
 // ---- a Leaf is left

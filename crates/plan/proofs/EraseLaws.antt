@@ -6,7 +6,6 @@ use mathlib.Core.Bool.{false}
 use native.Mathlib.Omega.{arith}
 use native.Mathlib.Decide.{ℕ_discrete}
 use lib.ListN.{length}
-use Rattle.layout.specs.declared.kind.Kind.TheVariants as named
 use Rattle.layout.specs.Kind.{number_of, leaf_kind, prefix_kind, node4_kind, fewest, shrink_mark, kind_down, Inner}
 use Rattle.layout.specs.Kind.Inner.{node4, node16, node48, node256}
 use Rattle.layout.specs.Entry.{high_of}
@@ -267,7 +266,7 @@ module _ {E : Edition} {f k : List ℕ} {st : State} {s : Spot} (W : Stands E f 
       one_pair = sym own_pair ∙ is
 
       abbrev lone : Lone
-      lone = record { node = s.node.slot; leaf = s.here.slot; at = s.here.place; byte = c; child = r; kind = named.Leaf }
+      lone = record { node = s.node.slot; leaf = s.here.slot; at = s.here.place; byte = c; child = r }
 
       abbrev pair : Lay
       pair = node s.node.slot s.node.place node4_kind kids
