@@ -8,7 +8,7 @@ use lib.ListN.{length}
 use Rattle.layout.specs.Kind.{most, number_of}
 use Rattle.model.specs.Strings.{pick}
 use Rattle.model.specs.Edition.{Edition, Value, text_of}
-use Rattle.model.specs.State.{State, Done, done, find_in, put_change, room, call_put, Write, new, replacing, either, call_write}
+use Rattle.model.specs.State.{State, Done, done, find_in, put_change, room, call_put, Write, new, replacing, call_write}
 use Rattle.model.specs.Records.{absent}
 use Rattle.model.specs.Body.{InnerAt}
 use Rattle.model.specs.Frame.{Lay, pairs, Tree, Stands}

@@ -6,21 +6,18 @@ use Rattle.put_core.proofs.add.Goals as goal
 pub count-requires : goal.count-requires
 count-requires c = (node_fits c.requires.holds).0
 
-pub most_children-requires : goal.most_children-requires
-most_children-requires c = (node_fits c.requires.holds).1
-
 pub add_child-requires : goal.add_child-requires
 add_child-requires c =
-    record { edition = c.requires.edition; holds = node_open c.requires.holds c.count.ensures.1 c.most_children.ensures (omega arith) }
+    record { edition = c.requires.edition; holds = node_open c.requires.holds c.count.ensures.1 c.most_children.ensures.value (omega arith) }
 
 pub returns-then-count-most_children : goal.returns-then-count-most_children
 returns-then-count-most_children c =
-    λ E A. c.add_child.ensures E (node_open A c.count.ensures.1 c.most_children.ensures (omega arith))
+    λ E A. c.add_child.ensures E (node_open A c.count.ensures.1 c.most_children.ensures.value (omega arith))
 
 pub grow-requires : goal.grow-requires
 grow-requires c =
-    record { edition = c.requires.edition; holds = node_full c.requires.holds c.count.ensures.1 c.most_children.ensures (λ z. omega arith) }
+    record { edition = c.requires.edition; holds = node_full c.requires.holds c.count.ensures.1 c.most_children.ensures.value (λ z. omega arith) }
 
 pub returns : goal.returns
 returns c =
-    λ E A. c.grow.ensures E (node_full A c.count.ensures.1 c.most_children.ensures (λ z. omega arith))
+    λ E A. c.grow.ensures E (node_full A c.count.ensures.1 c.most_children.ensures.value (λ z. omega arith))

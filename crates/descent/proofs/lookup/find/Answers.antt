@@ -2,9 +2,6 @@
 use Rattle.descent.proofs.LookLaws.{found_room, looked_none, looked_some}
 use Rattle.descent.proofs.lookup.find.Goals as goal
 
-pub spot_of-s-requires : goal.spot_of-s-requires
-spot_of-s-requires g c = rw c.edition.ensures c.requires
-
 pub extent-requires : goal.extent-requires
 extent-requires g c = found_room c.edition.ensures c.requires.0 c.spot_of-s.ensures c.in-Found.is
 

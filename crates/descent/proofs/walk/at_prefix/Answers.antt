@@ -1,17 +1,8 @@
 -- `at_prefix` ends at the Prefix or goes to its child: the part of the frame that is matched is its bytes. Assumes nothing.
-use mathlib.Core.Path.{ap, ◌∙◌}
-use native.Mathlib.Omega.{arith}
-use lib.ListN.{length}
-use Rattle.descent.proofs.SeatLaws.{prefix_part, prefix_few, prefix_shares}
+use mathlib.Core.Path.{◌∙◌}
+use Rattle.descent.proofs.SeatLaws.{prefix_part, prefix_shares}
 use Rattle.descent.proofs.StepLaws.{prefix_parted, prefix_below}
 use Rattle.descent.proofs.walk.at_prefix.Goals as goal
-
-pub bytes-requires : goal.bytes-requires
-bytes-requires c = prefix_few _ c.requires.holds c.length-n.result c.length-n.ensures.0
-
-pub matched-q-requires : goal.matched-q-requires
-matched-q-requires c =
-    let A = c.requires.holds in let n = c.length-n in omega (arith, A.short, A.lawful.fields.words, ap length (c.bytes.ensures ∙ prefix_part _ A n.result n.ensures.0))
 
 pub returns-then-q-n : goal.returns-then-q-n
 returns-then-q-n c = λ E k A.

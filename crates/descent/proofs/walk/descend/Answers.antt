@@ -1,16 +1,11 @@
 -- `descend`: the invariant is the way so far, the measure what is left of the bytes that a path can have. Assumes nothing.
 use mathlib.Core.Path.{◌≡◌, sym, ap, ◌∙◌}
-use native.Mathlib.Omega.{arith}
 use Rattle.std.proofs.Common.{rules}
 use Rattle.layout.specs.Kind.{number_of}
 use Rattle.layout.specs.declared.kind.Kind.TheVariants as kinds
 use Rattle.descent.proofs.SeatLaws.{not_empty}
-use Rattle.descent.specs.declared.spot.Spot.{Spot}
-use Rattle.descent.proofs.RootLaws.{header_room, root_entry, root_kind, start_going, start_empty, ended_spot}
+use Rattle.descent.proofs.RootLaws.{root_entry, root_kind, start_going, start_empty, ended_spot}
 use Rattle.descent.proofs.walk.descend.Goals as goal
-
-pub root-slot-requires : goal.root-slot-requires
-root-slot-requires c = header_room _ c.requires.0
 
 pub read-e-requires : goal.read-e-requires
 read-e-requires c = root_entry _ c.requires.0 c.root-slot.result c.root-slot.ensures.0
@@ -21,9 +16,6 @@ kind-requires-clause-low c = (root_kind _ c.requires.0 c.root-slot.ensures.0 c.r
 pub kind-requires-clause-high : goal.kind-requires-clause-high
 kind-requires-clause-high c = (root_kind _ c.requires.0 c.root-slot.ensures.0 c.read-e.ensures.0).1
 
-pub ended-requires : goal.ended-requires
-ended-requires c = let e : c.start-s.result.visited ≡ 0 = ap (λ (z : Spot). z.visited) c.start-s.ensures in omega arith
-
 pub returns-then-eq : goal.returns-then-eq
 returns-then-eq c =
     let r = c.root-slot in let e = c.read-e in let q : c.kind.result ≡ kinds.EmptyRoot = search rules in rw (c.ended.ensures, c.start-s.ensures) (start_empty _ c.args.key.now c.requires.0 r.result r.ensures.0 e.result.place (sym (ap number_of (sym q) ∙ c.kind.ensures ∙ e.ensures.0)) e.ensures.1)
@@ -32,14 +24,8 @@ pub loop-s-init : goal.loop-s-init
 loop-s-init c =
     let r = c.root-slot in let e = c.read-e in let n : c.kind.result ≡ kinds.EmptyRoot → ⊥ = search rules in rw c.start-s.ensures (start_going _ c.args.key.now c.requires.0 r.result r.ensures.0 (λ q. not_empty _ n (c.kind.ensures ∙ e.ensures.0 ∙ q)))
 
-pub step-s-requires : goal.step-s-requires
-step-s-requires c = (c.loop-s.invariant, c.requires.1)
-
 pub returns-in_default : goal.returns-in_default
 returns-in_default c = ended_spot _ (c.step-s.ensures.ends c.in_default.not-Going)
-
-pub loop-s-smaller : goal.loop-s-smaller
-loop-s-smaller c = let d = c.step-s.ensures.goes c.in-Going.is in omega (arith, d.1, d.2)
 
 pub loop-s-preserved : goal.loop-s-preserved
 loop-s-preserved c = (c.step-s.ensures.goes c.in-Going.is).0
