@@ -17,6 +17,7 @@ pub fn shrink(f: &mut [u8], spot: Spot)
 {
     let node = spot.node;
     let here = spot.here;
+    // a Node4, which has no kind below, is joined
     let Some(smaller) = node.kind.down() else {
         unreachable!()
     };

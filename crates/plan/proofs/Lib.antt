@@ -1,3 +1,4 @@
+pub mod NoneLaws
 pub mod KidLaws
 pub mod RunLaws
 pub mod PutLaws

@@ -12,6 +12,7 @@ use room::fit::Needs;
 
 // "A Node4 that falls to one child is freed." Where no Prefix above has room, its byte joins in front of what is left: "need .. as many
 // Prefixes as the frame then has more".
+#[tactic(auto, using(crate::proofs::NoneLaws::none_small))]
 fn joining(f: &[u8], key: &[u8], spot: Spot) -> Needs
     requires { SomeEdition (λ E. PairFrom E f.now key.now spot) }
     ensures { (E : Edition) → PairFrom E f.now key.now spot → ErasePlan E f.now key.now spot result }
@@ -36,6 +37,7 @@ fn joining(f: &[u8], key: &[u8], spot: Spot) -> Needs
 
 // What an erase needs whose Leaf, where the descent ended, stands in an inner node: "A Node256 that falls to 37, a Node48 to 12, a
 // Node16 to 3 needs a body of the next smaller kind".
+#[tactic(auto, using(crate::proofs::NoneLaws::none_small))]
 pub fn erase_needs(f: &[u8], key: &[u8], spot: Spot) -> Needs
     requires { SomeEdition (λ E. EraseFrom E f.now key.now spot) }
     ensures { (E : Edition) → EraseFrom E f.now key.now spot → ErasePlan E f.now key.now spot result }

@@ -16,6 +16,7 @@ use layout::kind::Kind;
 use room::fit::Needs;
 
 // Two records part: a Node4, and n Prefixes.
+#[tactic(auto, using(crate::proofs::NoneLaws::none_small))]
 fn forking(n: usize) -> Needs
     requires { n < 65535 }
     ensures { Bodies result (fork_takes n) }
@@ -50,6 +51,7 @@ fn beginning(f: &[u8], o: usize) -> usize
 }
 
 // One more child: the next kind if the node is full. A full Node256 lacks no byte.
+#[tactic(auto, using(crate::proofs::NoneLaws::none_small))]
 fn growing(count: usize, kind: Kind) -> Needs
     requires { most (number_of kind) ≤ count → 1 ≤ kind_up (number_of kind) }
     ensures { Bodies result (grow_takes count (number_of kind)) }
@@ -85,6 +87,7 @@ fn replacing(new: usize, old: usize, extent: usize) -> Needs
 }
 
 // What a put needs whose descent ended at the spot.
+#[tactic(auto, using(crate::proofs::NoneLaws::none_small))]
 pub fn put_needs(f: &[u8], key: &[u8], value: &[u8], spot: Spot) -> Needs
     requires { SomeEdition (λ E. PutFrom E f.now key.now value.now spot) }
     ensures { Small result × ((E : Edition) → PutPlan E f.now key.now value.now spot result) }

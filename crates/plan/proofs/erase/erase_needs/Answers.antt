@@ -2,8 +2,6 @@
 use Prim.Native.Nat.{ℕ, ◌+◌}
 use mathlib.Core.Path.{sym, ap, ◌∙◌}
 use mathlib.Core.List.{[]}
-use native.Mathlib.Omega.{arith}
-use Rattle.room.proofs.FitLaws.{asks_small}
 use Rattle.plan.proofs.KidLaws.{down_none, down_some}
 use Rattle.plan.proofs.EraseLaws.{node_room, node_inner, plan_keeps, plan_falls, pair_from}
 use Rattle.plan.proofs.erase.erase_needs.Goals as goal
@@ -14,9 +12,6 @@ count-requires c = node_room c.requires.holds
 pub returns-then-count-shrink_mark : goal.returns-then-count-shrink_mark
 returns-then-count-shrink_mark c =
     let m = c.count in let u = c.shrink_mark.ensures.value in λ E P. plan_keeps P m.result m.ensures.1 (λ z. c.if-count-shrink_mark.true (z ∙ ap (λ (i : ℕ). i + 1) (sym u))) c.none-none.ensures
-
-pub with-requires : goal.with-requires
-with-requires c = asks_small c.none-none.ensures (omega arith) (omega arith)
 
 pub returns-in-Some : goal.returns-in-Some
 returns-in-Some c =

@@ -4,7 +4,6 @@ use mathlib.Core.List.{[]}
 use native.Mathlib.Omega.{arith}
 use Rattle.layout.specs.declared.kind.Kind.TheVariants as kind
 use Rattle.erase_join.proofs.KindTests.{kind_is, kind_is_not}
-use Rattle.room.proofs.FitLaws.{asks_small}
 use Rattle.plan.proofs.EraseLaws.{plan_above, plan_under, couple, other_entry, plan_leaf, plan_run, plan_room, plan_more}
 use Rattle.plan.proofs.erase.joining.Goals as goal
 
@@ -41,9 +40,6 @@ left_of-requires c = c.long.ensures.1
 pub returns-then-left_of-ne0 : goal.returns-then-left_of-ne0
 returns-then-left_of-ne0 c =
     let o = c.other_child-other in λ E P. plan_room P o.result.byte o.result.slot o.ensures.1 c.spare.ensures c.read-entry.ensures.0 c.if-spare-ne0.false (kind_is_not _ kind.Leaf c.eq.ensures c.if-eq.false c.kind.ensures refl) c.long.ensures.0 (λ z. c.if-left_of-ne0.true (c.left_of.ensures ∙ z)) c.none-none.ensures
-
-pub with-requires : goal.with-requires
-with-requires c = asks_small c.none-none.ensures (omega arith) (omega arith)
 
 pub returns : goal.returns
 returns c =

@@ -1,13 +1,8 @@
 -- `forking` needs a Node4, and the Prefixes. Assumes nothing.
 use mathlib.Core.Path.{refl}
 use mathlib.Core.List.{[]}
-use native.Mathlib.Omega.{arith}
-use Rattle.room.proofs.FitLaws.{asks_small}
 use Rattle.plan.proofs.PutLaws.{fork_many}
 use Rattle.plan.proofs.put.forking.Goals as goal
-
-pub with-next-requires : goal.with-next-requires
-with-next-requires c = asks_small c.none-none.ensures (omega arith) (omega arith)
 
 pub returns : goal.returns
 returns c =

@@ -2,16 +2,12 @@
 use mathlib.Core.List.{[]}
 use native.Mathlib.Omega.{arith}
 use Rattle.layout.specs.Kind.{number_of}
-use Rattle.room.proofs.FitLaws.{asks_small}
 use Rattle.plan.proofs.PutLaws.{grow_stays, grow_up}
 use Rattle.plan.proofs.put.growing.Goals as goal
 
 pub returns-then-count-most_children : goal.returns-then-count-most_children
 returns-then-count-most_children c =
     let t = c.if-count-most_children.true in let m = c.most_children.ensures.value in grow_stays c.args.count (number_of c.args.kind) (omega arith) c.none-none.ensures
-
-pub with-requires : goal.with-requires
-with-requires c = asks_small c.none-none.ensures (omega arith) (omega arith)
 
 pub returns-in-Some : goal.returns-in-Some
 returns-in-Some c =

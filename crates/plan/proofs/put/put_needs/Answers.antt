@@ -6,7 +6,6 @@ use lib.ListN.{length}
 use lib.Dec.{eqb}
 use Rattle.layout.specs.Kind.{number_of}
 use Rattle.model.specs.Tree.{up8}
-use Rattle.room.proofs.FitLaws.{asks_small}
 use Rattle.plan.specs.Plan.{fork_takes, grow_takes}
 use Rattle.plan.proofs.PutLaws.{sized, sized_if, small_found, small_new, fork_few, grow_few, asks_empty, asks_found, asks_other, asks_missing, asks_parted, size_fits, extent_fits, leaf_room, node_room, node_grows, other_short, beginning_at, cut_fits, cut_few, last_end}
 use Rattle.plan.proofs.put.put_needs.Goals as goal
@@ -23,9 +22,6 @@ returns-in-Found c =
       small_found (eqb (length v) old.result) c.rounded-extent.result c.replacing.ensures (extent_fits c.requires.holds c.rounded-extent.ensures),
       λ E st W S t. asks_found W S (record { bytes = v; stamp = t }) old.result c.in-Found.is old.ensures.0 (sized_if (eqb (length v) old.result) c.rounded-extent.result (up8 (length c.args.key.now + length v)) c.rounded-extent.ensures c.replacing.ensures),
     )
-
-pub recording-requires : goal.recording-requires
-recording-requires c = asks_small c.none.ensures (omega arith) (omega arith)
 
 pub returns-in-Empty : goal.returns-in-Empty
 returns-in-Empty c =
