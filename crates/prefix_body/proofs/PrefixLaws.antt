@@ -56,43 +56,6 @@ prefix_law {f} {f1} {f2} {f3} {g} o child p room some top fits C e2 e3 G =
       };
     }
 
--- ---- of one byte
-
-pub fresh_law : {f f1 f2 f3 g : List ℕ} {o b child : ℕ} → o + 128 ≤ length f → child < 4294967296 → Cleared f f1 o 128 → f2 ≡ put 4 f1 (o + prefix_child) child → f3 ≡ put 2 f2 (o + prefix_length) 1
-    → g ≡ set f3 (o + prefix_bytes + 0) b → Only f g o (o + 128) × PrefixAt g o (b ∷ []) child
-fresh_law {f} {f1} {f2} {f3} {g} {o} {b} {child} room fits C e2 e3 e4 =
-    let first : o + prefix_bytes + 0 ≡ o + prefix_bytes = omega arith in
-    let eg : g ≡ set f3 (o + prefix_bytes) b = rw first at e4 in
-    let O2 : Only f1 f2 (o + prefix_child) (o + prefix_child + 4) = rw e2 (only_put 4 f1 (o + prefix_child) child) in
-    let O3 : Only f2 f3 (o + prefix_length) (o + prefix_length + 2) = rw e3 (only_put 2 f2 (o + prefix_length) 1) in
-    let O4 : Only f3 g (o + prefix_bytes) (o + prefix_bytes + 1) = rw eg (only_set f3 (o + prefix_bytes) b) in
-    let O : Only f g o (o + 128) =
-    only_then o (o + 128) (only_then o (o + 128) (only_then o (o + 128) C.rest O2 (omega arith) (omega arith) (omega arith) (omega arith)) O3 (omega arith) (omega arith) (omega arith) (omega arith)) O4 (omega arith) (omega arith) (omega arith) (omega arith) in
-    let z1 = C.rest.size in
-    let z2 = O2.size in
-    let z3 = O3.size in
-    let c2 : le 4 f2 (o + prefix_child) ≡ child = rw e2 (le_put 4 f1 (o + prefix_child) child (omega arith) fits) in
-    let l3 : le 2 f3 (o + prefix_length) ≡ 1 = rw e3 (le_put 2 f2 (o + prefix_length) 1 (omega arith) (omega arith)) in
-    let zero_at : (a : ℕ) → o + prefix_zero ≤ a → a < o + 128 → (a ≡ o + prefix_bytes → ⊥) → byte_at g a ≡ 0 = λ a l u n. elim (dec_lt a (o + prefix_bytes)) [
-      | yes y ↦ O4.below a y ∙ O3.above a (omega arith) ∙ O2.above a (omega arith) ∙ C.zeros a (omega arith) u
-      | no y ↦ elim (dec_lt (o + prefix_bytes) a) [
-        | yes x ↦ O4.above a (omega arith) ∙ O3.above a (omega arith) ∙ O2.above a (omega arith) ∙ C.zeros a (omega arith) u
-        | no x ↦ absurd (n (omega arith))
-      ]
-    ] in (
-      O,
-      record {
-        room = omega (arith, O.size);
-        some = omega arith;
-        most = omega arith;
-        child = le_below 4 (o + prefix_child) O4 (omega arith) ∙ le_below 4 (o + prefix_child) O3 (omega arith) ∙ c2;
-        long = le_below 2 (o + prefix_length) O4 (omega arith) ∙ l3;
-        zeros = λ i l. zero_at (o + prefix_zero + i) (omega arith) (omega arith) (λ z. omega arith);
-        text = λ i l. (let e : i ≡ 0 = omega arith in let e' : o + prefix_bytes + 0 ≡ o + prefix_bytes = omega arith in rw (e, e', eg) (get_or-set_same f3 (o + prefix_bytes) b 0 (omega arith)));
-        rest = λ i l. zero_at (o + prefix_bytes + 1 + i) (omega arith) (omega arith) (λ z. omega arith);
-      },
-    )
-
 -- ---- with a byte in front
 
 module _ {f f1 g : List ℕ} {o b n : ℕ} where

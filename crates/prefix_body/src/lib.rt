@@ -29,10 +29,7 @@ pub fn fresh(f: &mut [u8], o: usize, b: u8, child: usize)
     requires { (o + 128 ≤ length f.old) × (child < 4294967296) }
     ensures { Only f.old f.new o (o + 128) × PrefixAt f.new o (b ∷ []) child }
 {
-    moves::clear(f, o, Prefix::SIZE);
-    Prefix::set_child(f, o, child);
-    Prefix::set_length(f, o, 1);
-    Prefix::set_byte(f, o, 0, b);
+    write(f, o, child, &[b]);
 }
 
 // ---- joined
