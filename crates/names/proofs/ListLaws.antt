@@ -10,10 +10,12 @@ use lib.Dec.{eqb}
 use Rattle.std.specs.Borrow.{Bor}
 use Rattle.std.specs.Bool.{then_some}
 use Rattle.std.specs.Prelude.{Result, Ok, Err}
-use Rattle.std.specs.Result.{OkIff, result_ok}
+use Rattle.std.specs.Result.{OkIff, IsErrAnd, result_ok}
 use borrow.Author.Tests.{lt-ltb, le-ltb, ne_eqb}
-use Rattle.answers.specs.declared.List.{List as Listing}
-use Rattle.answers.specs.Number.{list_number, list_count, list_more}
+use Rattle.answers.specs.declared.Page.{Page}
+use Rattle.answers.specs.declared.Refusal.{Refusal}
+use Rattle.answers.specs.Number.{refusal_number, done_number, list_count, list_more}
+use Rattle.answers.proofs.NumberLaws.{never_zero}
 use Rattle.layout.specs.Number.{le}
 use Rattle.layout.specs.Place.{at_r, at_root}
 use Rattle.model.specs.Edition.{Edition}
@@ -63,7 +65,7 @@ root_tree {E} N f st S h = go S.root refl
 
 -- ---- what the check tells of a good frame
 
-module _ {E : Edition} (N : Naming E) {f : List ℕ} {n : ℕ} (promised : CheckPromise E f n) (z : n ≡ 0) where
+module _ {E : Edition} (N : Naming E) {f : List ℕ} (promised : CheckPromise E f 0) where
   good : Good E f
   good = promised.told.good (λ x. omega arith) (λ x. omega arith)
 
@@ -84,69 +86,70 @@ module _ {E : Edition} (N : Naming E) {f : List ℕ} {n : ℕ} (promised : Check
 
 -- ---- the ends of the call
 
-module _ {E : Edition} (N : Naming E) {f : List ℕ} {n : ℕ} (promised : CheckPromise E f n) (p : List ℕ) (s : Option (List ℕ)) (d : Option ℕ) (b : List ℕ) where
-  -- ---- the frame is good
+-- a refusal that is handed on
+err_is : (x : Refusal) (r : Result Page Refusal) → IsErrAnd r (λ y. y ≡ x) → r ≡ Err x
+err_is x (Ok a) h = absurd h
+err_is x (Err y) h = ap (λ (z : Refusal). Err z) h
 
-  module _ (z : n ≡ 0) where
-    gave_refused : (l : Listed) (k : ℕ) → l ≡ refused_as k → Gave l b k 0 0 b
-    gave_refused l k q = rw q (record { number_is = refl; count_is = refl; more_is = refl; buffer = refl })
+-- the check refuses
+pub list_unchecked : {E : Edition} {f : List ℕ} (p : List ℕ) (s : Option (List ℕ)) (d : Option ℕ) (b : List ℕ) (x : Refusal) (r : Result Page Refusal) → IsErrAnd r (λ y. y ≡ x) → CheckPromise E f (refusal_number x)
+    → ListPromise E f p s d b (done_number r) (list_count r) (list_more r) b
+list_unchecked p s d b x r h P = rw (err_is x r h) (record { told = P.told; refused = λ z. (refl, refl, refl); listed = λ st S. absurd (never_zero x (P.good0 (st, S))) })
 
-    refused_as_lem : (k : ℕ) → ((st : State) → listing E (records_of st.tree) p s d (length b) ≡ refused_as k) → ListPromise E f p s d b k 0 0 b
-    refused_as_lem k q = record { told = told_good N promised z k; refused = λ x. (refl, refl, refl); listed = λ st S. gave_refused (listing E (records_of st.tree) p s d (length b)) k (q st) }
+module _ {E : Edition} (N : Naming E) {f : List ℕ} (promised : CheckPromise E f 0) (p : List ℕ) (s : Option (List ℕ)) (d : Option ℕ) (b : List ℕ) where
+  gave_refused : (l : Listed) (k : ℕ) → l ≡ refused_as k → Gave l b k 0 0 b
+  gave_refused l k q = rw q (record { number_is = refl; count_is = refl; more_is = refl; buffer = refl })
 
-    module _ (short : length p ≤ prefix_limit E) where
-      prefix_passes : prefix_fault E p ≡ 0
-      prefix_passes = rw (le-ltb (prefix_limit E) (length p) short)
+  refused_as_lem : (k : ℕ) → ((st : State) → listing E (records_of st.tree) p s d (length b) ≡ refused_as k) → ListPromise E f p s d b k 0 0 b
+  refused_as_lem k q = record { told = told_good N promised k; refused = λ x. (refl, refl, refl); listed = λ st S. gave_refused (listing E (records_of st.tree) p s d (length b)) k (q st) }
 
-      -- the start key
-      start_refused : (k : ℕ) → start_fault E s ≡ k → (k ≡ 0 → ⊥) → ListPromise E f p s d b k 0 0 b
-      start_refused k q ne = refused_as_lem k (λ st. rw (prefix_passes, q, ne_eqb k 0 ne))
+  -- the prefix
+  pub list_prefix : prefix_limit E < length p → ListPromise E f p s d b 3 0 0 b
+  list_prefix h = refused_as_lem 3 (λ st. rw (lt-ltb (prefix_limit E) (length p) h))
 
-      pub list_zero : {fault : ℕ} → fault ≡ start_fault E s → (fault ≡ 3 → ⊥) → (fault ≡ 0 → ⊥) → ListPromise E f p s d b 4 0 0 b
-      list_zero {fault} e x y = start_refused 4 (sym e ∙ fourth s fault e x y) (λ w. omega arith)
+  module _ (short : length p ≤ prefix_limit E) where
+    prefix_passes : prefix_fault E p ≡ 0
+    prefix_passes = rw (le-ltb (prefix_limit E) (length p) short)
+
+    -- the start key
+    pub list_start : (x : Refusal) (r : Result Page Refusal) → IsErrAnd r (λ y. y ≡ x) → refusal_number x ≡ start_fault E s → ListPromise E f p s d b (done_number r) (list_count r) (list_more r) b
+    list_start x r h q = rw (err_is x r h) (refused_as_lem (refusal_number x) (λ st. rw (prefix_passes, ← q, ne_eqb (refusal_number x) 0 (never_zero x))))
+
+    module _ (start_good : 0 ≡ start_fault E s) where
+      is_page : (rs : List Record) → listing E rs p s d (length b) ≡ page (length b) (after_start s (names d p rs))
+      is_page rs = rw (prefix_passes, ← start_good)
+
+      -- no record
+      pub list_empty : {records : ℕ} → records ≡ le 4 f at_r → records ≡ 0 → ListPromise E f p s d b 0 0 0 b
+      list_empty er q =
+          record {
+            told = told_good N promised 0;
+            refused = λ x. absurd (x refl);
+            listed = λ st S.
+                let H = stands_heads E f st S in
+                let t = (empty_none N.lawful f st S).0 (sym H.records_at ∙ sym er ∙ q) in
+                empty s (ap (λ (x : Option Art). listing E (records_of x) p s d (length b)) t ∙ is_page []);
+          }
         where
-          fourth : (s : Option (List ℕ)) (m : ℕ) → m ≡ start_fault E s → (m ≡ 3 → ⊥) → (m ≡ 0 → ⊥) → m ≡ 4
-          fourth none m e x y = absurd (y e)
-          fourth (some k) m e x y = N.faults k m e x y
+          empty : {l : Listed} (s : Option (List ℕ)) → l ≡ page (length b) (after_start s []) → Gave l b 0 0 0 b
+          empty none w = rw w (record { number_is = refl; count_is = refl; more_is = refl; buffer = refl })
+          empty (some k) w = rw w (record { number_is = refl; count_is = refl; more_is = refl; buffer = refl })
 
-      module _ {fault : ℕ} (e : fault ≡ start_fault E s) (zero : fault ≡ 0) where
-        pub start_good : start_fault E s ≡ 0
-        start_good = sym e ∙ zero
-
-        is_page : (rs : List Record) → listing E rs p s d (length b) ≡ page (length b) (after_start s (names d p rs))
-        is_page rs = rw (prefix_passes, start_good)
-
-        -- no record
-        pub list_empty : {records : ℕ} → records ≡ le 4 f at_r → records ≡ 0 → ListPromise E f p s d b 0 0 0 b
-        list_empty er q =
+      module _ {records : ℕ} (er : records ≡ le 4 f at_r) (some_records : records ≡ 0 → ⊥) {root : ℕ} (eo : root ≡ le 2 f at_root) where
+        -- a page
+        pub list_page : (r : Result Page Refusal) {b' : List ℕ} → PageAt E f root p s d b r b' → ListPromise E f p s d b (done_number r) (list_count r) (list_more r) b'
+        list_page r {b'} P =
             record {
-              told = told_good N promised z 0;
-              refused = λ x. absurd (x refl);
-              listed = λ st S.
-                  let H = stands_heads E f st S in
-                  let t = (empty_none N.lawful f st S).0 (sym H.records_at ∙ sym er ∙ q) in
-                  empty s (ap (λ (x : Option Art). listing E (records_of x) p s d (length b)) t ∙ is_page []);
+              told = told_good N promised (done_number r);
+              refused = λ x. let g = good N promised in kept (after_start s (names d p (records_of g.0.tree))) (paged g.0 g.1) x;
+              listed = λ st S. rw (is_page (records_of st.tree)) (paged st S);
             }
           where
-            empty : {l : Listed} (s : Option (List ℕ)) → l ≡ page (length b) (after_start s []) → Gave l b 0 0 0 b
-            empty none w = rw w (record { number_is = refl; count_is = refl; more_is = refl; buffer = refl })
-            empty (some k) w = rw w (record { number_is = refl; count_is = refl; more_is = refl; buffer = refl })
+            paged : (st : State) (S : Stands E f st) → Gave (page (length b) (after_start s (names d p (records_of st.tree)))) b (done_number r) (list_count r) (list_more r) b'
+            paged st S = let R = rooted N promised er some_records eo st S in rw R.tree_is (P [] R.lay R.stands (slot_is N promised er some_records eo st S))
 
-        module _ {records : ℕ} (er : records ≡ le 4 f at_r) (some_records : records ≡ 0 → ⊥) {root : ℕ} (eo : root ≡ le 2 f at_root) where
-          -- a page
-          pub list_page : (r : Listing) {b' : List ℕ} → PageAt E f root p s d b r b' → ListPromise E f p s d b (list_number r) (list_count r) (list_more r) b'
-          list_page r {b'} P =
-              record {
-                told = told_good N promised z (list_number r);
-                refused = λ x. let g = good N promised z in kept (after_start s (names d p (records_of g.0.tree))) (paged g.0 g.1) x;
-                listed = λ st S. rw (is_page (records_of st.tree)) (paged st S);
-              }
-            where
-              paged : (st : State) (S : Stands E f st) → Gave (page (length b) (after_start s (names d p (records_of st.tree)))) b (list_number r) (list_count r) (list_more r) b'
-              paged st S = let R = rooted N promised z er some_records eo st S in rw R.tree_is (P [] R.lay R.stands (slot_is N promised z er some_records eo st S))
-
-              kept : (es : List (List ℕ)) {m count more : ℕ} → Gave (page (length b) es) b m count more b' → (m ≡ 0 → ⊥) → (count ≡ 0) × (more ≡ 0) × (b' ≡ b)
-              kept [] G x = absurd (x G.number_is)
-              kept (y ∷ es) {m} {count} {more} G x = bool_cases (eqb (fitting (length b) (y ∷ es)) 0)
-                  (λ t. let H : Gave (refused_as 10) b m count more b' = rw t at G in (H.count_is, H.more_is, H.buffer))
-                  (λ t. let H : Gave (written (fitting (length b) (y ∷ es)) (y ∷ es)) b m count more b' = rw t at G in absurd (x H.number_is))
+            kept : (es : List (List ℕ)) {m count more : ℕ} → Gave (page (length b) es) b m count more b' → (m ≡ 0 → ⊥) → (count ≡ 0) × (more ≡ 0) × (b' ≡ b)
+            kept [] G x = absurd (x G.number_is)
+            kept (y ∷ es) {m} {count} {more} G x = bool_cases (eqb (fitting (length b) (y ∷ es)) 0)
+                (λ t. let H : Gave (refused_as 10) b m count more b' = rw t at G in (H.count_is, H.more_is, H.buffer))
+                (λ t. let H : Gave (written (fitting (length b) (y ∷ es)) (y ∷ es)) b m count more b' = rw t at G in absurd (x H.number_is))

@@ -5,7 +5,7 @@ use mathlib.Core.Path.{◌≡◌, refl, sym, ap, subst, ◌∙◌}
 use mathlib.Core.List.{List, [], ◌∷◌, ◌++◌}
 use mathlib.Core.Bool.{true, false}
 use mathlib.Core.Option.{Option, none, some}
-use Rattle.std.specs.Prelude.{Option as Optional, Some, None}
+use Rattle.std.specs.Prelude.{Option as Optional, Some, None, Ok, Err}
 use Rattle.std.specs.List.{starts_with}
 use Rattle.std.specs.Ordering.{ordering_index}
 use Rattle.std.proofs.Common.{Ordering, Less, Equal, Greater, is_gt}
@@ -13,7 +13,6 @@ use mathlib.Core.Logic.{inl, inr}
 use lib.ListN.{length, take, drop, length-append, length-take, length-drop}
 use lib.Seq.{take_all}
 use lib.Dec.{eqb, lit≤}
-use Rattle.answers.specs.declared.List.TheVariants as list
 use Rattle.answers.specs.declared.Refusal.TheVariants as refusal
 use Rattle.model.specs.Edition.{Edition}
 use Rattle.model.specs.Records.{Record, records, Ascending}
@@ -149,7 +148,7 @@ module _ {E : Edition} {f : List ℕ} {root : ℕ} {p : List ℕ} {s : Option (L
     paging_room = let i = P.filled.inside in let l = paging_long in omega arith
 
   -- no entry is left
-  pub paging_end : Paging E f root p s d b count used None b' → PageAt E f root p s d b (list.Done count false) b'
+  pub paging_end : Paging E f root p s d b count used None b' → PageAt E f root p s d b (Ok (record { count = count; more = false })) b'
   paging_end P = of_sub P.sub (λ (l : Lay). Gave (page (length b) (whole s d p l)) b 0 count 0 b') (fill_end P.filled P.next.is)
 
   module _ {e : Entry} (P : Paging E f root p s d b count used (Some e) b') where
@@ -173,10 +172,10 @@ module _ {E : Edition} {f : List ℕ} {root : ℕ} {p : List ℕ} {s : Option (L
       over : length b < used + (2 + length head.text)
       over = let i = paging_long P in let l = head_long in let r = paging_room P in omega arith
 
-      pub paging_ten : count ≡ 0 → PageAt E f root p s d b (list.Refused refusal.Buffer) b'
+      pub paging_ten : count ≡ 0 → PageAt E f root p s d b (Err refusal.Buffer) b'
       paging_ten c = of_sub P.sub (λ (l : Lay). Gave (page (length b) (whole s d p l)) b 10 0 0 b') (fill_ten P.filled head.first over c)
 
-      pub paging_more : (count ≡ 0 → ⊥) → PageAt E f root p s d b (list.Done count true) b'
+      pub paging_more : (count ≡ 0 → ⊥) → PageAt E f root p s d b (Ok (record { count = count; more = true })) b'
       paging_more c = of_sub P.sub (λ (l : Lay). Gave (page (length b) (whole s d p l)) b 0 count 1 b') (fill_more P.filled head.first over (omega arith))
 
     -- it is written, and the next one found from its own bound on

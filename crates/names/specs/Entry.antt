@@ -1,9 +1,10 @@
 -- The entry of a key in a frame, the first entry that is left of a listing, and a page of them.
-use Rattle.std.specs.Prelude.{ℕ, ◌+◌, ◌<◌, ◌≤◌, ◌≡◌, List, [], ◌∷◌, ◌++◌, true, false, length, take, drop, get_or, eqb, Option as Optional, Some, None, MatchOption}
+use Rattle.std.specs.Prelude.{ℕ, ◌+◌, ◌<◌, ◌≤◌, ◌≡◌, List, [], ◌∷◌, ◌++◌, true, false, length, take, drop, get_or, eqb, Option as Optional, Some, None, MatchOption, Result}
 use Rattle.std.specs.Borrow.{Bor}
 use Rattle.std.proofs.Math.Option.{Option, none, some}
-use Rattle.answers.specs.declared.List.{List as Listing}
-use Rattle.answers.specs.Number.{list_number, list_count, list_more}
+use Rattle.answers.specs.declared.Page.{Page}
+use Rattle.answers.specs.declared.Refusal.{Refusal}
+use Rattle.answers.specs.Number.{done_number, list_count, list_more}
 use Rattle.model.specs.Strings.{pick}
 use Rattle.model.specs.Edition.{Edition, Legal}
 use Rattle.model.specs.Records.{Record, records}
@@ -81,9 +82,9 @@ StartGood E s = start_fault E s ≡ 0
 abbrev pub FirstEntry : Edition → List ℕ → ℕ → List ℕ → Option (List ℕ) → Option ℕ → Optional Entry → Type 0
 FirstEntry E f root p s d r = (path : List ℕ) (l : Lay) → Tree E f path l → slot_of l ≡ root → Next E f p d (records (art l)) (after_start s (names d p (records (art l)))) r
 
-abbrev pub PageAt : Edition → List ℕ → ℕ → List ℕ → Option (List ℕ) → Option ℕ → List ℕ → Listing → List ℕ → Type 0
+abbrev pub PageAt : Edition → List ℕ → ℕ → List ℕ → Option (List ℕ) → Option ℕ → List ℕ → Result Page Refusal → List ℕ → Type 0
 PageAt E f root p s d b r b' = (path : List ℕ) (l : Lay) → Tree E f path l → slot_of l ≡ root
-    → Gave (page (length b) (after_start s (names d p (records (art l))))) b (list_number r) (list_count r) (list_more r) b'
+    → Gave (page (length b) (after_start s (names d p (records (art l))))) b (done_number r) (list_count r) (list_more r) b'
 
 -- ---- what guides a seek, spelt out in a lent word: in edition 2 only, where a walked string may take up to 512 bytes
 

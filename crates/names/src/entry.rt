@@ -1,12 +1,14 @@
 // The entry of a key: the key, or its text up to and including the first delimiter after the prefix; found from a bound on, and written.
 ghost use Rattle.std.specs.Prelude.{◌≡◌, List, ◌++◌, ℕ, ◌+◌, ◌≤◌, ◌<◌, length, take, drop};
-ghost use Rattle.model.specs.Edition.{edition_of, SomeEdition, Value};
+ghost use Rattle.model.specs.Edition.{SomeEdition, Value};
+ghost use Rattle.editions.specs.Rules.{rules_of};
 ghost use Rattle.model.specs.Image.{digits};
 ghost use Rattle.model.specs.Body.{LeafAt};
 ghost use Rattle.seek.specs.Sub.{Sub};
 ghost use Rattle.seek.specs.Seek.{LeafSome, Tail};
 ghost use Rattle.names.specs.Entry.{maybe, Delimited, CutAt, OfKey, EntryFrom, word_room, SpeltBound, chosen_of};
 
+use editions::Edition;
 use fields::body::Leaf;
 use layout::number;
 
@@ -92,34 +94,29 @@ fn of_leaf(f: &[u8], place: usize, asked: Asked) -> Option<Entry>
 
 // Writes what guides a seek to the bound of a text, and gives its length: in edition 2 the text's walked string without its end, and past the key that
 // is the text with the first byte of that. In edition 1 nothing, nor for a text of no byte, from which on a listing of all begins.
-fn spelt(text: &[u8], tail: usize, word: &mut [u8], edition: usize) -> usize
-    requires { (word_room (edition_of edition) ≤ length word.old) × (length word.old < 65536) × (length text.now ≤ 255) }
-    ensures { SpeltBound (edition_of edition) text.now tail word.new result }
+fn spelt(text: &[u8], tail: usize, word: &mut [u8], edition: Edition) -> usize
+    requires { (word_room (rules_of edition) ≤ length word.old) × (length word.old < 65536) × (length text.now ≤ 255) }
+    ensures { SpeltBound (rules_of edition) text.now tail word.new result }
 {
-    if edition != keys::SECOND {
-        return 0;
-    }
-    if text.len() == 0 {
-        if tail != PAST_KEY {
-            return 0;
+    match edition {
+        Edition::First => 0,
+        Edition::Second if text.is_empty() && tail != PAST_KEY => 0,
+        Edition::Second => {
+            let n = keys::spell(text, word);
+            if tail == PAST_KEY { n - 1 } else { n - 2 }
         }
     }
-    let n = keys::spell(text, word);
-    if tail == PAST_KEY {
-        return n - 1;
-    }
-    n - 2
 }
 
 // What guides: in edition 1 the text itself, in edition 2 the first n bytes of the word.
-fn chosen<'a>(text: &'a [u8], word: &'a [u8], n: usize, edition: usize) -> &'a [u8]
+fn chosen<'a>(text: &'a [u8], word: &'a [u8], n: usize, edition: Edition) -> &'a [u8]
     requires { n ≤ length word.now }
-    ensures { result.now ≡ chosen_of (edition_of edition) text.now (take n word.now) }
+    ensures { result.now ≡ chosen_of (rules_of edition) text.now (take n word.now) }
 {
-    if edition == keys::SECOND {
-        return &word[..n];
+    match edition {
+        Edition::First => text,
+        Edition::Second => &word[..n],
     }
-    text
 }
 
 // The entry of the first key at or above the bound of a text, if that begins with the prefix.
@@ -130,10 +127,10 @@ pub fn from_bound(
     text: &[u8],
     tail: usize,
     word: &mut [u8],
-    edition: usize,
+    edition: Edition,
 ) -> Option<Entry>
-    requires { Sub (edition_of edition) f.now root 0 × Tail tail × (length text.now ≤ 255) × (word_room (edition_of edition) ≤ length word.old) × (length word.old < 65536) }
-    ensures { EntryFrom (edition_of edition) f.now root asked.entry.prefix.now (maybe asked.entry.delimiter) text.now tail result }
+    requires { Sub (rules_of edition) f.now root 0 × Tail tail × (length text.now ≤ 255) × (word_room (rules_of edition) ≤ length word.old) × (length word.old < 65536) }
+    ensures { EntryFrom (rules_of edition) f.now root asked.entry.prefix.now (maybe asked.entry.delimiter) text.now tail result }
 {
     let n = spelt(text, tail, word, edition);
     let bound = chosen(text, word, n, edition);

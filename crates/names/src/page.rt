@@ -1,20 +1,21 @@
 // A page: as many whole entries as fit, each from where the one before ends.
 ghost use Rattle.std.specs.Prelude.{◌≤◌, ◌<◌, length};
-ghost use Rattle.model.specs.Edition.{edition_of};
+ghost use Rattle.editions.specs.Rules.{rules_of};
 ghost use Rattle.seek.specs.Sub.{Sub};
 ghost use Rattle.names.specs.Entry.{maybe, started, StartGood, FirstEntry, PageAt, word_room};
 
 use crate::entry;
 use crate::entry::{Asked, Entry};
-use answers::{List, Refusal};
+use answers::{Page, Refusal};
+use editions::Edition;
 
 // a bound whose text is followed by this has all keys that begin with the text at or above it
 const FROM_TEXT: usize = 0;
 
 // The first entry after the start key, or of all if none is given.
-fn first(f: &[u8], root: usize, asked: Asked, word: &mut [u8], edition: usize) -> Option<Entry>
-    requires { Sub (edition_of edition) f.now root 0 × StartGood (edition_of edition) (started asked.start) × (length asked.prefix.now ≤ 255) × (word_room (edition_of edition) ≤ length word.old) × (length word.old < 65536) }
-    ensures { FirstEntry (edition_of edition) f.now root asked.entry.prefix.now (started asked.entry.start) (maybe asked.entry.delimiter) result }
+fn first(f: &[u8], root: usize, asked: Asked, word: &mut [u8], edition: Edition) -> Option<Entry>
+    requires { Sub (rules_of edition) f.now root 0 × StartGood (rules_of edition) (started asked.start) × (length asked.prefix.now ≤ 255) × (word_room (rules_of edition) ≤ length word.old) × (length word.old < 65536) }
+    ensures { FirstEntry (rules_of edition) f.now root asked.entry.prefix.now (started asked.entry.start) (maybe asked.entry.delimiter) result }
 {
     let Some(start) = asked.start else {
         return entry::from_bound(f, root, asked, asked.prefix, FROM_TEXT, word, edition);
@@ -36,10 +37,10 @@ pub fn fill(
     asked: Asked,
     buffer: &mut [u8],
     word: &mut [u8],
-    edition: usize,
-) -> List
-    requires { Sub (edition_of edition) f.now root 0 × StartGood (edition_of edition) (started asked.start) × (length asked.prefix.now ≤ 255) × (word_room (edition_of edition) ≤ length word.old) × (length word.old < 65536) }
-    ensures { PageAt (edition_of edition) f.now root asked.entry.prefix.now (started asked.entry.start) (maybe asked.entry.delimiter) buffer.old result buffer.new }
+    edition: Edition,
+) -> Result<Page, Refusal>
+    requires { Sub (rules_of edition) f.now root 0 × StartGood (rules_of edition) (started asked.start) × (length asked.prefix.now ≤ 255) × (word_room (rules_of edition) ≤ length word.old) × (length word.old < 65536) }
+    ensures { PageAt (rules_of edition) f.now root asked.entry.prefix.now (started asked.entry.start) (maybe asked.entry.delimiter) buffer.old result buffer.new }
 {
     let mut next = first(f, root, asked, word, edition);
     let mut count = 0;
@@ -47,9 +48,9 @@ pub fn fill(
     while let Some(e) = next {
         if buffer.len() - used < entry::LENGTH_SIZE + e.long {
             if count == 0 {
-                return List::Refused(Refusal::Buffer);
+                return Err(Refusal::Buffer);
             }
-            return List::Done(count, true);
+            return Ok(Page { count, more: true });
         }
         let text = &f[e.at..e.at + e.long];
         entry::write(buffer, used, text);
@@ -57,5 +58,5 @@ pub fn fill(
         count += 1;
         next = entry::from_bound(f, root, asked, text, e.tail, word, edition);
     }
-    List::Done(count, false)
+    Ok(Page { count, more: false })
 }
