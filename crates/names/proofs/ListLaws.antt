@@ -103,10 +103,6 @@ module _ {E : Edition} (N : Naming E) {f : List ℕ} (promised : CheckPromise E 
   refused_as_lem : (k : ℕ) → ((st : State) → listing E (records_of st.tree) p s d (length b) ≡ refused_as k) → ListPromise E f p s d b k 0 0 b
   refused_as_lem k q = record { told = told_good N promised k; refused = λ x. (refl, refl, refl); listed = λ st S. gave_refused (listing E (records_of st.tree) p s d (length b)) k (q st) }
 
-  -- the prefix
-  pub list_prefix : prefix_limit E < length p → ListPromise E f p s d b 3 0 0 b
-  list_prefix h = refused_as_lem 3 (λ st. rw (lt-ltb (prefix_limit E) (length p) h))
-
   module _ (short : length p ≤ prefix_limit E) where
     prefix_passes : prefix_fault E p ≡ 0
     prefix_passes = rw (le-ltb (prefix_limit E) (length p) short)
