@@ -22,7 +22,7 @@ use Rattle.model.proofs.UniqueLaws.{tree_unique}
 use Rattle.pack.specs.declared.bodies.Next.{Next}
 use Rattle.pack.specs.Laid.{Room, Laid, LeafFits, LeafLaid, PrefixFits, PrefixLaid}
 use Rattle.inside.specs.Inside.{Inside, InsideAll}
-use Rattle.inside.proofs.InsideLaws.{IsLeaf, IsPrefix, IsInner, leaf_lay, prefix_lay, inner_lay, slot_in}
+use Rattle.inside.proofs.InsideLaws.{IsLeaf, IsPrefix, IsInner, leaf_lay, prefix_lay, inner_lay, slot_in, slot_kind}
 use Rattle.pack.specs.Walk.{packed_lay, packed_run, TreeReady, TreePacked}
 use Rattle.pack.proofs.BodiesLaws.{length_prefix}
 use Rattle.pack.proofs.LaidLaws.{laid_as, laid_join, room_first, room_rest}
@@ -52,6 +52,9 @@ module _ {E : Edition} {f : List ℕ} {s left : ℕ} {out : List ℕ} {at : Next
   -- its entry lies in the frame
   pub tree_slot : (1 ≤ s) × (entry_at s + 4 ≤ length f)
   tree_slot = let S = slot_in f s T.lay T.inside T.slot_is in (S.first, S.last)
+
+  pub tree_kind : (1 ≤ high_of f s) × (high_of f s ≤ 8)
+  tree_kind = slot_kind E f T.path s T.lay T.tree T.slot_is
 
   -- a Leaf
   module _ {o : ℕ} (h : high_of f s ≡ leaf_kind) (p : place_of f s ≡ o) where
@@ -216,9 +219,6 @@ pub record Remains (E : Edition) (f : List ℕ) (s left : ℕ) (out : List ℕ) 
   pub ready : TreeReady E f s' left' out' at'
   pub fewer : left' ≤ left
   pub packed : (out'' : List ℕ) (r : Next) → TreePacked E f s' out' at' out'' r → TreePacked E f s out at out'' r
-
-pub remains_all : {E : Edition} {f : List ℕ} {s left : ℕ} {out : List ℕ} {at : Next} → TreeReady E f s left out at → Remains E f s left out at s left out at
-remains_all T = record { ready = T; fewer = omega arith; packed = λ out'' r P. P }
 
 module _ {E : Edition} {f : List ℕ} {s left : ℕ} {out : List ℕ} {at : Next} {s' left' : ℕ} {out' : List ℕ} {at' : Next} (R : Remains E f s left out at s' left' out' at') where
   -- a Prefix is packed

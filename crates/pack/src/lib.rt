@@ -5,28 +5,23 @@ mod bodies;
 mod image;
 mod walk;
 
-ghost use Rattle.answers.specs.Number.{pack_number};
-ghost use Rattle.model.specs.Edition.{edition_of};
+ghost use Rattle.answers.specs.Number.{done_number};
+ghost use Rattle.editions.specs.Rules.{rules_of};
 ghost use Rattle.model.specs.Promise.{PackingPromise, PackPromise, PackBeforePromise};
-ghost use Rattle.audit.specs.Audit.{by_rule};
+ghost use Rattle.audit.specs.Audit.{ruled};
 
-use answers::{Pack, Refusal};
+use answers::Refusal;
+use editions::{Edition, Editioned};
 use fields::header::Header;
 
 // By the rule that what is freed is wiped, or by the one from before. "Each packed body is no larger than the live one, so packing has no
 // answer 6."
-fn by_rule(frame: &[u8], out: &mut [u8], edition: usize, wiped: bool) -> Pack
-    ensures { PackingPromise (by_rule edition wiped) (edition_of edition) frame.now out.old (pack_number result) out.new }
+fn by_rule(frame: &[u8], out: &mut [u8], edition: Edition, wiped: bool) -> Result<(), Refusal>
+    ensures { PackingPromise (ruled wiped (rules_of edition)) (rules_of edition) frame.now out.old (done_number result) out.new }
 {
-    let n = audit::check_by(frame, edition, wiped);
-    if n == audit::BAD_LENGTH {
-        return Pack::Refused(Refusal::Length);
-    }
-    if n != audit::GOOD {
-        return Pack::Refused(Refusal::Frame);
-    }
+    audit::check_by(frame, edition, wiped)?;
     if out.len() != frame.len() {
-        return Pack::Refused(Refusal::Output);
+        return Err(Refusal::Output);
     }
     image::write(
         frame,
@@ -36,18 +31,18 @@ fn by_rule(frame: &[u8], out: &mut [u8], edition: usize, wiped: bool) -> Pack
         Header::root(frame),
         edition,
     );
-    Pack::Done
+    Ok(())
 }
 
-pub fn pack(frame: &[u8], out: &mut [u8], edition: usize) -> Pack
-    ensures { PackPromise (edition_of edition) frame.now out.old (pack_number result) out.new }
+pub fn pack<E: Editioned>(frame: &[u8], out: &mut [u8], edition: E) -> Result<(), Refusal>
+    ensures { PackPromise (E.rules edition) frame.now out.old (done_number result) out.new }
 {
-    by_rule(frame, out, edition, true)
+    by_rule(frame, out, edition.edition(), true)
 }
 
 // "frames from before must be packed once, by a call that still takes the old rule": what it writes is good by the new one. They are of edition 1.
-pub fn pack_before(frame: &[u8], out: &mut [u8]) -> Pack
-    ensures { PackBeforePromise frame.now out.old (pack_number result) out.new }
+pub fn pack_before(frame: &[u8], out: &mut [u8]) -> Result<(), Refusal>
+    ensures { PackBeforePromise frame.now out.old (done_number result) out.new }
 {
-    by_rule(frame, out, Header::FIRST_EDITION, false)
+    by_rule(frame, out, Edition::First, false)
 }

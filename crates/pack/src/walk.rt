@@ -27,15 +27,15 @@ pub fn tree(f: &[u8], out: &mut [u8], s: usize, left: usize, next: Next) -> Next
     // It follows slots and steps no index: a `for` is no plainer.
     loop {
         let e = Entry::read(f, node);
-        if e.high == Kind::LEAF {
-            return bodies::leaf(f, out, e.place, here);
+        match e.kind() {
+            Kind::Leaf => return bodies::leaf(f, out, e.place, here),
+            Kind::Prefix => {
+                here = bodies::prefix(f, out, e.place, here);
+                node = Prefix::child(f, e.place);
+                node_left -= Prefix::length(f, e.place);
+            }
+            _ => return run(f, out, node, node_left, here),
         }
-        if e.high != Kind::PREFIX {
-            return run(f, out, node, node_left, here);
-        }
-        here = bodies::prefix(f, out, e.place, here);
-        node = Prefix::child(f, e.place);
-        node_left -= Prefix::length(f, e.place);
     }
 }
 
@@ -57,7 +57,7 @@ fn run(f: &[u8], out: &mut [u8], s: usize, left: usize, next: Next) -> Next
         if n <= i {
             return here;
         }
-        let c = child_at(f, e.place, e.high, i, from);
+        let c = child_at(f, e.place, e.kind(), i, from);
         bodies::child(
             out,
             next.place,
@@ -69,10 +69,9 @@ fn run(f: &[u8], out: &mut [u8], s: usize, left: usize, next: Next) -> Next
         from = c.byte + 1;
         i += 1;
         let k = Entry::read(f, c.slot);
-        if k.high == Kind::LEAF {
-            here = bodies::leaf(f, out, k.place, here);
-            continue;
+        match k.kind() {
+            Kind::Leaf => here = bodies::leaf(f, out, k.place, here),
+            _ => here = tree(f, out, c.slot, left - 1, here),
         }
-        here = tree(f, out, c.slot, left - 1, here);
     }
 }

@@ -3,4 +3,4 @@ use Rattle.pack.proofs.PackLaws.{packed_now}
 use Rattle.pack.proofs.pack.Goals as goal
 
 pub returns : goal.returns
-returns c = packed_now _ c.by_rule.ensures
+returns g c = rw c.edition.ensures at (packed_now _ c.by_rule.ensures)
