@@ -11,7 +11,7 @@ use Rattle.model.specs.Body.{Zero}
 use Rattle.model.specs.Frame.{Lay, items, Root, bare, tree, slot_of, Entry, Tree, RootAt, root_slot, root_items}
 use Rattle.model.proofs.UniqueLaws.{entry_unique, tree_unique}
 use Rattle.census.specs.declared.Sums.{Sums}
-use Rattle.census.specs.Told.{Told, BodyTaken, BodyTold}
+use Rattle.census.specs.Told.{Told, BodyTaken}
 use Rattle.census.proofs.ToldLaws.{tidy_slot, told_no, told_yes, told_as, body_sited, tally_body}
 use Rattle.audit.specs.Walk.{TreeItems}
 use Rattle.audit.specs.Audit.{RootItems, EmptyItems, EmptyTold}
@@ -20,12 +20,6 @@ use Rattle.audit.proofs.TreeLaws.{tree_first}
 -- ---- an EmptyRoot
 
 module _ {f : List ℕ} {o d u b : ℕ} {m : List ℕ} {t : Sums} {m' : List ℕ} where
-  pub empty_body : {m'' : List ℕ} {r : Option Sums} → BodyTold d u b 8 o m t m' r → r ≡ None → EmptyTold f o d u b m t m'' None
-  empty_body T n = record { of = λ s E a z. told_no (λ is B xs X Y. T.fails n is B s (rw (sym X.are) at Y)) }
-
-  pub empty_zero : (Zero f o 8 → ⊥) → EmptyTold f o d u b m t m' None
-  empty_zero n = record { of = λ s E a z. told_no (λ is B xs X Y. n X.zeros) }
-
   pub empty_good : {t' : Sums} → BodyTaken d u b 8 o m t m' t' → Zero f o 8 → EmptyTold f o d u b m t m' (Some t')
   empty_good T Z =
       record {

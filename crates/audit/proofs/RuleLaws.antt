@@ -1,14 +1,12 @@
 -- Good by either rule is good by the one from before; and back, where the frame is clean if the rule asks for it. Assumes nothing.
-use Prim.Native.Nat.{ℕ, ◌≤◌}
+use Prim.Native.Nat.{ℕ}
 use mathlib.Core.Path.{◌≡◌, refl}
 use mathlib.Core.Bool.{Bool, true, false}
 use mathlib.Core.List.{List}
-use lib.Dec.{lit≤}
 use Rattle.layout.specs.Number.{le}
 use Rattle.layout.specs.Place.{at_d}
 use Rattle.model.specs.Edition.{Edition, edition_of, before1}
 use Rattle.model.specs.Frame.{root_items, Clean, Good}
-use Rattle.model.specs.Promise.{CheckPromise}
 use Rattle.model.proofs.StringLaws.{clash, eqb_cases}
 use Rattle.model.proofs.CleanLaws.{SameKeys, stands_as}
 use Rattle.model.proofs.Edition2.{of_two, of_other}
@@ -33,14 +31,6 @@ rule_good wiped E {f} G C = (G.0, stands_as (between false wiped E) f G.1 C)
 pub rule_now : (n : ℕ) → by_rule n true ≡ edition_of n
 rule_now n = eqb_cases n 2 (λ t q. rw (of_two n q) refl) (λ t q. rw (of_other n q) refl)
 
-pub checked_now : (n : ℕ) {f : List ℕ} {r : ℕ} → CheckPromise (by_rule n true) f r → CheckPromise (edition_of n) f r
-checked_now n P = rw (rule_now n) at P
-
 pub rule_old : by_rule 1 false ≡ before1
 unfolding edition_of
 rule_old = refl
-
--- ---- the paths of an edition
-
-pub longest_other : (n : ℕ) → (n ≡ 2 → ⊥) → (edition_of n).longest ≤ 113
-longest_other n h = rw (of_other n h) (lit≤ tt)

@@ -5,11 +5,9 @@ use mathlib.Core.List.{List, [], ◌∷◌, ◌++◌}
 use mathlib.Core.Bool.{Bool, true, false}
 use native.Mathlib.Omega.{arith}
 use lib.ListN.{length, get_or}
-use lib.Dec.{eqb}
-use borrow.Author.Tests.{eqb-true, eqb-false}
 use Rattle.std.specs.Prelude.{Option, None}
 use Rattle.layout.specs.Number.{le}
-use Rattle.layout.specs.Place.{at_d, at_b, at_u, at_r, at_x, at_root}
+use Rattle.layout.specs.Place.{at_d, at_b, at_u, at_x, at_root}
 use Rattle.layout.specs.Entry.{place_of}
 use Rattle.model.specs.Edition.{Edition}
 use Rattle.model.specs.State.{State}
@@ -17,7 +15,6 @@ use Rattle.model.specs.Item.{Item, body, extent, inside, on_slot, cover, bulk, l
 use Rattle.model.specs.Frame.{Lay, LayKids, Root, bare, tree, items, items_all, Tree, Trees, RootAt, root_items, Lists, freed, state_of, Clean, Stands, Good}
 use Rattle.model.specs.Frame.Lay.{leaf, prefix, node}
 use Rattle.model.specs.Frame.LayKids.{nil, kid}
-use Rattle.model.specs.Promise.{CheckPromise}
 use Rattle.model.proofs.StringLaws.{clash}
 use Rattle.model.proofs.ItemLaws.{in_under, sum_app, sum_as}
 use Rattle.model.proofs.CleanLaws.{stands_clean, root_as}
@@ -27,12 +24,12 @@ use Rattle.claims.specs.Units.{Each, Eighth, Eighths, Within, Slotted, Seen}
 use Rattle.claims.proofs.UnitLaws.{fits_seen}
 use Rattle.claims.proofs.SlotLaws.{slots_each, sound_made}
 use Rattle.sweep.proofs.SweepLaws.{swept_clean, clean_swept}
-use Rattle.shape.specs.Shape.{LengthFits, HeaderTold, numbers_of}
+use Rattle.shape.specs.Shape.{numbers_of}
 use Rattle.census.specs.declared.Sums.{Sums}
 use Rattle.census.specs.Told.{is_body, is_extent, Tidy, Sited, Book, Held, Told}
 use Rattle.census.specs.Freed.{ListOf, ListsOf, FreedItems}
 use Rattle.census.proofs.ToldLaws.{tidy_same, tidy_part, each_app, grown_on, book_on}
-use Rattle.audit.specs.Audit.{ruled, HeaderFits, RootItems, Unmarked, Closed, Closes}
+use Rattle.audit.specs.Audit.{ruled, HeaderFits, RootItems, Unmarked, Closed}
 use Rattle.audit.proofs.RootLaws.{root_unique}
 use Rattle.audit.proofs.RuleLaws.{rule_of, of_rule, rule_good}
 
@@ -264,42 +261,3 @@ module _ {Ed : Edition} {f : List ℕ} {d u b : ℕ} (H : HeaderFits Ed f) (ed :
         pub whole_good : (wiped : Bool) → Unmarked wiped f m' d b → Closed f q.slots q.bytes r.leaves → Good (ruled wiped Ed) f
         unfolding stands_closed
         whole_good wiped Z C = rule_good wiped Ed (stands_closed C) (λ e. clean_as ed (sym K.are.are) (swept_clean seen_live live_eighths live_high (Z.swept e)))
-
--- ---- the verdict
-
-good_length : {E : Edition} {f : List ℕ} (s : State) → Stands E f s → LengthFits f
-good_length s S =
-    let h = S.heap.header in
-    let e = h.size in
-    record { limits = rw e h.limits; stored = h.stored ∙ sym e }
-
-module _ {E : Edition} {f : List ℕ} {n : ℕ} where
-  pub audit_length : (LengthFits f → ⊥) → n ≡ 1 → CheckPromise E f n
-  audit_length nay e =
-      record {
-        told = record { length1 = λ q. e; bad2 = λ L q. absurd (nay (record { limits = L.0; stored = L.1 })); good = λ a b. absurd (a e) };
-        good0 = λ G. absurd (nay (good_length G.0 G.1));
-      }
-
-  pub audit_bad : LengthFits f → (Good E f → ⊥) → n ≡ 2 → CheckPromise E f n
-  audit_bad L nay e = record { told = record { length1 = λ q. absurd (q (L.limits, L.stored)); bad2 = λ K q. e; good = λ a b. absurd (b e) }; good0 = λ G. absurd (nay G) }
-
-  pub audit_good : LengthFits f → Good E f → n ≡ 0 → CheckPromise E f n
-  audit_good L G e = record { told = record { length1 = λ z. absurd (z (L.limits, L.stored)); bad2 = λ K z. absurd (z G); good = λ a b. G }; good0 = λ H. e }
-
--- a header that no good frame has
-pub header_none : (wiped : Bool) (Ed : Edition) {f : List ℕ} {g : Bool} → HeaderTold Ed f g → g ≡ false → Good (ruled wiped Ed) f → ⊥
-header_none wiped Ed T n G = let S = G.1 in T.fails n S.nums S.heap.header (ap (λ (E : Edition). E.number) S.edition_is)
-
--- ---- the sums compared
-
-module _ {f : List ℕ} {slots bytes leaves : ℕ} where
-  pub closes_no : (Closed f slots bytes leaves → ⊥) → Closes f slots bytes leaves false
-  closes_no n = record { holds = λ e. clash (cc); fails = λ e. n }
-
-  pub closes_last : (d x b : ℕ) → slots ≡ le 4 f at_u → leaves ≡ le 4 f at_r → d ≡ le 4 f at_d → x ≡ le 4 f at_x → b ≡ le 4 f at_b → Closes f slots bytes leaves (eqb (d + bytes + x) b)
-  closes_last d x b a c p q r =
-      record {
-        holds = λ e. record { slots_are = a; leaves_are = c; accounted = omega (arith, eqb-true (d + bytes + x) b e) };
-        fails = λ e C. eqb-false (d + bytes + x) b e (omega (arith, C.accounted));
-      }

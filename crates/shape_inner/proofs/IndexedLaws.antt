@@ -134,25 +134,9 @@ module _ (f : List ℕ) (o b : ℕ) (seen : List ℕ) (twice used : ℕ) (M : Ma
       }
 
   module _ (n : ℕ) (all : b ≡ 256) where
-    -- two entries name one place
-    pub marked_twice : (twice ≡ 0 → ⊥) → IndexedHere f o n → ⊥
-    marked_twice g H =
-        let T = M.again g in
-        let F = T.first in
-        let e = H.once F.entry T.later (omega (arith, F.below, T.below)) (omega (arith, T.below)) F.is (omega (arith, F.is, T.place)) in
-        omega (arith, F.below)
-
     -- another number of entries than the count
     pub marked_count : (used ≡ n → ⊥) → IndexedHere f o n → ⊥
     marked_count h H = h (counted_end (child48 f o) b used all M.counted ∙ H.counted)
-
-    -- an entry is no place
-    pub marked_far : (Blank seen 49 256 → ⊥) → IndexedHere f o n → ⊥
-    marked_far g H =
-        g
-        (λ p x y.
-        ⊎_elim (λ z. z) (λ z. let N = M.named p z in absurd (omega (arith, N.is, H.place N.entry (omega (arith, N.below)))))
-        (same_or_not (mark p) 0))
 
     pub marked_end : {r : Bool} → Bytes f → twice ≡ 0 → used ≡ n → Blank seen 49 256 → Decides (Unmarked f (o + node48_children) seen) r → Decides (IndexedHere f o n) r
     marked_end bytes z q above D =

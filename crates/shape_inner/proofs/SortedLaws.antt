@@ -11,8 +11,7 @@ use Rattle.layout.specs.Number.{byte_at, le, Bytes}
 use Rattle.layout.specs.Place.{node_count, node_zero}
 use Rattle.layout.proofs.NumberLaws.{lt_or_le, le_lt}
 use Rattle.model.specs.Body.{Asc, SortedAt}
-use Rattle.pieces.proofs.RangeLaws.{range_more}
-use Rattle.shape_inner.specs.Inner.{sorted_kids, Unused, SortedHere}
+use Rattle.shape_inner.specs.Inner.{sorted_kids, SortedHere}
 
 -- ---- the bytes ascend, one after the other
 
@@ -39,13 +38,6 @@ unfolding sorted_kids Asc
 asc_none f b c low = tt
 
 module _ (f : List ℕ) (at cap n : ℕ) where
-  pub left_all : Left f at cap n 0 0
-  left_all =
-      let p : at + 0 ≡ at = omega arith in
-      let q : at + cap + 4 * 0 ≡ at + cap = omega arith in
-      let r : n - 0 ≡ n = omega arith in
-      record { up = λ a. rw (p, q, r) at a; down = λ a. rw (p, q, r) a }
-
   pub left_more : (i low : ℕ) → Bytes f → i < n → low ≤ byte_at f (at + i) → Left f at cap n i low → Left f at cap n (i + 1) (byte_at f (at + i) + 1)
   left_more i low B l h L =
       let p : at + (i + 1) ≡ at + i + 1 = omega arith in
@@ -66,19 +58,6 @@ module _ (f : List ℕ) (at cap n : ℕ) where
   left_end i low e L =
       let z : n - i ≡ 0 = omega arith in
       L.up (rw z (asc_none f (at + i) (at + cap + 4 * i) low))
-
--- ---- the places that are not used
-
-module _ (f : List ℕ) (at cap n : ℕ) where
-  pub unused_none : Unused f at cap n n
-  unused_none = record { bytes = λ i x y. absurd (omega arith); children = λ i x y. absurd (omega arith) }
-
-  pub unused_more : (i : ℕ) → Unused f at cap n i → byte_at f (at + i) ≡ 0 → le 4 f (at + cap + 4 * i) ≡ 0 → Unused f at cap n (i + 1)
-  unused_more i U b c =
-      record {
-        bytes = range_more (λ (j : ℕ). byte_at f (at + j) ≡ 0) n i U.bytes b;
-        children = range_more (λ (j : ℕ). le 4 f (at + cap + 4 * j) ≡ 0) n i U.children c;
-      }
 
 -- ---- the list that the places give
 
