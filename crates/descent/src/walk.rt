@@ -79,6 +79,7 @@ pub fn descend(f: &[u8], key: &[u8], word: &[u8], edition: Edition) -> Spot
     if e.kind() == Kind::EmptyRoot {
         return s.ended(End::Empty, e.place, Kind::EmptyRoot, 0);
     }
+    // it follows slots down the tree and steps no index
     loop {
         s = step(f, key, word, s, edition);
         match s.end {
