@@ -100,7 +100,9 @@ fn stamp_good(f: &[u8], o: usize, edition: Edition) -> bool
     }
 }
 
-// The body at o is a Leaf's whose extent lies between d and b, and the path leads to it. No path at all is the empty one.
+// The body at o is a Leaf's whose extent lies between d and b, and the path leads to it. No path at all is the empty one. The walk of the check has
+// a copy of its own, and so has the root.
+#[inline(always)]
 pub fn leaf_good<E: Editioned>(
     f: &[u8],
     o: usize,
