@@ -98,9 +98,8 @@ fn extend(path: &mut [u8], depth: usize, f: &[u8], o: usize, n: usize)
     path[depth..depth + n].copy_from_slice(&f[o + Prefix::BYTES..o + Prefix::BYTES + n]);
 }
 
-// The Leaf whose body lies at o: its body and its extent. The walk has a copy of its own, so that its other caller costs it no call.
-#[inline(always)]
-pub(crate) fn leaf(
+// The Leaf whose body lies at o: its body and its extent.
+fn leaf(
     f: &[u8],
     map: &mut [u64],
     path: &[u8],

@@ -10,7 +10,7 @@ ghost use Rattle.layout.specs.Place.{at_u};
 ghost use Rattle.audit.specs.Walk.{At, Arrays};
 ghost use Rattle.audit.specs.Audit.{ruled, HeaderFits, RootItems, EmptyTold, Unmarked, Closes};
 
-use crate::walk::{along, leaf};
+use crate::walk::along;
 use census::freed::lists;
 use census::{Bounds, Sums, take};
 use editions::{Edition, Editioned};
@@ -19,6 +19,7 @@ use fields::header::Header;
 use layout::entry::Entry;
 use layout::kind::Kind;
 use pieces::zero_eight;
+use shape::leaf::lone_good;
 use sweep::swept;
 
 // An EmptyRoot whose body lies at o.
@@ -36,7 +37,27 @@ fn empty(f: &[u8], map: &mut [u64], o: usize, bounds: Bounds, t: Sums) -> Option
     Some(r)
 }
 
-// The root slot: "EmptyRoot stands only at the root". No path leads to a Leaf there.
+// A Leaf whose body lies at o, to which no path leads. The walk's own is another function, so that it is compiled into the walk.
+fn lone(
+    f: &[u8],
+    map: &mut [u64],
+    o: usize,
+    bounds: Bounds,
+    t: Sums,
+    edition: Edition,
+) -> Option<Sums>
+    requires inside { bounds.next ≤ length f.now }
+    requires room { bounds.next ≤ 512 * length map.old }
+    requires tally { Tally bounds.given 0 t }
+    requires place { (o % 8 ≡ 0) × (o < 1048576) }
+    ensures { At (rules_of edition) f.now [] 1 o bounds.start bounds.given bounds.next map.old t map.new result }
+{
+    let r = take::body(map, Kind::Leaf, o, bounds, t)?;
+    let x = lone_good(f, o, bounds.start, bounds.next, edition)?;
+    take::extent(map, x.place, x.size, bounds, r)
+}
+
+// The root slot: "EmptyRoot stands only at the root".
 fn root(
     f: &[u8],
     map: &mut [u64],
@@ -65,7 +86,7 @@ fn root(
         return empty(f, map, e.place, bounds, t);
     }
     if e.high == Kind::Leaf.number() {
-        return leaf(f, map, &[], e.place, bounds, t, edition);
+        return lone(f, map, e.place, bounds, t, edition);
     }
     along(f, map, path, waits, s, bounds, t, edition)
 }

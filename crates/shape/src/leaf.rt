@@ -1,5 +1,5 @@
 // A Leaf's body and its extent, against the path that leads to it.
-ghost use Rattle.std.specs.Prelude.{◌+◌, ◌≤◌, ◌<◌, length, take, drop};
+ghost use Rattle.std.specs.Prelude.{◌+◌, ◌≤◌, ◌<◌, ◌≡◌, [], false, length, take, drop};
 ghost use Rattle.layout.specs.Number.{le};
 ghost use Rattle.layout.specs.Place.{leaf_stamp};
 ghost use Rattle.pieces.specs.Decides.{Decides};
@@ -100,9 +100,48 @@ fn stamp_good(f: &[u8], o: usize, edition: Edition) -> bool
     }
 }
 
-// The body at o is a Leaf's whose extent lies between d and b, and the path leads to it. No path at all is the empty one. The walk of the check has
-// a copy of its own, and so has the root.
-#[inline(always)]
+// The k bytes at e are a legal key, to which the path leads if one does.
+fn key_led<const LED: bool>(f: &[u8], e: usize, k: usize, path: &[u8], edition: Edition) -> bool
+    requires inside { e + k ≤ length f.now }
+    requires lone { LED ≡ false → path.now ≡ [] }
+    ensures { Decides (Under (rules_of edition) path.now (take k (drop e f.now))) result }
+{
+    if LED {
+        return key_good(f, e, k, path, edition);
+    }
+    keys::fault(&f[e..e + k], edition).is_ok()
+}
+
+// The body at o is a Leaf's whose extent lies between d and b, and the path leads to it. Where none does, another instance stands for it: tried as
+// one, its second caller took up to 1.11 of a check's instructions.
+fn good<const LED: bool>(
+    f: &[u8],
+    o: usize,
+    path: &[u8],
+    d: usize,
+    b: usize,
+    edition: Edition,
+) -> Option<Extent>
+    requires room { (o + 16 ≤ length f.now) × (b ≤ length f.now) }
+    requires lone { LED ≡ false → path.now ≡ [] }
+    ensures { LeafTold (rules_of edition) f.now path.now o d b result }
+{
+    let e = Leaf::extent(f, o);
+    let k = Leaf::key_length(f, o);
+    let size = Leaf::rounded(k + Leaf::value_length(f, o));
+    if !extent_fits(e, size, d, b) {
+        return None;
+    }
+    if !stamp_good(f, o, edition) {
+        return None;
+    }
+    if !key_led::<LED>(f, e, k, path, edition) {
+        return None;
+    }
+    Some(Extent { place: e, size })
+}
+
+// A Leaf to which the path leads.
 pub fn leaf_good<E: Editioned>(
     f: &[u8],
     o: usize,
@@ -114,18 +153,19 @@ pub fn leaf_good<E: Editioned>(
     requires { (o + 16 ≤ length f.now) × (b ≤ length f.now) }
     ensures { LeafTold (E.rules edition) f.now path.now o d b result }
 {
-    let edition = edition.edition();
-    let e = Leaf::extent(f, o);
-    let k = Leaf::key_length(f, o);
-    let size = Leaf::rounded(k + Leaf::value_length(f, o));
-    if !extent_fits(e, size, d, b) {
-        return None;
-    }
-    if !stamp_good(f, o, edition) {
-        return None;
-    }
-    if !key_good(f, e, k, path, edition) {
-        return None;
-    }
-    Some(Extent { place: e, size })
+    good::<true>(f, o, path, d, b, edition.edition())
+}
+
+// A Leaf to which no path leads, so that its key is only to be a legal one.
+pub fn lone_good<E: Editioned>(
+    f: &[u8],
+    o: usize,
+    d: usize,
+    b: usize,
+    edition: E,
+) -> Option<Extent>
+    requires { (o + 16 ≤ length f.now) × (b ≤ length f.now) }
+    ensures { LeafTold (E.rules edition) f.now [] o d b result }
+{
+    good::<false>(f, o, &[], d, b, edition.edition())
 }

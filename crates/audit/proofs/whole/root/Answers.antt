@@ -17,7 +17,7 @@ returns-then-e-number c =
 
 pub returns-then-e-number-2 : goal.returns-then-e-number-2
 returns-then-e-number-2 c =
-    let e = c.read-e.ensures in root_tree e.0 (λ q. c.if-e-number.false (q ∙ sym c.number.ensures.value)) (slot_at e.0 e.1 (omega (arith, c.if-s-lt1.false)) (omega (arith, c.if-bounds-s.false)) (c.if-e-number-2.true ∙ c.number-2.ensures.value) c.leaf.ensures)
+    let e = c.read-e.ensures in root_tree e.0 (λ q. c.if-e-number.false (q ∙ sym c.number.ensures.value)) (slot_at e.0 e.1 (omega (arith, c.if-s-lt1.false)) (omega (arith, c.if-bounds-s.false)) (c.if-e-number-2.true ∙ c.number-2.ensures.value) c.lone.ensures)
 
 pub returns : goal.returns
 returns c = root_tree c.read-e.ensures.0 (λ q. c.if-e-number.false (q ∙ sym c.number.ensures.value)) c.along.ensures
