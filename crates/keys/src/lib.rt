@@ -159,18 +159,15 @@ fn ends(path: &[u8], n: usize) -> bool
 fn begins_by_byte(key: &[u8], path: &[u8]) -> bool
     ensures { Decides (Begins (escaped key.now) path.now) result }
 {
-    let mut i = 0;
     let mut n = 0;
-    while i < key.len() {
+    for &b in key {
         if n >= path.len() {
             return true;
         }
-        let b = key[i];
         if !byte_fits(b, path, n) {
             return false;
         }
         n += weight(b);
-        i += 1;
     }
     ends(path, n)
 }
@@ -216,9 +213,8 @@ fn shared_escaped(key: &[u8], other: &[u8]) -> usize
     requires { (length key.now < 65536) × (length other.now < 65536) }
     ensures { result ≡ shared (escaped key.now) (escaped other.now) }
 {
-    let mut i = 0;
     let mut n = 0;
-    while i < key.len() {
+    for i in 0..key.len() {
         let b = key[i];
         if i >= other.len() {
             return n + weight(b) - 1;
@@ -227,12 +223,11 @@ fn shared_escaped(key: &[u8], other: &[u8]) -> usize
             return n;
         }
         n += weight(b);
-        i += 1;
     }
-    if i >= other.len() {
+    if key.len() >= other.len() {
         return n + 2;
     }
-    n + weight(other[i]) - 1
+    n + weight(other[key.len()]) - 1
 }
 
 // The same in edition 1, from depth d on.
@@ -240,17 +235,16 @@ fn shared_plain(key: &[u8], other: &[u8], d: usize) -> usize
     requires { length other.now < 65536 }
     ensures { result ≡ shared (drop d (ended key.now)) (drop d (ended other.now)) }
 {
-    let mut i = d;
-    while i <= other.len() {
+    let past = other.len() + 1;
+    for i in d..past {
         if i > key.len() {
             return i - d;
         }
         if at(key, i) != at(other, i) {
             return i - d;
         }
-        i += 1;
     }
-    i - d
+    past.saturating_sub(d)
 }
 
 // How many walked bytes two keys share from depth d on, up to which they share all.

@@ -94,9 +94,6 @@ asks_with {n} {r} k l e x' takes x A = record { bodies = e ∙ rw A.bodies same;
               get_or-set_other (map (tally takes) kinds) k i (get_or (map (tally takes) kinds) k 0 + 1) 0 z ∙ omega (arith, kinds_at (tally takes) i l9, kinds_at (tally (k ∷ takes)) i l9, tally_other k i takes z)
         ])
 
-pub asks_extent : {n r : Needs} (x : ℕ) → r.bodies ≡ n.bodies → r.extent ≡ x → (takes : List ℕ) (y : ℕ) → Asks n takes y → Asks r takes x
-asks_extent x e f takes y A = record { bodies = e ∙ A.bodies; extent = f }
-
 pub asks_small : {n : Needs} {takes : List ℕ} {x : ℕ} → Asks n takes x → length takes < 65536 → x < 4294967296 → Small n
 asks_small {n} {takes} A l m =
     record {
