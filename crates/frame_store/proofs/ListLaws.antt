@@ -3,9 +3,8 @@ use Prim.Native.Nat.{ℕ}
 use mathlib.Core.Path.{◌≡◌, refl, ap, ◌∙◌}
 use mathlib.Core.List.{List, [], ◌∷◌}
 use mathlib.Core.Bool.{Bool, true, false, not}
-use native.Mathlib.Omega.{arith}
-use lib.ListN.{length, set}
 use lib.Dec.{eqb}
+use mir.Val.{bool_byte}
 use Rattle.answers.specs.declared.List.{List as Listing}
 use Rattle.answers.specs.declared.List.TheVariants as list
 use Rattle.answers.specs.declared.Refusal as refusal
@@ -18,18 +17,10 @@ use Rattle.frame_store.specs.Tells.{Tells}
 use Rattle.frame_store.specs.List.{Listed}
 use Rattle.frame_store.proofs.LookUpLaws.{is_refusal}
 
--- a list of two, set at all places
-set_two : (o : List ℕ) (a b : ℕ) → length o ≡ 2 → set (set o 0 a) 1 b ≡ a ∷ b ∷ []
-set_two [] a b e = absurd (omega arith)
-set_two (x ∷ []) a b e = absurd (omega arith)
-set_two (x ∷ (y ∷ [])) a b e = refl
-set_two (x ∷ (y ∷ (t ∷ ts))) a b e = absurd (omega arith)
-
-pub two_told : (o : List ℕ) (a b : ℕ) → length o ≡ 2 → Tells o (a ∷ b ∷ []) (set (set o 0 a) 1 b)
-two_told o a b e = record { written = λ z. set_two o a b e; other = λ z. absurd (z e) }
-
-pub two_untold : (o : List ℕ) (a b : ℕ) → (length o ≡ 2 → ⊥) → Tells o (a ∷ b ∷ []) o
-two_untold o a b n = record { written = λ z. absurd (n z); other = λ z. refl }
+-- 1 if more remain, and else 0
+pub more_told : {o o' : List ℕ} (n : ℕ) (more : Bool) → Tells o (n ∷ bool_byte more ∷ []) o' → Tells o (n ∷ one_if more ∷ []) o'
+more_told n true T = T
+more_told n false T = T
 
 module _ {E : Edition} (told : Listing) {f p : List ℕ} (s : List ℕ) (has delimiter : ℕ) {b : List ℕ} {n : ℕ} {b' : List ℕ}
     (P : ListPromise E f p (start_of (not (eqb has 0)) s) (delimiter_of delimiter) b (list_number told) (list_count told) (list_more told) b') (number : n ≡ list_number told) where

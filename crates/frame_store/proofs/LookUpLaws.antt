@@ -3,8 +3,6 @@ use Prim.Native.Nat.{ℕ}
 use mathlib.Core.Path.{◌≡◌, refl, ap, ◌∙◌}
 use mathlib.Core.List.{List, [], ◌∷◌}
 use mathlib.Core.Bool.{true, false}
-use native.Mathlib.Omega.{arith}
-use lib.ListN.{length, set}
 use borrow.Author.Tests.{eq-eqb, ne_eqb}
 use Rattle.answers.specs.declared.LookUp.{LookUp}
 use Rattle.answers.specs.declared.LookUp.TheVariants as look
@@ -18,38 +16,6 @@ use Rattle.demands.specs.Words.{Refusal}
 use Rattle.store.specs.Found.{found_in}
 use Rattle.frame_store.specs.Tells.{Tells}
 use Rattle.frame_store.specs.LookUp.{told_of, LookedUp}
-
--- ---- three numbers
-
--- a list of three, set at all places
-set_three : (o : List ℕ) (a b c : ℕ) → length o ≡ 3 → set (set (set o 0 a) 1 b) 2 c ≡ a ∷ b ∷ c ∷ []
-set_three [] a b c e = absurd (omega arith)
-set_three (x ∷ []) a b c e = absurd (omega arith)
-set_three (x ∷ (y ∷ [])) a b c e = absurd (omega arith)
-set_three (x ∷ (y ∷ (z ∷ []))) a b c e = refl
-set_three (x ∷ (y ∷ (z ∷ (t ∷ ts)))) a b c e = absurd (omega arith)
-
-pub three_told : (o : List ℕ) (a b c : ℕ) → length o ≡ 3 → Tells o (a ∷ b ∷ c ∷ []) (set (set (set o 0 a) 1 b) 2 c)
-three_told o a b c e = record { written = λ z. set_three o a b c e; other = λ z. absurd (z e) }
-
-pub none_told : (o : List ℕ) (a b c : ℕ) → (length o ≡ 3 → ⊥) → Tells o (a ∷ b ∷ c ∷ []) o
-none_told o a b c n = record { written = λ z. absurd (n z); other = λ z. refl }
-
--- ---- four numbers
-
-set_four : (o : List ℕ) (a b c d : ℕ) → length o ≡ 4 → set (set (set (set o 0 a) 1 b) 2 c) 3 d ≡ a ∷ b ∷ c ∷ d ∷ []
-set_four [] a b c d e = absurd (omega arith)
-set_four (x ∷ []) a b c d e = absurd (omega arith)
-set_four (x ∷ (y ∷ [])) a b c d e = absurd (omega arith)
-set_four (x ∷ (y ∷ (z ∷ []))) a b c d e = absurd (omega arith)
-set_four (x ∷ (y ∷ (z ∷ (t ∷ [])))) a b c d e = refl
-set_four (x ∷ (y ∷ (z ∷ (t ∷ (u ∷ ts))))) a b c d e = absurd (omega arith)
-
-pub four_told : (o : List ℕ) (a b c d : ℕ) → length o ≡ 4 → Tells o (a ∷ b ∷ c ∷ d ∷ []) (set (set (set (set o 0 a) 1 b) 2 c) 3 d)
-four_told o a b c d e = record { written = λ z. set_four o a b c d e; other = λ z. absurd (z e) }
-
-pub four_not : (o : List ℕ) (a b c d : ℕ) → (length o ≡ 4 → ⊥) → Tells o (a ∷ b ∷ c ∷ d ∷ []) o
-four_not o a b c d n = record { written = λ z. absurd (n z); other = λ z. refl }
 
 -- ---- by the edition
 

@@ -1,6 +1,5 @@
 // The calls on numbers and slices, in either edition.
-ghost use Rattle.std.specs.Prelude.{◌≡◌, [], ◌∷◌};
-ghost use Rattle.answers.specs.Number.{one_if};
+ghost use Rattle.std.specs.Prelude.{◌≤◌};
 ghost use Rattle.model.specs.Edition.{edition_of};
 ghost use Rattle.model.specs.Promise.{FormatPromise, CheckPromise, PutPromise, ReplacePromise, ErasePromise, PackPromise};
 ghost use Rattle.store.specs.Write.{value_for};
@@ -12,15 +11,6 @@ ghost use Rattle.frame_store.specs.Batch.{Batched};
 
 use answers::{Info, List, LookUp};
 use fields::header::Header;
-
-// as many numbers as look-up tells, with a stamp and without, as a listing does, and as info does
-const FOUND: usize = 3;
-
-const FOUND_STAMPED: usize = 4;
-
-const PAGE: usize = 2;
-
-const COUNTS: usize = 14;
 
 // the place of a refused change stands above the number's byte
 const PLACE_UNIT: u64 = 256;
@@ -37,38 +27,35 @@ pub fn check(frame: &[u8], edition: usize) -> u32
     answers::check_number(store::look::check(frame, edition))
 }
 
-// The three numbers, where there is room for just three.
-fn tell_three(found: &mut [u64], place: usize, length: usize, slots: usize)
-    ensures { Tells found.old (place ∷ length ∷ slots ∷ []) found.new }
+// The numbers, where there is room for just so many.
+fn tell<const N: usize>(out: &mut [u64], numbers: [u64; N])
+    requires fits { N ≤ 14 }
+    ensures { Tells out.old numbers.entry out.new }
 {
-    if found.len() == FOUND {
-        found[0] = place as u64;
-        found[1] = length as u64;
-        found[2] = slots as u64;
-    }
-}
-
-// The four numbers, where there is room for just four.
-fn tell_four(found: &mut [u64], place: usize, length: usize, slots: usize, stamp: usize)
-    ensures { Tells found.old (place ∷ length ∷ slots ∷ stamp ∷ []) found.new }
-{
-    if found.len() == FOUND_STAMPED {
-        found[0] = place as u64;
-        found[1] = length as u64;
-        found[2] = slots as u64;
-        found[3] = stamp as u64;
+    if out.len() == N {
+        out.copy_from_slice(&numbers);
     }
 }
 
 // What the edition's look-up tells.
-fn tell(found: &mut [u64], place: usize, length: usize, slots: usize, stamp: usize, edition: usize)
+fn tell_found(
+    found: &mut [u64],
+    place: usize,
+    length: usize,
+    slots: usize,
+    stamp: usize,
+    edition: usize,
+)
     ensures { Tells found.old (told_of (edition_of edition) (record { number = 0; place = place; long = length; slots = slots; stamp = stamp })) found.new }
 {
     if edition == Header::SECOND_EDITION {
-        tell_four(found, place, length, slots, stamp);
+        tell(
+            found,
+            [place as u64, length as u64, slots as u64, stamp as u64],
+        );
         return;
     }
-    tell_three(found, place, length, slots);
+    tell(found, [place as u64, length as u64, slots as u64]);
 }
 
 // Place, length and slots visited, and in edition 2 the stamp, go into the numbers if there are as many and the call is not refused, and nothing otherwise.
@@ -79,11 +66,11 @@ pub fn look_up(frame: &[u8], key: &[u8], found: &mut [u64], edition: usize) -> u
     let n = answers::look_up_number(told);
     match told {
         LookUp::Found(place, length, slots, stamp) => {
-            tell(found, place, length, slots, stamp, edition);
+            tell_found(found, place, length, slots, stamp, edition);
             n
         }
         LookUp::Absent(slots) => {
-            tell(found, 0, 0, slots, 0, edition);
+            tell_found(found, 0, 0, slots, 0, edition);
             n
         }
         LookUp::Refused(_) => n,
@@ -124,43 +111,26 @@ pub fn info(frame: &[u8], counts: &mut [u64], edition: usize) -> u32
     let Info::Told(c) = told else {
         return n;
     };
-    if counts.len() == COUNTS {
-        counts[0] = c.frame_length as u64;
-        counts[1] = c.slot_capacity as u64;
-        counts[2] = c.slots_given as u64;
-        counts[3] = c.next_byte as u64;
-        counts[4] = c.records as u64;
-        counts[5] = c.dead_bytes as u64;
-        counts[6] = c.leaf as u64;
-        counts[7] = c.prefix as u64;
-        counts[8] = c.crossing as u64;
-        counts[9] = c.node4 as u64;
-        counts[10] = c.node16 as u64;
-        counts[11] = c.node48 as u64;
-        counts[12] = c.node256 as u64;
-        counts[13] = c.empty_root as u64;
-    }
+    tell(
+        counts,
+        [
+            c.frame_length as u64,
+            c.slot_capacity as u64,
+            c.slots_given as u64,
+            c.next_byte as u64,
+            c.records as u64,
+            c.dead_bytes as u64,
+            c.leaf as u64,
+            c.prefix as u64,
+            c.crossing as u64,
+            c.node4 as u64,
+            c.node16 as u64,
+            c.node48 as u64,
+            c.node256 as u64,
+            c.empty_root as u64,
+        ],
+    );
     n
-}
-
-// 1 if more remain, and else 0.
-fn one_if(more: bool) -> usize
-    ensures { result ≡ one_if more }
-{
-    if more {
-        return 1;
-    }
-    0
-}
-
-// How many entries and whether more remain, where there is room for just two numbers.
-fn tell_page(page: &mut [u64], count: usize, more: usize)
-    ensures { Tells page.old (count ∷ more ∷ []) page.new }
-{
-    if page.len() == PAGE {
-        page[0] = count as u64;
-        page[1] = more as u64;
-    }
 }
 
 // A start key is given if `given` is not 0; a delimiter above 255 is none. How many and whether more remain go into the two numbers if there are two
@@ -182,7 +152,7 @@ pub fn list(
     let List::Done(count, more) = told else {
         return n;
     };
-    tell_page(page, count, one_if(more));
+    tell(page, [count as u64, u64::from(more)]);
     n
 }
 
