@@ -1,18 +1,17 @@
 -- One change on a good frame: refused for its key or its value, or made; and which call it is. Assumes nothing.
-use Prim.Native.Nat.{ℕ, ◌+◌, ◌<◌, ◌≤◌}
+use Prim.Native.Nat.{ℕ, ◌<◌, ◌≤◌}
 use mathlib.Core.Path.{◌≡◌, refl, sym, ◌∙◌}
 use mathlib.Core.List.{List}
 use mathlib.Core.Logic.{◌≢◌}
 use native.Mathlib.Omega.{arith}
 use native.Mathlib.Decide.{ℕ_discrete}
-use lib.ListN.{length, take, drop}
+use lib.ListN.{length}
 use lib.Dec.{lit<}
 use borrow.Author.Tests.{eq-eqb, ne_eqb, lt-ltb, le-ltb}
 use Rattle.layout.specs.Number.{Bytes}
 use Rattle.model.specs.Edition.{Edition, edition_of, Value, text_of, value_fault}
 use Rattle.model.specs.State.{Write}
-use Rattle.model.specs.Promise.{CheckPromise, WritePromise, PutPromise, ReplacePromise, ErasePromise}
-use Rattle.model.specs.Call.{Called}
+use Rattle.model.specs.Promise.{CheckPromise, WritePromise, ErasePromise}
 use Rattle.model.proofs.StringLaws.{eqb_cases, ltb_cases}
 use Rattle.answers.specs.declared.Refusal.{Refusal}
 use Rattle.answers.specs.declared.Refusal.TheVariants as why
@@ -29,7 +28,6 @@ use Rattle.erase_core.specs.Core as erase_core
 use Rattle.store.proofs.LookLaws.{told_good, key_four}
 use Rattle.store.proofs.PutCallLaws.{made, bar_three, bar_four, bar_five, bar_none}
 use Rattle.store.proofs.EraseCallLaws.{erase_three, erase_four, erase_asked, erase_made}
-use Rattle.batch.specs.Layout.{kind_at, key_long, value_long, value_from, at_key, key_at, text_at, stamp_at, is_put, is_replacement, call_at}
 use Rattle.batch.specs.Fault.{fault_of}
 
 -- ---- numbers fit a byte
@@ -126,24 +124,3 @@ module _ (E : Edition) (k : List ℕ) (v : Value) where
 
   pub fault_free : (e : ℕ) → e ≡ E.key_fault k → e ≡ 0 → length (text_of v) ≤ 65535 → 0 ≡ fault_of E k v
   fault_free e q z l = rw (eq-eqb (E.key_fault k) 0 (sym q ∙ z), le-ltb 65535 (length (text_of v)) l) refl
-
--- ---- which call it is
-
-module _ (E : Edition) (f b : List ℕ) (o : ℕ) (n : ℕ) (f' : List ℕ) where
-  pub call_put : kind_at b o ≡ is_put → {k t : List ℕ} {s : ℕ} → PutPromise E f k (record { bytes = t; stamp = s }) n f' → k ≡ key_at E b o → t ≡ text_at E b o → s ≡ stamp_at E b o → Called E f (call_at E b o) n f'
-  call_put e P p q r = rw (eq-eqb (kind_at b o) is_put e) (rw (p, q, r) at P)
-
-  pub call_replace : (kind_at b o ≡ is_put → ⊥) → kind_at b o ≡ is_replacement → {k t : List ℕ} {s : ℕ} → ReplacePromise E f k (record { bytes = t; stamp = s }) n f' → k ≡ key_at E b o → t ≡ text_at E b o → s ≡ stamp_at E b o
-      → Called E f (call_at E b o) n f'
-  call_replace m e P p q r = rw (ne_eqb (kind_at b o) is_put m, eq-eqb (kind_at b o) is_replacement e) (rw (p, q, r) at P)
-
-  pub call_erase : (kind_at b o ≡ is_put → ⊥) → (kind_at b o ≡ is_replacement → ⊥) → {k : List ℕ} → ErasePromise E f k n f' → k ≡ key_at E b o → Called E f (call_at E b o) n f'
-  call_erase m e P p = rw (ne_eqb (kind_at b o) is_put m, ne_eqb (kind_at b o) is_replacement e) (rw p at P)
-
--- the parts that the code lends
-module _ (E : Edition) (b : List ℕ) (o at kl vl : ℕ) (h : at ≡ at_key E) (p : kl ≡ key_long b o) where
-  pub key_part : (m : ℕ) → m ≡ kl → take m (drop (o + at) b) ≡ key_at E b o
-  key_part m e = rw (h, e ∙ p) refl
-
-  pub text_part : vl ≡ value_long b o → (m from : ℕ) → m ≡ vl → from ≡ o + at + kl → take m (drop from b) ≡ text_at E b o
-  text_part q m from e d = let x : from ≡ value_from E b o = d ∙ rw (h, p) refl in rw (e ∙ q, x) refl

@@ -8,14 +8,19 @@ use native.Mathlib.Omega.{arith}
 use native.Mathlib.Numerals.{add-one}
 use lib.ListN.{length}
 use lib.Dec.{eqb, lit<}
-use borrow.Author.Tests.{le-leb, lt-leb, eq-eqb, ne_eqb, not-true, not-false}
+use borrow.Author.Tests.{le-leb, lt-leb, not-true, not-false}
 use Rattle.layout.specs.Number.{le, Bytes}
 use Rattle.layout.proofs.NumberLaws.{le_lt}
 use Rattle.model.specs.Edition.{Edition, edition_of}
 use Rattle.model.specs.Call.{Call}
 use Rattle.model.proofs.StringLaws.{bool_cases, leb_cases, clash}
 use Rattle.model.proofs.Edition2.{of_two, of_other}
-use Rattle.batch.specs.Layout.{count_in, count_size, offset_at, offset_of, at_stamp, at_key, stamp_at, kind_at, end_of, is_put, is_replacement, is_erase, known, call_at, sound, also, changes_from, changes_of, laid}
+use Rattle.batch.specs.Layout.{count_in, count_size, offset_at, offset_of, at_stamp, at_key, stamp_at, kind_at, end_of, Numbered, known, call_at, sound, also, changes_from, changes_of, laid}
+use Rattle.batch.specs.declared.laid.Change.{Change}
+use Rattle.batch.specs.declared.laid.Change.TheVariants as change
+use Rattle.batch.specs.declared.laid.Unknown.{Unknown}
+use Rattle.std.specs.Prelude.{Result, Ok, Err}
+use Rattle.std.specs.Result.{is_ok}
 use Rattle.batch.specs.Layouts.{Layouts}
 
 pub layouts : Layouts
@@ -47,15 +52,12 @@ key_behind E = bool_cases (eqb E.stamps 1) (λ t. rw t (omega arith)) (λ t. rw 
 
 -- ---- one change
 
-module _ (kind : ℕ) where
-  pub known_put : kind ≡ is_put → true ≡ known kind
-  known_put e = rw (eq-eqb kind is_put e) refl
-
-  pub known_replacement : (kind ≡ is_put → ⊥) → kind ≡ is_replacement → true ≡ known kind
-  known_replacement n e = rw (ne_eqb kind is_put n, eq-eqb kind is_replacement e) refl
-
-  pub known_erase : (kind ≡ is_put → ⊥) → (kind ≡ is_replacement → ⊥) → eqb kind is_erase ≡ known kind
-  known_erase n m = rw (ne_eqb kind is_put n, ne_eqb kind is_replacement m) refl
+-- what the code says of a kind
+pub known_told : (n : ℕ) (r : Result Change Unknown) → Numbered n r → is_ok r ≡ known n
+known_told n (Ok change.Put) e = rw e refl
+known_told n (Ok change.Replacement) e = rw e refl
+known_told n (Ok change.Erase) e = rw e refl
+known_told n (Err u) e = sym e
 
 module _ (E : Edition) (b : List ℕ) (lo o : ℕ) where
   pub before : o < lo → false ≡ sound E b lo o

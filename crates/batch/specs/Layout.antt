@@ -7,12 +7,15 @@
 --   o + 4     4    value length
 --   o + 8          key, value; in edition 2 the stamp, 8, and then at o + 16 key and value
 -- Gaps, and bytes after the last change, are not looked at; the value bytes of an erase, and its stamp, belong to it and are not used.
-use Rattle.std.specs.Prelude.{ℕ, zero, suc, ◌+◌, ◌*◌, List, [], ◌∷◌, Bool, true, false, length, take, drop, leb, eqb}
+use Rattle.std.specs.Prelude.{ℕ, zero, suc, ◌+◌, ◌*◌, ◌≡◌, Result, Ok, Err, List, [], ◌∷◌, Bool, true, false, length, take, drop, leb, eqb}
 use Rattle.std.proofs.Math.Option.{Option, none, some}
 use Rattle.layout.specs.Number.{le}
 use Rattle.model.specs.Strings.{pick}
 use Rattle.model.specs.Edition.{Edition, Value}
 use Rattle.model.specs.Call.{Call, put, replace, erase}
+use Rattle.batch.specs.declared.laid.Change.{Change}
+use Rattle.batch.specs.declared.laid.Change.TheVariants as change
+use Rattle.batch.specs.declared.laid.Unknown.{Unknown}
 
 -- ---- the header
 
@@ -83,6 +86,13 @@ is_erase = 3
 
 abbrev pub known : ℕ → Bool
 known kind = pick (eqb kind is_put) true (pick (eqb kind is_replacement) true (eqb kind is_erase))
+
+-- the kind that the code names, if it is a known one
+abbrev pub Numbered : ℕ → Result Change Unknown → Type 0
+Numbered n (Ok change.Put) = n ≡ is_put
+Numbered n (Ok change.Replacement) = n ≡ is_replacement
+Numbered n (Ok change.Erase) = n ≡ is_erase
+Numbered n (Err e) = known n ≡ false
 
 abbrev pub call_at : Edition → List ℕ → ℕ → Call
 call_at E b o = pick (eqb (kind_at b o) is_put) (put (key_at E b o) (value_at E b o)) (pick (eqb (kind_at b o) is_replacement) (replace (key_at E b o) (value_at E b o)) (erase (key_at E b o)))

@@ -9,6 +9,7 @@ ghost use Rattle.batch.specs.Run.{At};
 ghost use Rattle.batch.specs.Fault.{fault_of};
 
 use crate::laid;
+use crate::laid::Change;
 use answers;
 
 // "A value has 0 to 65,535 bytes."
@@ -68,16 +69,13 @@ pub fn change(f: &mut [u8], b: &[u8], o: usize, edition: usize) -> usize
     requires { Standing (edition_of edition) f.old × At (edition_of edition) b.now o }
     ensures { Called (edition_of edition) f.old (call_at (edition_of edition) b.now o) result f.new × (result < 256) }
 {
-    let kind = laid::kind(b, o);
     let from = o + laid::at_key(edition);
     let to = from + laid::key_length(b, o);
     let end = to + laid::value_length(b, o);
     let stamp = laid::stamp(b, o, edition);
-    if kind == laid::PUT {
-        return put(f, &b[from..to], &b[to..end], stamp, edition);
+    match laid::kind(b, o) {
+        Ok(Change::Put) => put(f, &b[from..to], &b[to..end], stamp, edition),
+        Ok(Change::Replacement) => replace(f, &b[from..to], &b[to..end], stamp, edition),
+        _ => erase(f, &b[from..to], edition),
     }
-    if kind == laid::REPLACEMENT {
-        return replace(f, &b[from..to], &b[to..end], stamp, edition);
-    }
-    erase(f, &b[from..to], edition)
 }

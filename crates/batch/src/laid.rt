@@ -1,7 +1,7 @@
 // A batch's layout: the fields of its header and of a change, and the test of the whole, which takes any bytes.
 ghost use Rattle.std.specs.Prelude.{◌≡◌, ◌+◌, ◌≤◌, ◌<◌, length};
 ghost use Rattle.model.specs.Edition.{edition_of};
-ghost use Rattle.batch.specs.Layout.{count_in, count_size, offset_at, offset_of, at_stamp, at_key, kind_at, key_long, value_long, stamp_at, end_of, known, sound, changes_of, laid};
+ghost use Rattle.batch.specs.Layout.{count_in, count_size, offset_at, offset_of, at_stamp, at_key, kind_at, key_long, value_long, stamp_at, end_of, Numbered, sound, changes_of, laid};
 
 use layout::number;
 
@@ -16,12 +16,33 @@ const AT_VALUE_LENGTH: usize = 4;
 const AT_STAMP: usize = 8;
 
 const STAMP_SIZE: usize = 8;
-// kinds of a change
-pub const PUT: usize = 1;
 
-pub const REPLACEMENT: usize = 2;
+// What a change does.
+#[derive(Clone, Copy, Debug, PartialEq, Eq)]
+pub enum Change {
+    Put,
+    Replacement,
+    Erase,
+}
 
-const ERASE: usize = 3;
+// A number that is no kind of change.
+#[derive(Clone, Copy, Debug, PartialEq, Eq)]
+pub struct Unknown;
+
+impl TryFrom<usize> for Change {
+    type Error = Unknown;
+
+    ghost try_from_gives = { Numbered };
+
+    fn try_from(kind: usize) -> Result<Change, Unknown> {
+        match kind {
+            1 => Ok(Change::Put),
+            2 => Ok(Change::Replacement),
+            3 => Ok(Change::Erase),
+            _ => Err(Unknown),
+        }
+    }
+}
 
 pub fn count(b: &[u8]) -> usize
     requires { count_size ≤ length b.now }
@@ -38,11 +59,12 @@ pub fn offset(b: &[u8], i: usize) -> usize
     number::read::<4>(b, COUNT_SIZE + OFFSET_SIZE * i)
 }
 
-pub fn kind(b: &[u8], o: usize) -> usize
+// What the change at o does, if it is of a known kind.
+pub fn kind(b: &[u8], o: usize) -> Result<Change, Unknown>
     requires { (o < 4294967296) × (o + at_stamp ≤ length b.now) }
-    ensures { (result ≡ kind_at b.now o) × (result < 65536) }
+    ensures { Numbered (kind_at b.now o) result }
 {
-    number::read::<2>(b, o)
+    Change::try_from(number::read::<2>(b, o))
 }
 
 pub fn key_length(b: &[u8], o: usize) -> usize
@@ -88,18 +110,6 @@ pub fn end(b: &[u8], o: usize, edition: usize) -> usize
     o + at_key(edition) + key_length(b, o) + value_length(b, o)
 }
 
-fn is_known(kind: usize) -> bool
-    ensures { result ≡ known kind }
-{
-    if kind == PUT {
-        return true;
-    }
-    if kind == REPLACEMENT {
-        return true;
-    }
-    kind == ERASE
-}
-
 // The change at o begins after all that stands up to low, lies within the batch, and is of a known kind.
 fn is_sound(b: &[u8], low: usize, o: usize, edition: usize) -> bool
     requires { o < 4294967296 }
@@ -114,7 +124,7 @@ fn is_sound(b: &[u8], low: usize, o: usize, edition: usize) -> bool
     if b.len() < end(b, o, edition) {
         return false;
     }
-    is_known(kind(b, o))
+    kind(b, o).is_ok()
 }
 
 // The bytes are a batch: no offset runs back, overlaps what stands before it or points outside, and every change is of a known kind.
@@ -129,14 +139,12 @@ pub fn well_laid(b: &[u8], edition: usize) -> bool
     if b.len() < low {
         return false;
     }
-    let mut i = 0;
-    while i < n {
+    for i in 0..n {
         let o = offset(b, i);
         if !is_sound(b, low, o, edition) {
             return false;
         }
         low = end(b, o, edition);
-        i += 1;
     }
     true
 }

@@ -43,8 +43,7 @@ pub fn trial(f: &mut [u8], b: &[u8], edition: usize) -> Ended
     ensures { Tried (edition_of edition) f.old b.now result f.new }
 {
     let n = laid::count(b);
-    let mut i = 0;
-    while i < n {
+    for i in 0..n {
         let o = laid::offset(b, i);
         let m = change::change(f, b, o, edition);
         if is_refusal(m) {
@@ -53,7 +52,6 @@ pub fn trial(f: &mut [u8], b: &[u8], edition: usize) -> Ended
                 place: i + 1,
             };
         }
-        i += 1;
     }
     Ended {
         number: DONE,
@@ -76,11 +74,9 @@ pub fn carry_out(f: &mut [u8], b: &[u8], answers: &mut [u8], edition: usize)
     ensures { CarriedOut (edition_of edition) f.old b.now answers.old f.new answers.new }
 {
     let n = laid::count(b);
-    let mut i = 0;
-    while i < n {
+    for i in 0..n {
         let o = laid::offset(b, i);
         let m = change::change(f, b, o, edition);
         tell(answers, i, m);
-        i += 1;
     }
 }

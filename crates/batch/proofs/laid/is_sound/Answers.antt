@@ -1,8 +1,7 @@
 -- `is_sound`: the tests in the order of the definition. Assumes nothing.
-use mathlib.Core.Path.{◌∙◌, ap}
+use mathlib.Core.Path.{◌∙◌}
 use native.Mathlib.Omega.{arith}
-use Rattle.batch.specs.Layout.{known}
-use Rattle.batch.proofs.LayoutLaws.{before, headless, endless, of_kind}
+use Rattle.batch.proofs.LayoutLaws.{before, headless, endless, of_kind, known_told}
 use Rattle.batch.proofs.laid.is_sound.Goals as goal
 
 pub returns-then-o-low : goal.returns-then-o-low
@@ -16,4 +15,4 @@ returns-then-b-end c = let e = c.end.ensures in let h = c.at_key.ensures in endl
 
 pub returns : goal.returns
 returns c =
-    let e = c.end.ensures in let h = c.at_key.ensures in c.is_known.ensures ∙ ap known c.kind.ensures.0 ∙ of_kind _ _ _ _ (omega arith) (omega arith) (omega arith)
+    let e = c.end.ensures in let h = c.at_key.ensures in c.is_ok.ensures.value ∙ known_told _ _ c.kind.ensures ∙ of_kind _ _ _ _ (omega arith) (omega arith) (omega arith)

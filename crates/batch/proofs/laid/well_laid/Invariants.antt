@@ -7,6 +7,3 @@ use Rattle.batch.proofs.laid.well_laid.Given as goal
 
 abbrev pub invariant-loop-i : goal.invariant-loop-i
 invariant-loop-i l = (l.i ≤ l.n) × (laid (changes_of (edition_of l.edition) l.b) ≡ laid (changes_from (edition_of l.edition) l.b (l.n - l.i) l.i l.low))
-
-abbrev pub decreases-loop-i : goal.decreases-loop-i
-decreases-loop-i l = l.n - l.i

@@ -1,5 +1,4 @@
 -- `trial`: the changes so far were made and none refused; the first that is ends it. Assumes nothing.
-use Prim.Native.Nat.{◌-◌}
 use mathlib.Core.Path.{◌≡◌}
 use lib.ListN.{length}
 use Rattle.model.specs.Edition.{edition_of}
@@ -9,6 +8,3 @@ use Rattle.batch.proofs.run.trial.Given as goal
 
 abbrev pub invariant-loop-i : goal.invariant-loop-i
 invariant-loop-i l = (length l.f ≡ length l.initial.f) × ((F : Far (edition_of l.edition) l.initial.f l.b l.i l.f) × Unrefused F.numbers)
-
-abbrev pub decreases-loop-i : goal.decreases-loop-i
-decreases-loop-i l = l.n - l.i
