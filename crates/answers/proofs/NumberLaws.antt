@@ -1,10 +1,11 @@
 -- The numbers of refusals: none is 0, and each fits a byte; and what is handed on by `?` keeps its own. Assumes nothing.
 use Prim.Native.Nat.{ℕ, ◌<◌}
-use mathlib.Core.Path.{◌≡◌, ap}
+use mathlib.Core.Path.{◌≡◌, refl, ap}
+use mathlib.Core.Bool.{true, false}
 use native.Mathlib.Omega.{arith}
 use lib.Dec.{lit<}
 use Rattle.std.specs.Prelude.{Result, Ok, Err}
-use Rattle.std.specs.Result.{IsErrAnd}
+use Rattle.std.specs.Result.{IsErrAnd, is_err}
 use Rattle.answers.specs.declared.Refusal.{Refusal}
 use Rattle.answers.specs.declared.Refusal.TheVariants as refusal
 use Rattle.answers.specs.Number.{refusal_number, number_of, done_number}
@@ -41,3 +42,13 @@ module _ {A : Type 0} (x : Refusal) where
   pub done_on : (r : Result A Refusal) → IsErrAnd r (λ y. y ≡ x) → done_number r ≡ refusal_number x
   done_on (Ok a) h = absurd h
   done_on (Err y) h = ap refusal_number h
+
+-- ---- the test for a refusal
+
+pub refused : {A : Type 0} (r : Result A Refusal) → true ≡ is_err r → done_number r ≡ 0 → ⊥
+refused (Ok x) t e = absurd (cc)
+refused (Err r) t e = never_zero r e
+
+pub passed : {A : Type 0} (r : Result A Refusal) → false ≡ is_err r → done_number r ≡ 0
+passed (Ok x) t = refl
+passed (Err r) t = absurd (cc)

@@ -17,7 +17,7 @@ pub enum Refusal {
     KeyZero,
     // 5: value above 65,535 bytes
     ValueLength,
-    // 7: pack: the output is not F long
+    // 7: the output of pack, or the second frame of a batch, is not F long
     Output,
     // 6: no room
     Room,

@@ -3,17 +3,20 @@ use Prim.Native.Nat.{ℕ}
 use mathlib.Core.Path.{◌≡◌, refl, sym, ap, subst, ◌∙◌}
 use mathlib.Core.List.{List}
 use mathlib.Core.Bool.{false}
-use native.Mathlib.Omega.{arith}
 use Rattle.layout.specs.Number.{Bytes}
-use Rattle.model.specs.Edition.{Edition, edition_of}
+use Rattle.model.specs.Edition.{Edition, Lawful}
 use Rattle.model.specs.State.{State, Done, done, unless, call_erase, on_erase}
 use Rattle.model.specs.Frame.{Good}
 use Rattle.model.specs.Promise.{changes, CheckPromise, ErasePromise}
-use Rattle.model.proofs.Edition2.{lawful_of}
 use Rattle.model.proofs.TextLaws.{bytes_all}
 use Rattle.erase_core.specs.Core.{Left, Asked, EraseMade}
 use Rattle.erase_core.proofs.CoreLaws.{never_zero, left_same}
-use Rattle.store.proofs.LookLaws.{told_good, check_two, key_four, standing}
+use borrow.Author.Tests.{ne_eqb}
+use Rattle.answers.specs.declared.Refusal.{Refusal}
+use Rattle.answers.specs.Number.{refusal_number}
+use Rattle.answers.proofs.NumberLaws.{never_zero as refused_some}
+use Rattle.store.proofs.LookLaws.{told_good}
+use Rattle.store.proofs.PutCallLaws.{changes_not}
 
 module _ (E : Edition) (f k : List ℕ) where
   -- the check refuses
@@ -52,32 +55,17 @@ module _ (E : Edition) (f k : List ℕ) where
         kept = M.kept;
       }
 
--- ---- the ends, by the tests that led there: n is the check's number, e the key's fault
+-- ---- the ends, by the tests that led there
 
-module _ (ed : ℕ) (f k : List ℕ) {n : ℕ} (checked : CheckPromise (edition_of ed) f n) where
-  abbrev E : Edition
-  E = edition_of ed
+module _ (E : Edition) (f k : List ℕ) where
+  pub erase_frame : (r : Refusal) → CheckPromise E f (refusal_number r) → ErasePromise E f k (refusal_number r) f
+  erase_frame r p = refused_frame E f k (refusal_number r) p (refused_some r)
 
-  pub erase_one : n ≡ 1 → ErasePromise E f k 1 f
-  erase_one e = refused_frame E f k 1 (rw e at checked) (λ z. omega arith)
+  pub erase_key : Good E f → (r : Refusal) → refusal_number r ≡ E.key_fault k → ErasePromise E f k (refusal_number r) f
+  erase_key G r q = refused_key E f k G (refusal_number r) (changes_not r) (λ s. key_is E f k (refusal_number r) (sym q) s ∙ rw (ne_eqb (refusal_number r) 0 (refused_some r)) refl)
 
-  pub erase_two : (n ≡ 0 → ⊥) → (n ≡ 1 → ⊥) → ErasePromise E f k 2 f
-  erase_two x y = let e = check_two E f n checked x y in refused_frame E f k 2 (rw e at checked) (λ z. omega arith)
+  pub erase_asked : Lawful E → Good E f → 0 ≡ E.key_fault k → Bytes k → Asked E f k
+  erase_asked L G q bk = record { lawful = L; st = G.0; stands = G.1; legal = record { passes = sym q; bytes = bytes_all k bk } }
 
-  module _ (good : n ≡ 0) where
-    stands : Good E f
-    stands = let S = standing ed f k n checked good in (S.st, S.stands)
-
-    module _ {e : ℕ} (fault : e ≡ E.key_fault k) where
-      pub erase_three : e ≡ 3 → ErasePromise E f k 3 f
-      erase_three x = refused_key E f k stands 3 refl (key_is E f k 3 (sym fault ∙ x))
-
-      pub erase_four : (e ≡ 3 → ⊥) → (e ≡ 0 → ⊥) → ErasePromise E f k 4 f
-      erase_four x y = refused_key E f k stands 4 refl (key_is E f k 4 (key_four ed k (λ z. y (fault ∙ z)) (λ z. x (fault ∙ z))))
-
-      module _ (legal : e ≡ 0) where
-        pub erase_asked : Bytes k → Asked E f k
-        erase_asked bk = record { lawful = lawful_of ed; st = stands.0; stands = stands.1; legal = record { passes = sym fault ∙ legal; bytes = bytes_all k bk } }
-
-        pub erase_made : {x : ℕ} {f' : List ℕ} → EraseMade E f k x f' → ErasePromise E f k x f'
-        erase_made M = made E f k stands (key_is E f k 0 (sym fault ∙ legal)) M
+  pub erase_made : Good E f → 0 ≡ E.key_fault k → {x : ℕ} {f' : List ℕ} → EraseMade E f k x f' → ErasePromise E f k x f'
+  erase_made G q M = made E f k G (key_is E f k 0 (sym q)) M

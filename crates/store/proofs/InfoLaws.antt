@@ -16,7 +16,9 @@ use Rattle.room.specs.declared.fit.Room.{Room}
 use Rattle.room.specs.declared.fit.Needs.{Needs}
 use Rattle.room.specs.Fit.{RoomOf}
 use Rattle.store.specs.Info.{lists, fullness, InfoPromise}
-use Rattle.store.proofs.LookLaws.{check_two}
+use Rattle.answers.specs.declared.Refusal.{Refusal}
+use Rattle.answers.specs.Number.{refusal_number}
+use Rattle.answers.proofs.NumberLaws.{never_zero}
 
 -- ---- the lists
 
@@ -51,17 +53,11 @@ counts_are E {f} {n} {u} {b} {y} {x} {r} {s} W en eu eb ey ex L =
     (list 1 (omega arith) refl fewer.0) (list 2 (omega arith) refl fewer.1) (list 3 (omega arith) refl fewer.2) (list 4 (omega arith) refl fewer.3)
     (list 5 (omega arith) refl fewer.4) (list 6 (omega arith) refl fewer.5) (list 7 (omega arith) refl fewer.6) (list 8 (omega arith) refl fewer.7)
 
--- ---- the ends, by the tests that led there: n is the check's number
+-- ---- the ends, by the tests that led there
 
-module _ (E : Edition) (f : List ℕ) {n : ℕ} (checked : CheckPromise E f n) where
-  refused : {m : ℕ} → n ≡ m → (m ≡ 0 → ⊥) → InfoPromise E f m []
-  refused e z = let p = rw e at checked in record { check = p; full = λ s W. absurd (z (p.good0 (s, W))); nothing = λ q. refl }
+module _ (E : Edition) (f : List ℕ) where
+  pub info_refused : (r : Refusal) → CheckPromise E f (refusal_number r) → InfoPromise E f (refusal_number r) []
+  info_refused r p = record { check = p; full = λ s W. absurd (never_zero r (p.good0 (s, W))); nothing = λ q. refl }
 
-  pub info_one : n ≡ 1 → InfoPromise E f 1 []
-  info_one e = refused e (λ z. omega arith)
-
-  pub info_two : (n ≡ 0 → ⊥) → (n ≡ 1 → ⊥) → InfoPromise E f 2 []
-  info_two x y = refused (check_two E f n checked x y) (λ z. omega arith)
-
-  pub info_told : {told : List ℕ} → n ≡ 0 → ((s : State) → Stands E f s → told ≡ fullness s) → InfoPromise E f 0 told
-  info_told e h = record { check = rw e at checked; full = h; nothing = λ z. absurd (z refl) }
+  pub info_told : {told : List ℕ} → CheckPromise E f 0 → ((s : State) → Stands E f s → told ≡ fullness s) → InfoPromise E f 0 told
+  info_told p h = record { check = p; full = h; nothing = λ z. absurd (z refl) }

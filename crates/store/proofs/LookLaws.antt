@@ -2,18 +2,15 @@
 use Prim.Native.Nat.{ℕ}
 use mathlib.Core.Path.{◌≡◌, refl, ap, sym, ◌∙◌}
 use mathlib.Core.List.{List, []}
-use mathlib.Core.Bool.{true, false}
-use mathlib.Core.Logic.{⊎_elim}
 use mathlib.Core.Option.{Option, none, some}
-use native.Mathlib.Decide.{ℕ_discrete}
 use native.Mathlib.Omega.{arith}
 use lib.ListN.{take, drop}
 use lib.Dec.{eqb}
 use borrow.Author.Tests.{eq-eqb, ne_eqb}
-use Rattle.std.specs.Prelude.{Some, None}
+use Rattle.std.specs.Prelude.{Some, None, Result}
 use Rattle.layout.specs.Number.{Bytes}
 use Rattle.model.specs.Strings.{pick}
-use Rattle.model.specs.Edition.{Edition, edition_of, Legal}
+use Rattle.model.specs.Edition.{Edition, Legal, Lawful}
 use Rattle.model.specs.State.{State, find_in}
 use Rattle.model.specs.Visits.{visits_in}
 use Rattle.model.specs.Frame.{Root, root_art, Stands, Good}
@@ -23,9 +20,11 @@ use Rattle.descent.specs.declared.lookup.Located.{Located}
 use Rattle.descent.specs.declared.lookup.Held.{Held}
 use Rattle.descent.specs.Lookup.{part_of, value_in, Looked, shifted, Handed}
 use Rattle.descent.proofs.LookLaws.{value_stands}
-use Rattle.model.proofs.Edition2.{lawful_of, key_number}
 use Rattle.model.proofs.TextLaws.{bytes_all}
 use Rattle.model.proofs.UniqueLaws.{root_unique, stands_unique}
+use Rattle.answers.specs.declared.Refusal.{Refusal}
+use Rattle.answers.specs.Number.{refusal_number, done_number}
+use Rattle.answers.proofs.NumberLaws.{never_zero}
 use Rattle.store.specs.Found.{ValueAt}
 use Rattle.descent.specs.Spot.{Standing}
 
@@ -98,49 +97,30 @@ module _ (E : Edition) (f k : List ℕ) where
       → LookUpPromise E f k (found_of (part_of v) v.slots)
   looked_up v g e h = found_part (part_of v) v.slots g e (λ s w. ((h s w).at, (h s w).visited)) (λ s w. (h s w).value)
 
--- the numbers that the check and a key can give besides 0
-pub check_two : (E : Edition) (f : List ℕ) (n : ℕ) → CheckPromise E f n → (n ≡ 0 → ⊥) → (n ≡ 1 → ⊥) → n ≡ 2
-check_two E f n p a b = elim (ℕ_discrete n 2) [ yes e ↦ e | no e ↦ absurd (a (p.good0 (p.told.good b e))) ]
+-- ---- the ends, by the tests that led there
 
-pub key_four : (ed : ℕ) (k : List ℕ) → ((edition_of ed).key_fault k ≡ 0 → ⊥) → ((edition_of ed).key_fault k ≡ 3 → ⊥) → (edition_of ed).key_fault k ≡ 4
-key_four ed k a b = ⊎_elim (λ z. absurd (a z)) (λ s. ⊎_elim (λ z. absurd (b z)) (λ z. z) s) (key_number ed k)
+module _ (E : Edition) (f k : List ℕ) where
+  pub good : CheckPromise E f 0 → Good E f
+  good p = p.told.good (λ z. omega arith) (λ z. omega arith)
 
--- ---- the ends, by the tests that led there: n is the check's number, e the key's fault
+  pub standing : Lawful E → CheckPromise E f 0 → Standing E f
+  standing L p = let g = good p in record { lawful = L; st = g.0; stands = g.1 }
 
-module _ (ed : ℕ) (f k : List ℕ) (n : ℕ) (given : CheckPromise (edition_of ed) f n) where
-  abbrev E : Edition
-  E = edition_of ed
+  pub legal_key : 0 ≡ E.key_fault k → Bytes k → Legal E k
+  legal_key q B = record { passes = sym q; bytes = bytes_all k B }
 
-  pub end_one : n ≡ 1 → LookUpPromise E f k (not_found 1 0)
-  end_one e = refused_frame E f k 1 (rw e at given) (λ z. omega arith)
+  pub end_frame : (r : Refusal) → CheckPromise E f (refusal_number r) → LookUpPromise E f k (not_found (refusal_number r) 0)
+  end_frame r p = refused_frame E f k (refusal_number r) p (never_zero r)
 
-  pub end_two : (n ≡ 0 → ⊥) → (n ≡ 1 → ⊥) → LookUpPromise E f k (not_found 2 0)
-  end_two a b = let e = check_two E f n given a b in refused_frame E f k 2 (rw e at given) (λ z. omega arith)
+  pub end_key : (r : Refusal) → CheckPromise E f 0 → refusal_number r ≡ E.key_fault k → LookUpPromise E f k (not_found (refusal_number r) 0)
+  end_key r p q = rw q (refused_key E f k (good p) (λ z. never_zero r (q ∙ z)))
 
-  good : n ≡ 0 → Good E f
-  good e = given.told.good (λ z. omega arith) (λ z. omega arith)
-
-  pub standing : n ≡ 0 → Standing E f
-  standing e = let g = good e in record { lawful = lawful_of ed; st = g.0; stands = g.1 }
-
-  pub legal_key : {e : ℕ} → e ≡ E.key_fault k → e ≡ 0 → Bytes k → Legal E k
-  legal_key q h B = record { passes = sym q ∙ h; bytes = bytes_all k B }
-
-  pub end_three : n ≡ 0 → (e : ℕ) → e ≡ E.key_fault k → e ≡ 3 → LookUpPromise E f k (not_found 3 0)
-  end_three z e q h = let x : E.key_fault k ≡ 3 = sym q ∙ h in rw x at (refused_key E f k (good z) (λ y. omega (arith, x, y)))
-
-  pub end_four : n ≡ 0 → (e : ℕ) → e ≡ E.key_fault k → (e ≡ 3 → ⊥) → (e ≡ 0 → ⊥) → LookUpPromise E f k (not_found 4 0)
-  end_four z e q a b =
-      let b' : E.key_fault k ≡ 0 → ⊥ = λ y. b (q ∙ y) in
-      let x = key_four ed k b' (λ y. a (q ∙ y)) in rw x at (refused_key E f k (good z) b')
-
-  pub end_found : n ≡ 0 → (e : ℕ) → e ≡ E.key_fault k → e ≡ 0 → (v : Held) → ((s : State) (w : Stands E f s) → Looked E f k s w.root v) → (at : Located) → v.value ≡ Some at
+  pub end_found : CheckPromise E f 0 → 0 ≡ E.key_fault k → (v : Held) → ((s : State) (w : Stands E f s) → Looked E f k s w.root v) → (at : Located) → v.value ≡ Some at
       → LookUpPromise E f k (record { number = 0; place = at.place; long = at.length; slots = v.slots; stamp = at.stamp })
-  end_found z e q h v L at t = rw t at (looked_up E f k v (good z) (sym q ∙ h) L)
+  end_found p q v L at t = rw t at (looked_up E f k v (good p) (sym q) L)
 
-  pub end_absent : n ≡ 0 → (e : ℕ) → e ≡ E.key_fault k → e ≡ 0 → (v : Held) → ((s : State) (w : Stands E f s) → Looked E f k s w.root v) → v.value ≡ None
-      → LookUpPromise E f k (not_found 8 v.slots)
-  end_absent z e q h v L t = rw t at (looked_up E f k v (good z) (sym q ∙ h) L)
+  pub end_absent : CheckPromise E f 0 → 0 ≡ E.key_fault k → (v : Held) → ((s : State) (w : Stands E f s) → Looked E f k s w.root v) → v.value ≡ None → LookUpPromise E f k (not_found 8 v.slots)
+  end_absent p q v L t = rw t at (looked_up E f k v (good p) (sym q) L)
 
   -- ---- the value as a part
 
@@ -148,23 +128,23 @@ module _ (ed : ℕ) (f k : List ℕ) (n : ℕ) (given : CheckPromise (edition_of
     from_start : start ≡ shifted start 0
     from_start = ap (λ (n : ℕ). (start.0, n)) (omega arith)
 
-    pub value_refused : (n ≡ 0 → ⊥) → ValueAt E f k start start []
-    value_refused ne = record { at = 0; stands = from_start; promise = record { look = not_found n 0; looked = refused_frame E f k n given ne; starts = refl; holds = refl } }
+    pub value_refused : (r : Result Unit Refusal) → CheckPromise E f (done_number r) → (done_number r ≡ 0 → ⊥) → ValueAt E f k start start []
+    value_refused r p ne = record { at = 0; stands = from_start; promise = record { look = not_found (done_number r) 0; looked = refused_frame E f k (done_number r) p ne; starts = refl; holds = refl } }
 
-    pub value_illegal : n ≡ 0 → (e : ℕ) → e ≡ E.key_fault k → (e ≡ 0 → ⊥) → ValueAt E f k start start []
-    value_illegal z e q ne =
-        record { at = 0; stands = from_start; promise = record { look = not_found (E.key_fault k) 0; looked = refused_key E f k (good z) (λ y. ne (q ∙ y)); starts = refl; holds = refl } }
+    pub value_illegal : CheckPromise E f 0 → (E.key_fault k ≡ 0 → ⊥) → ValueAt E f k start start []
+    value_illegal p ne =
+        record { at = 0; stands = from_start; promise = record { look = not_found (E.key_fault k) 0; looked = refused_key E f k (good p) ne; starts = refl; holds = refl } }
 
-    pub value_told : {part : List ℕ} {here : ℕ × ℕ} → n ≡ 0 → (e : ℕ) → e ≡ E.key_fault k → e ≡ 0
+    pub value_told : {part : List ℕ} {here : ℕ × ℕ} → CheckPromise E f 0 → 0 ≡ E.key_fault k
         → ((s : State) (w : Stands E f s) → Handed f start (found_of (find_at E w.root k) (visits_in E (root_art w.root) k)) here part) → ValueAt E f k start here part
-    value_told z e q h v =
-        let g = good z in let p = find_at E g.1.root k in let u = visits_in E (root_art g.1.root) k in let H = v g.0 g.1 in
+    value_told c q v =
+        let g = good c in let p = find_at E g.1.root k in let u = visits_in E (root_art g.1.root) k in let H = v g.0 g.1 in
         record {
           at = (found_of p u).place;
           stands = H.stands;
           promise = record {
             look = found_of p u;
-            looked = found_part E f k p u g (sym q ∙ h)
+            looked = found_part E f k p u g (sym q)
                 (λ s w. let r = root_unique E f g.0 s g.1 w in (ap (λ (x : Root). find_at E x k) r, ap (λ (x : Root). visits_in E (root_art x) k) r))
                 (λ s w. ap (λ (x : State). find_in E x.tree k) (stands_unique E f s g.0 w g.1) ∙ value_stands E k g.1);
             starts = refl;

@@ -6,24 +6,26 @@ use mathlib.Core.Bool.{Bool, true, false}
 use native.Mathlib.Omega.{arith}
 use lib.ListN.{length}
 use lib.Dec.{ltb, lit<}
-use borrow.Author.Tests.{lt-ltb, le-ltb, ltb-true}
+use borrow.Author.Tests.{lt-ltb, le-ltb, ltb-true, eq-eqb, ne_eqb}
 use Rattle.layout.specs.Number.{Bytes}
 use Rattle.model.specs.Strings.{pick}
-use Rattle.model.specs.Edition.{Edition, edition_of, Value, text_of, value_fault}
+use Rattle.model.specs.Edition.{Edition, edition1, edition2, Lawful, Value, text_of, value_fault}
 use Rattle.model.specs.State.{State, Done, done, unless, Write, call_write, on_write}
 use Rattle.model.specs.Frame.{Good}
 use Rattle.model.specs.Promise.{changes, CheckPromise, WritePromise}
-use Rattle.model.proofs.Edition2.{lawful_of, of_two, of_other}
 use Rattle.model.proofs.TextLaws.{bytes_all}
 use Rattle.model.proofs.StringLaws.{eqb_cases, ltb_cases}
 use Rattle.put_core.specs.Core.{Left, Asked, WriteMade}
 use Rattle.put_core.proofs.CoreLaws.{left_same}
 use Rattle.answers.specs.declared.Refusal.{Refusal}
 use Rattle.answers.specs.Number.{refusal_number}
-use Rattle.store.specs.declared.put.Bar.{Bar}
-use Rattle.store.specs.declared.put.Bar.TheVariants.{Nothing, Refused}
-use Rattle.store.specs.Write.{stamp_for, value_for, Barred}
-use Rattle.store.proofs.LookLaws.{told_good, check_two, key_four, standing}
+use Rattle.answers.specs.declared.Refusal.TheVariants as refusal
+use Rattle.answers.proofs.NumberLaws.{never_zero}
+use Rattle.editions.specs.declared.Edition.{Edition as Named}
+use Rattle.editions.specs.declared.Edition.TheVariants as edition
+use Rattle.editions.specs.Rules.{rules_of}
+use Rattle.store.specs.Write.{stamp_for, value_for, fault_of}
+use Rattle.store.proofs.LookLaws.{told_good}
 
 module _ (E : Edition) (f k : List ℕ) (v : Value) (a : Write) where
   -- the check refuses
@@ -51,68 +53,80 @@ made E f k v a {n} {f'} A M =
       kept = M.kept;
     }
 
--- ---- the ends of the tests, by those that led there: n is the check's number, e the key's fault
+-- ---- the ends, by the tests that led there
 
-module _ (ed : ℕ) (f k : List ℕ) (v : Value) {n : ℕ} (checked : CheckPromise (edition_of ed) f n) where
-  abbrev E : Edition
-  E = edition_of ed
+-- no refusal lets the frame change
+pub changes_not : (r : Refusal) → changes (refusal_number r) ≡ false
+changes_not refusal.Length = refl
+changes_not refusal.Frame = refl
+changes_not refusal.KeyLength = refl
+changes_not refusal.KeyZero = refl
+changes_not refusal.ValueLength = refl
+changes_not refusal.Output = refl
+changes_not refusal.Room = refl
+changes_not refusal.Buffer = refl
+changes_not refusal.Batch = refl
 
-  pub bar_one : n ≡ 1 → (a : Write) → WritePromise E a f k v 1 f
-  bar_one e a = refused_frame E f k v a 1 (rw e at checked) (λ z. omega arith)
+module _ (E : Edition) (f k : List ℕ) (v : Value) where
+  pub barred_frame : (r : Refusal) → CheckPromise E f (refusal_number r) → (a : Write) → WritePromise E a f k v (refusal_number r) f
+  barred_frame r p a = refused_frame E f k v a (refusal_number r) p (never_zero r)
 
-  pub bar_two : (n ≡ 0 → ⊥) → (n ≡ 1 → ⊥) → (a : Write) → WritePromise E a f k v 2 f
-  bar_two x y a = let e = check_two E f n checked x y in refused_frame E f k v a 2 (rw e at checked) (λ z. omega arith)
+  -- the key or the value is refused, whatever the stamp
+  pub barred : Good E f → (r : Refusal) → refusal_number r ≡ fault_of E k v → (a : Write) → WritePromise E a f k v (refusal_number r) f
+  barred G r q a = refused E f k v a G (refusal_number r) (changes_not r) (λ s. eqb_cases (E.key_fault k) 0
+      (λ t z. value_is E f k v a (refusal_number r) z (let x : refusal_number r ≡ value_fault v = rw t at q in sym x) s ∙ not_zero r s (call_write E a s k v))
+      (λ t m. key_is E f k v a (refusal_number r) (let x : refusal_number r ≡ E.key_fault k = rw t at q in sym x) s ∙ not_zero r s (unless (value_fault v) s (call_write E a s k v))))
+    where
+      not_zero : (r : Refusal) (s : State) (d : Done) → unless (refusal_number r) s d ≡ done (refusal_number r) s
+      not_zero r s d = rw (ne_eqb (refusal_number r) 0 (never_zero r)) refl
 
-  module _ (good : n ≡ 0) where
-    stands : Good E f
-    stands = let S = standing ed f k n checked good in (S.st, S.stands)
+  pub asked : Lawful E → Good E f → 0 ≡ fault_of E k v → Bytes k → Bytes (text_of v) → v.stamp < E.stamps → Asked E f k v
+  asked L G q bk bv held =
+      record {
+        lawful = L;
+        st = G.0;
+        stands = G.1;
+        legal = record { passes = legal_passes; bytes = bytes_all k bk };
+        legal_value = record { passes = short; bytes = bytes_all (text_of v) bv; stamp = held };
+      }
+    where
+      legal_passes : E.key_fault k ≡ 0
+      legal_passes = eqb_cases (E.key_fault k) 0 (λ t z. z) (λ t m. let x : 0 ≡ E.key_fault k = rw t at q in sym x)
 
-    module _ {e : ℕ} (fault : e ≡ E.key_fault k) where
-      pub bar_three : e ≡ 3 → (a : Write) → WritePromise E a f k v 3 f
-      bar_three h a = refused E f k v a stands 3 refl (key_is E f k v a 3 (sym fault ∙ h))
+      short : length (text_of v) ≤ 65535
+      short = let x : 0 ≡ value_fault v = rw (eq-eqb (E.key_fault k) 0 legal_passes) at q in
+          ltb_cases 65535 (length (text_of v)) (λ u l. let y : 0 ≡ 5 = rw u at x in absurd (omega arith)) (λ u l. l)
 
-      pub bar_four : (e ≡ 3 → ⊥) → (e ≡ 0 → ⊥) → (a : Write) → WritePromise E a f k v 4 f
-      bar_four x y a = refused E f k v a stands 4 refl (key_is E f k v a 4 (key_four ed k (λ z. y (fault ∙ z)) (λ z. x (fault ∙ z))))
+-- ---- the fault, by its tests
 
-      module _ (legal : e ≡ 0) where
-        pub bar_five : 65535 < length (text_of v) → (a : Write) → WritePromise E a f k v 5 f
-        bar_five l a = refused E f k v a stands 5 refl (value_is E f k v a 5 (sym fault ∙ legal) (ap (λ b. pick b 5 0) (lt-ltb 65535 (length (text_of v)) l)))
+pub fault_key : (E : Edition) (k : List ℕ) (v : Value) (r : Refusal) → refusal_number r ≡ E.key_fault k → refusal_number r ≡ fault_of E k v
+fault_key E k v r q = q ∙ rw (ne_eqb (E.key_fault k) 0 (λ z. never_zero r (q ∙ z))) refl
 
-        pub bar_none : length (text_of v) ≤ 65535 → Bytes k → Bytes (text_of v) → v.stamp < E.stamps → Asked E f k v
-        bar_none short bk bv held =
-            record {
-              lawful = lawful_of ed;
-              st = stands.0;
-              stands = stands.1;
-              legal = record { passes = sym fault ∙ legal; bytes = bytes_all k bk };
-              legal_value = record { passes = short; bytes = bytes_all (text_of v) bv; stamp = held };
-            }
+pub fault_value : (E : Edition) (k : List ℕ) (v : Value) → 0 ≡ E.key_fault k → 65535 < length (text_of v) → 5 ≡ fault_of E k v
+fault_value E k v q l = rw (eq-eqb (E.key_fault k) 0 (sym q), lt-ltb 65535 (length (text_of v)) l) refl
 
--- ---- by what `against` has told
-
-pub nothing_barred : (E : Edition) (f k t : List ℕ) (r : Bar) → Barred E f k t r → r ≡ Nothing → (s : ℕ) → s < E.stamps → Asked E f k (record { bytes = t; stamp = s })
-nothing_barred E f k t r B e = rw e at B
-
-pub barred_by : (E : Edition) (f k t : List ℕ) (r : Bar) {x : Refusal} → Barred E f k t r → r ≡ Refused x → (a : Write) (s : ℕ) → WritePromise E a f k (record { bytes = t; stamp = s }) (refusal_number x) f
-barred_by E f k t r B e = rw e at B
+pub fault_free : (E : Edition) (k : List ℕ) (v : Value) → 0 ≡ E.key_fault k → length (text_of v) ≤ 65535 → 0 ≡ fault_of E k v
+fault_free E k v q l = rw (eq-eqb (E.key_fault k) 0 (sym q), le-ltb 65535 (length (text_of v)) l) refl
 
 -- ---- the stamp
 
-pub stamp_second : (ed s : ℕ) → ed ≡ 2 → s < 18446744073709551616 → (s ≡ stamp_for (edition_of ed) s) × (s < (edition_of ed).stamps)
-stamp_second ed s e h = rw (of_two ed e, lt-ltb s 18446744073709551616 h) (refl, h)
-
-pub stamp_other : (ed s : ℕ) → (ed ≡ 2 → ⊥) → (0 ≡ stamp_for (edition_of ed) s) × (0 < (edition_of ed).stamps)
-stamp_other ed s h = rw (of_other ed h) (first_only s (ltb s 1) refl, lit< tt)
+pub stamp_first : (s : ℕ) → (0 ≡ stamp_for edition1 s) × (0 < edition1.stamps)
+stamp_first s = (first_only s (ltb s 1) refl, lit< tt)
   where
     first_only : (s : ℕ) (b : Bool) → ltb s 1 ≡ b → 0 ≡ pick b s 0
     first_only s true e = omega (arith, ltb-true s 1 e)
     first_only s false e = refl
 
+pub stamp_second : (s : ℕ) → s < 18446744073709551616 → (s ≡ stamp_for edition2 s) × (s < edition2.stamps)
+stamp_second s h = rw (lt-ltb s 18446744073709551616 h) (refl, h)
+
 -- it is one of the edition's
-pub stamp_held : (ed s : ℕ) → stamp_for (edition_of ed) s < (edition_of ed).stamps
-stamp_held ed s = ltb_cases s (edition_of ed).stamps
-    (λ t h. rw t h)
-    (λ t h. rw t (eqb_cases ed 2 (λ u e. rw (of_two ed e) (lit< tt)) (λ u e. rw (of_other ed e) (lit< tt))))
+pub stamp_held : (e : Named) (s : ℕ) → stamp_for (rules_of e) s < (rules_of e).stamps
+stamp_held e s = ltb_cases s (rules_of e).stamps (λ t h. rw t h) (λ t h. rw t (some e))
+  where
+    some : (e : Named) → 0 < (rules_of e).stamps
+    some edition.First = lit< tt
+    some edition.Second = lit< tt
 
 -- what was made with it
 pub made_for : (E : Edition) (f k t : List ℕ) (s : ℕ) (a : Write) {r n : ℕ} {f' : List ℕ} → r ≡ stamp_for E s → WritePromise E a f k (record { bytes = t; stamp = r }) n f' → WritePromise E a f k (value_for E t s) n f'

@@ -1,14 +1,13 @@
 // Format: "zeroes the frame, then sets slot 1 to an EmptyRoot at D".
-ghost use Rattle.answers.specs.Number.{format_number};
-ghost use Rattle.model.specs.Edition.{edition_of};
+ghost use Rattle.answers.specs.Number.{done_number};
 ghost use Rattle.model.specs.Promise.{FormatPromise};
 ghost use Rattle.pieces.specs.Decides.{Decides};
 ghost use Rattle.blank.specs.Limits.{Limits};
 
-use answers::{Format, Refusal};
+use answers::Refusal;
+use editions::Editioned;
 use fields::body::EmptyRoot;
 use fields::header::Header;
-use shape::header::number_of;
 
 // "F or N against the limits (D + 8 above F among them)"
 fn limits_hold(length: usize, capacity: usize) -> bool
@@ -38,15 +37,21 @@ fn limits_hold(length: usize, capacity: usize) -> bool
     true
 }
 
-pub fn format(frame: &mut [u8], length: usize, capacity: usize, edition: usize) -> Format
-    ensures { FormatPromise (edition_of edition) frame.old length capacity (format_number result) frame.new }
+pub fn format<E: Editioned>(
+    frame: &mut [u8],
+    length: usize,
+    capacity: usize,
+    edition: E,
+) -> Result<(), Refusal>
+    ensures { FormatPromise (E.rules edition) frame.old length capacity (done_number result) frame.new }
 {
+    let edition = edition.edition();
     if frame.len() != length {
-        return Format::Refused(Refusal::Length);
+        return Err(Refusal::Length);
     }
     if !limits_hold(length, capacity) {
-        return Format::Refused(Refusal::Length);
+        return Err(Refusal::Length);
     }
-    blank::lay_out(frame, capacity, number_of(edition));
-    Format::Done
+    blank::lay_out(frame, capacity, edition.number());
+    Ok(())
 }

@@ -1,13 +1,14 @@
 // Info: how full a frame is, refused in the order of document 01.
 ghost use Rattle.std.specs.Prelude.{◌≡◌};
-ghost use Rattle.answers.specs.Number.{info_number, info_told, counted};
-ghost use Rattle.model.specs.Edition.{Edition, SomeEdition, edition_of};
+ghost use Rattle.answers.specs.Number.{done_number, info_told, counted};
+ghost use Rattle.model.specs.Edition.{Edition, SomeEdition};
 ghost use Rattle.model.specs.State.{State};
 ghost use Rattle.model.specs.Frame.{Stands};
 ghost use Rattle.descent.specs.Spot.{Standing};
 ghost use Rattle.store.specs.Info.{fullness, InfoPromise};
 
-use answers::{Counts, Info, Refusal};
+use answers::{Counts, Refusal};
+use editions::Editioned;
 use fields::header::Header;
 use layout::kind::Kind;
 use room::fit::Needs;
@@ -31,26 +32,21 @@ fn counts(frame: &[u8]) -> Counts
         next_byte: Header::next_byte(frame),
         records: Header::records(frame),
         dead_bytes: Header::dead_bytes(frame),
-        leaf: lists[Kind::LEAF],
-        prefix: lists[Kind::PREFIX],
-        crossing: lists[Kind::CROSSING],
-        node4: lists[Kind::NODE4],
-        node16: lists[Kind::NODE16],
-        node48: lists[Kind::NODE48],
-        node256: lists[Kind::NODE256],
-        empty_root: lists[Kind::EMPTY_ROOT],
+        leaf: lists[Kind::Leaf as usize],
+        prefix: lists[Kind::Prefix as usize],
+        crossing: lists[Kind::Crossing as usize],
+        node4: lists[Kind::Node4 as usize],
+        node16: lists[Kind::Node16 as usize],
+        node48: lists[Kind::Node48 as usize],
+        node256: lists[Kind::Node256 as usize],
+        empty_root: lists[Kind::EmptyRoot as usize],
     }
 }
 
-pub fn info(frame: &[u8], edition: usize) -> Info
-    ensures { InfoPromise (edition_of edition) frame.now (info_number result) (info_told result) }
+pub fn info<E: Editioned>(frame: &[u8], edition: E) -> Result<Counts, Refusal>
+    ensures { InfoPromise (E.rules edition) frame.now (done_number result) (info_told result) }
 {
-    let n = audit::check(frame, edition);
-    if n == audit::BAD_LENGTH {
-        return Info::Refused(Refusal::Length);
-    }
-    if n != audit::GOOD {
-        return Info::Refused(Refusal::Frame);
-    }
-    Info::Told(counts(frame))
+    let edition = edition.edition();
+    audit::check(frame, edition)?;
+    Ok(counts(frame))
 }
