@@ -3,14 +3,12 @@ use Prim.Native.Nat.{ℕ, ◌<◌, ◌≤◌}
 use mathlib.Core.Path.{◌≡◌, refl, sym, ap, ◌∙◌}
 use mathlib.Core.Logic.{◌≢◌}
 use mathlib.Core.List.{List}
-use mathlib.Core.Bool.{Bool, true, false, not}
+use mathlib.Core.Bool.{true, false}
 use mathlib.Core.Option.{Option, none, some}
 use native.Mathlib.Omega.{arith}
-use native.Mathlib.Decide.{ℕ_discrete}
 use lib.ListN.{length}
 use lib.Seq.{ext_get_or}
 use lib.Dec.{lit<}
-use borrow.Author.Tests.{not-true, not-false}
 use Rattle.model.specs.Edition.{Edition}
 use Rattle.model.specs.Frame.{Good}
 use Rattle.model.specs.Promise.{CheckPromise}
@@ -18,11 +16,17 @@ use Rattle.model.specs.Call.{Call}
 use Rattle.model.proofs.StringLaws.{clash}
 use Rattle.moves.specs.Pasted.{Pasted}
 use Rattle.descent.specs.Spot.{Standing}
-use Rattle.store.proofs.LookLaws.{told_good, check_two}
+use Rattle.std.specs.Prelude.{Result, Ok, Err}
+use Rattle.std.specs.Result.{IsErrAnd}
+use Rattle.answers.specs.declared.Refusal.{Refusal as Why}
+use Rattle.answers.specs.Number.{refusal_number}
+use Rattle.answers.proofs.NumberLaws.{never_zero, in_byte}
+use Rattle.store.proofs.LookLaws.{told_good}
 use Rattle.batch.specs.Layout.{changes_of, laid}
 use Rattle.batch.specs.Batch.{Unrefused, told, Refused, BatchPromise}
-use Rattle.batch.specs.Run.{Ready, All, Tried}
-use Rattle.batch.specs.declared.run.Ended.{Ended}
+use Rattle.batch.specs.Run.{Ready, All, Through, Halted}
+use Rattle.batch.specs.Stopped.{Refuses, batch_number, batch_place}
+use Rattle.batch.specs.declared.run.Stopped.{Stopped as Halt}
 use Rattle.batch.proofs.RunLaws.{made_told}
 
 -- a slice pasted over all of another of its length
@@ -38,23 +42,29 @@ ready S e = record { good = S; whole = e }
 pub ready_second : {E : Edition} {f b : List ℕ} (g : List ℕ) → g ≡ f → Standing E f → laid (changes_of E b) ≡ true → Ready E g b
 ready_second g e S w = rw e (ready S w)
 
-pub tried_as : {E : Edition} {x f b : List ℕ} {r : Ended} {g' : List ℕ} → x ≡ f → Tried E x b r g' → Tried E f b r g'
-tried_as e T = rw e at T
+pub through_as : {E : Edition} {x f b g' : List ℕ} → x ≡ f → Through E x b g' → Through E f b g'
+through_as e T = rw e at T
 
--- the test of the batch, by what it gave
-pub is_laid : (E : Edition) (b : List ℕ) (r : Bool) → r ≡ laid (changes_of E b) → not r ≡ false → laid (changes_of E b) ≡ true
-is_laid E b r e t = sym e ∙ not-false r t
+pub halted_as : {E : Edition} {x f b : List ℕ} {n at : ℕ} {g' : List ℕ} → x ≡ f → Halted E x b n at g' → Halted E f b n at g'
+halted_as e T = rw e at T
 
-pub not_laid : (E : Edition) (b : List ℕ) (r : Bool) → r ≡ laid (changes_of E b) → not r ≡ true → laid (changes_of E b) ≡ false
-not_laid E b r e t = sym e ∙ not-true r t
+-- ---- what stops it, as `?` hands it on
+
+pub whole_refused : (x : Why) (r : Result Unit Halt) → IsErrAnd r (Refuses x) → (batch_number r ≡ refusal_number x) × (batch_place r ≡ 0)
+whole_refused x (Ok u) h = absurd h
+whole_refused x (Err s) h = (ap refusal_number h.0, h.1)
+
+pub change_refused : (x : Halt) (r : Result Unit Halt) → IsErrAnd r (λ y. y ≡ x) → (batch_number r ≡ refusal_number x.refusal) × (batch_place r ≡ x.place)
+change_refused x (Ok u) h = absurd h
+change_refused x (Err s) h = (ap (λ (z : Halt). refusal_number z.refusal) h, ap (λ (z : Halt). z.place) h)
 
 unchanged : (f g lent : List ℕ) → Refused f g lent 0 f g lent
 unchanged f g lent = record { place = refl; first = refl; second = refl; tells = refl }
 
 module _ (E : Edition) (f g b lent : List ℕ) where
   -- 1 or 2
-  pub bad_frame : (n : ℕ) → CheckPromise E f n → n ≢ 0 → BatchPromise E f g b lent n 0 f g lent × (n < 256) × (0 ≤ 4294967295)
-  bad_frame n p ne = (
+  pub bad_frame : (r : Why) → CheckPromise E f (refusal_number r) → BatchPromise E f g b lent (refusal_number r) 0 f g lent × (refusal_number r < 256) × (0 ≤ 4294967295)
+  bad_frame r p = let ne = never_zero r in (
     record {
       told = p.told;
       length7 = λ G. absurd (ne (p.good0 G));
@@ -65,7 +75,7 @@ module _ (E : Edition) (f g b lent : List ℕ) where
       other = λ z. unchanged f g lent;
       unlaid = λ z. unchanged f g lent;
     },
-    elim (ℕ_discrete n 1) [ yes e ↦ omega arith | no m ↦ (let e = check_two E f n p ne m in omega arith) ],
+    in_byte r,
     omega arith,
   )
 
@@ -120,20 +130,20 @@ module _ (E : Edition) (f g b lent : List ℕ) where
         none_not q = let z : false ≡ true = rw q at whole in clash (cc)
 
         -- a change was refused
-        pub halted_at : (r : Ended) (g' : List ℕ) → Tried E f b r g' → (r.place ≡ 0 → ⊥) → BatchPromise E f g b lent r.number r.place f g' lent × (r.number < 256) × (r.place ≤ 4294967295)
-        halted_at r g' T ne = let H = T.halted ne in (
+        pub halted_at : (n at : ℕ) (g' : List ℕ) → Halted E f b n at g' → BatchPromise E f g b lent n at f g' lent × (n < 256) × (at ≤ 4294967295)
+        halted_at n at g' H = (
           record {
-            told = told_good E f r.number good;
-            length7 = λ G n. absurd (n equal);
-            layout12 = λ G n q. none_not q;
-            done = λ G n cs q t. clash (cc);
-            stopped = λ G n cs q t. H.1 cs lent q;
+            told = told_good E f n good;
+            length7 = λ G z. absurd (z equal);
+            layout12 = λ G z q. none_not q;
+            done = λ G z cs q t. let v : true ≡ false = sym H.refused ∙ t in clash (cc);
+            stopped = λ G z cs q t. H.stopped cs lent q;
             bad = λ y. absurd (y good);
-            other = λ n. absurd (n equal);
+            other = λ z. absurd (z equal);
             unlaid = λ q. none_not q;
           },
-          T.bounded.0,
-          T.bounded.1,
+          H.small,
+          H.few,
         )
 
         same_calls : {xs ys : List Call} (x : Option (List Call)) → x ≡ some xs → x ≡ some ys → xs ≡ ys
@@ -144,28 +154,27 @@ module _ (E : Edition) (f g b lent : List ℕ) where
             or_none (some cs) = cs
 
         -- none was
-        pub carried : (r : Ended) (g1 : List ℕ) → Tried E f b r g1 → r.place ≡ 0 → (ns f' : List ℕ) → All E f b ns f' → (lent' g' : List ℕ) → lent' ≡ told ns lent → g' ≡ f'
-            → BatchPromise E f g b lent r.number r.place f' g' lent' × (r.number < 256) × (r.place ≤ 4294967295)
-        carried r g1 T e ns f' A lent' g' l d =
-            let U = T.through e in
-            let M = U.1.1 in
+        pub carried : (g1 : List ℕ) → Through E f b g1 → (ns f' : List ℕ) → All E f b ns f' → (lent' g' : List ℕ) → lent' ≡ told ns lent → g' ≡ f'
+            → BatchPromise E f g b lent 0 0 f' g' lent' × (0 < 256) × (0 ≤ 4294967295)
+        carried g1 T ns f' A lent' g' l d =
+            let M = T.all in
             let c : M.calls ≡ A.calls = same_calls (changes_of E b) M.whole A.whole in
-            let x = made_told E f M.calls U.1.0 g1 S.st S.stands M.made in
+            let x = made_told E f M.calls T.numbers g1 S.st S.stands M.made in
             let y = made_told E f A.calls ns f' S.st S.stands A.made in
-            let q : U.1.0 ≡ ns = x ∙ rw c (sym y) in
-            let u : Unrefused ns = rw q at U.1.2 in (
+            let q : T.numbers ≡ ns = x ∙ rw c (sym y) in
+            let u : Unrefused ns = rw q at T.unrefused in (
               record {
-                told = told_good E f r.number good;
+                told = told_good E f 0 good;
                 length7 = λ G n. absurd (n equal);
                 layout12 = λ G n z. none_not z;
                 done = λ G n cs z t.
                     let k : A.calls ≡ cs = same_calls (changes_of E b) A.whole z in
-                    record { number = U.0; place = e; answers = ns; made = rw k at A.made; unrefused = u; second = d; tells = l };
-                stopped = λ G n cs z t. let v : false ≡ true = rw U.0 at t in clash (cc);
+                    record { number = refl; place = refl; answers = ns; made = rw k at A.made; unrefused = u; second = d; tells = l };
+                stopped = λ G n cs z t. clash (cc);
                 bad = λ z. absurd (z good);
                 other = λ n. absurd (n equal);
                 unlaid = λ z. none_not z;
               },
-              T.bounded.0,
-              T.bounded.1,
+              lit< tt,
+              omega arith,
             )

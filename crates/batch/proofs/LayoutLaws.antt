@@ -7,14 +7,12 @@ use mathlib.Core.Option.{Option, none, some}
 use native.Mathlib.Omega.{arith}
 use native.Mathlib.Numerals.{add-one}
 use lib.ListN.{length}
-use lib.Dec.{eqb, lit<}
+use lib.Dec.{eqb}
 use borrow.Author.Tests.{le-leb, lt-leb, not-true, not-false}
-use Rattle.layout.specs.Number.{le, Bytes}
-use Rattle.layout.proofs.NumberLaws.{le_lt}
+use Rattle.layout.specs.Number.{le}
 use Rattle.model.specs.Edition.{Edition, edition_of}
 use Rattle.model.specs.Call.{Call}
 use Rattle.model.proofs.StringLaws.{bool_cases, leb_cases, clash}
-use Rattle.model.proofs.Edition2.{of_two, of_other}
 use Rattle.batch.specs.Layout.{count_in, count_size, offset_at, offset_of, at_stamp, at_key, stamp_at, kind_at, end_of, Numbered, known, call_at, sound, also, changes_from, changes_of, laid}
 use Rattle.batch.specs.declared.laid.Change.{Change}
 use Rattle.batch.specs.declared.laid.Change.TheVariants as change
@@ -28,23 +26,6 @@ unfolding edition_of le sound at_key stamp_at
 layouts = record { stamps = refl; stampless = refl; plain = refl; empty = refl; short = refl; outside = refl; large = refl; in_header = refl; past = refl; kind4 = refl; key_past = refl; empty_key = refl }
 
 -- ---- by the edition
-
-module _ (ed : ℕ) where
-  pub key_second : ed ≡ 2 → 16 ≡ at_key (edition_of ed)
-  unfolding at_key
-  key_second e = rw (of_two ed e) refl
-
-  pub key_other : (ed ≡ 2 → ⊥) → 8 ≡ at_key (edition_of ed)
-  unfolding at_key
-  key_other n = rw (of_other ed n) refl
-
-  pub stamp_second : (b : List ℕ) (o : ℕ) → Bytes b → ed ≡ 2 → (le 8 b (o + at_stamp) ≡ stamp_at (edition_of ed) b o) × (le 8 b (o + at_stamp) < (edition_of ed).stamps)
-  unfolding stamp_at
-  stamp_second b o B e = rw (of_two ed e) (refl, le_lt 8 b (o + at_stamp) B)
-
-  pub stamp_other : (b : List ℕ) (o : ℕ) → (ed ≡ 2 → ⊥) → (0 ≡ stamp_at (edition_of ed) b o) × (0 < (edition_of ed).stamps)
-  unfolding stamp_at
-  stamp_other b o n = rw (of_other ed n) (refl, lit< tt)
 
 pub key_behind : (E : Edition) → at_stamp ≤ at_key E
 unfolding at_key

@@ -1,5 +1,4 @@
 pub mod LayoutLaws
-pub mod ChangeLaws
 pub mod RunLaws
 pub mod ApplyLaws
 pub mod DemandLaws

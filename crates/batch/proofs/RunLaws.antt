@@ -2,12 +2,18 @@
 use Prim.Native.Nat.{ℕ, suc, ◌+◌, ◌-◌, ◌<◌, ◌≤◌}
 use mathlib.Core.Path.{◌≡◌, refl, sym, ap, ◌∙◌}
 use mathlib.Core.List.{List, [], ◌∷◌, ◌++◌, append_assoc, append-nil}
-use mathlib.Core.Bool.{true, false, not}
+use mathlib.Core.Bool.{true, false}
 use mathlib.Core.Option.{Option, none, some}
 use native.Mathlib.Omega.{arith}
 use lib.ListN.{length, set, length-append}
-use lib.Dec.{eqb}
-use borrow.Author.Tests.{ne_eqb}
+use lib.Dec.{lit<}
+use Rattle.std.specs.Prelude.{Result, Ok, Err}
+use Rattle.answers.specs.declared.Refusal.{Refusal}
+use Rattle.answers.specs.declared.Refusal.TheVariants as why
+use Rattle.answers.specs.declared.Written.TheVariants as written
+use Rattle.answers.specs.declared.Erased.TheVariants as erased
+use Rattle.answers.specs.Number.{refusal_number, number_of}
+use Rattle.answers.proofs.NumberLaws.{in_byte}
 use Rattle.model.specs.Edition.{Edition}
 use Rattle.model.specs.Order.{is_refusal}
 use Rattle.model.specs.State.{State}
@@ -20,7 +26,10 @@ use Rattle.descent.specs.Spot.{Standing}
 use Rattle.sequence.specs.Sequence.{Made, call_numbers}
 use Rattle.batch.specs.Layout.{count_in, count_size, offset_at, offset_of, end_of, call_at, sound, also, changes_from, changes_of, laid}
 use Rattle.batch.specs.Batch.{Unrefused, told}
-use Rattle.batch.specs.Run.{At, Ready, Far, ToldAt, All, CarriedOut, Tried}
+use Rattle.batch.specs.Stopped.{made_number}
+use Rattle.batch.specs.declared.change.Made.{Made as What}
+use Rattle.batch.specs.declared.change.Made.TheVariants as made
+use Rattle.batch.specs.Run.{At, Ready, Far, ToldAt, All, CarriedOut, Through, Halted}
 use Rattle.batch.proofs.LayoutLaws.{sound_has, countless, offsetless, headed_is}
 
 -- ---- the batch as a list of changes
@@ -107,6 +116,39 @@ kept_by E f (put k v) n f' C e = C.kept (still n e)
 kept_by E f (replace k v) n f' C e = C.kept (still n e)
 kept_by E f (erase k) n f' C e = C.kept (still n e)
 
+-- ---- which numbers stop a batch
+
+pub refusal_stops : (r : Refusal) → is_refusal (refusal_number r) ≡ true
+refusal_stops why.Length = refl
+refusal_stops why.Frame = refl
+refusal_stops why.KeyLength = refl
+refusal_stops why.KeyZero = refl
+refusal_stops why.ValueLength = refl
+refusal_stops why.Output = refl
+refusal_stops why.Room = refl
+refusal_stops why.Buffer = refl
+refusal_stops why.Batch = refl
+
+pub made_passes : (r : Result What Refusal) (m : What) → r ≡ Ok m → is_refusal (number_of made_number r) ≡ false
+made_passes r m e = rw e (passes m)
+  where
+    passes : (m : What) → is_refusal (made_number m) ≡ false
+    passes (made.Written written.New) = refl
+    passes (made.Written written.Replaced) = refl
+    passes (made.Written written.Present) = refl
+    passes (made.Written written.Absent) = refl
+    passes (made.Erased erased.Done) = refl
+    passes (made.Erased erased.Absent) = refl
+
+pub number_small : (r : Result What Refusal) → number_of made_number r < 256
+number_small (Ok (made.Written written.New)) = lit< tt
+number_small (Ok (made.Written written.Replaced)) = lit< tt
+number_small (Ok (made.Written written.Present)) = lit< tt
+number_small (Ok (made.Written written.Absent)) = lit< tt
+number_small (Ok (made.Erased erased.Done)) = lit< tt
+number_small (Ok (made.Erased erased.Absent)) = lit< tt
+number_small (Err r) = in_byte r
+
 -- ---- the answers told
 
 pub told_in : (ns lent : List ℕ) (n : ℕ) → length ns < length lent → set (told ns lent) (length ns) n ≡ told (ns ++ n ∷ []) lent
@@ -186,13 +228,13 @@ module _ {E : Edition} {f b : List ℕ} {i : ℕ} {f' : List ℕ} (F : Far E f b
         refl,
       )
 
-  pub trial_more : Unrefused F.numbers → i < count_in b → (o : ℕ) → o ≡ offset_of b i → (m : ℕ) (f'' : List ℕ) → Called E f' (call_at E b o) m f'' × (m < 256) → is_refusal m ≡ false
+  pub trial_more : Unrefused F.numbers → i < count_in b → (o : ℕ) → o ≡ offset_of b i → (m : ℕ) (f'' : List ℕ) → Called E f' (call_at E b o) m f'' → is_refusal m ≡ false
       → (G : Far E f b (i + 1) f'') × Unrefused G.numbers
-  trial_more U h o e m f'' D t = let G = far_more h o e m f'' D.0 in (G.0, rw G.1 (unrefused_more F.numbers m U t))
+  trial_more U h o e m f'' D t = let G = far_more h o e m f'' D in (G.0, rw G.1 (unrefused_more F.numbers m U t))
 
-  pub carry_more : (lent l l' : List ℕ) → l ≡ told F.numbers lent → i < count_in b → (o : ℕ) → o ≡ offset_of b i → (m : ℕ) (f'' : List ℕ) → Called E f' (call_at E b o) m f'' × (m < 256) → ToldAt l i m l'
+  pub carry_more : (lent l l' : List ℕ) → l ≡ told F.numbers lent → i < count_in b → (o : ℕ) → o ≡ offset_of b i → (m : ℕ) (f'' : List ℕ) → Called E f' (call_at E b o) m f'' → ToldAt l i m l'
       → (G : Far E f b (i + 1) f'') × (l' ≡ told G.numbers lent)
-  carry_more lent l l' e0 h o e m f'' D T = let G = far_more h o e m f'' D.0 in (G.0, rw G.1 (one_told F.numbers lent l l' m i e0 far_long T))
+  carry_more lent l l' e0 h o e m f'' D T = let G = far_more h o e m f'' D in (G.0, rw G.1 (one_told F.numbers lent l l' m i e0 far_long T))
 
   -- ---- the end
 
@@ -206,50 +248,34 @@ module _ {E : Edition} {f b : List ℕ} {i : ℕ} {f' : List ℕ} (F : Far E f b
   pub carry_end : (lent l : List ℕ) → i ≡ count_in b → l ≡ told F.numbers lent → CarriedOut E f b lent f' l
   carry_end lent l e q = record { numbers = F.numbers; all = far_end e; tells = q }
 
-  pub tried_through : Unrefused F.numbers → i ≡ count_in b → Tried E f b (record { number = 0; place = 0 }) f'
-  tried_through U e = record { bounded = (omega arith, omega arith); through = λ z. (refl, (F.numbers, far_end e, U)); halted = λ z. absurd (z refl) }
+  pub tried_through : Unrefused F.numbers → i ≡ count_in b → Through E f b f'
+  tried_through U e = record { numbers = F.numbers; all = far_end e; unrefused = U }
 
   -- ---- the first that is refused
 
-  pub tried_halted : Unrefused F.numbers → i < count_in b → i < 4294967295 → (o : ℕ) → o ≡ offset_of b i → (m : ℕ) (f'' : List ℕ) → Called E f' (call_at E b o) m f'' × (m < 256) → is_refusal m ≡ true
-      → Tried E f b (record { number = m; place = i + 1 }) f''
-  tried_halted U h small o e m f'' D t =
+  pub tried_halted : Unrefused F.numbers → i < count_in b → i < 4294967295 → (o : ℕ) → o ≡ offset_of b i → (r : Refusal) (f'' : List ℕ) → Called E f' (call_at E b o) (refusal_number r) f''
+      → Halted E f b (refusal_number r) (i + 1) f''
+  tried_halted U h few o e r f'' D =
       let N = coming h in
+      let m = refusal_number r in
       let c = call_at E b (offset_of b i) in
-      let C : Called E f' c m f'' = rw e at D.0 in
-      let k = kept_by E f' c m f'' C t in
+      let C : Called E f' c m f'' = rw e at D in
+      let k = kept_by E f' c m f'' C (refusal_stops r) in
       record {
-        bounded = (D.1, omega arith);
-        through = λ z. absurd (omega arith);
-        halted = λ z. (
-          t,
-          λ cs lent q. record {
-            before = F.before;
-            change = c;
-            rest = N.calls;
-            split = some_same (sym q ∙ F.split) ∙ ap (λ (x : List Call). F.before ++ x) N.is;
-            place = omega (arith, F.long);
-            answers = F.numbers;
-            made = rw k F.made;
-            unrefused = U;
-            refused = rw k (rw k at C);
-            first = refl;
-            tells = refl;
-          },
-        );
+        refused = refusal_stops r;
+        small = in_byte r;
+        few = omega arith;
+        stopped = λ cs lent q. record {
+          before = F.before;
+          change = c;
+          rest = N.calls;
+          split = some_same (sym q ∙ F.split) ∙ ap (λ (x : List Call). F.before ++ x) N.is;
+          place = omega (arith, F.long);
+          answers = F.numbers;
+          made = rw k F.made;
+          unrefused = U;
+          refused = rw k (rw k at C);
+          first = refl;
+          tells = refl;
+        };
       }
-
--- ---- which numbers are refusals, test by test
-
-module _ (n : ℕ) where
-  pub done_not : n ≡ 0 → false ≡ is_refusal n
-  done_not e = rw e refl
-
-  pub absent_not : n ≡ 8 → false ≡ is_refusal n
-  absent_not e = rw e refl
-
-  pub replaced_not : n ≡ 9 → false ≡ is_refusal n
-  replaced_not e = rw e refl
-
-  pub others : (n ≡ 0 → ⊥) → (n ≡ 8 → ⊥) → (n ≡ 9 → ⊥) → not (eqb n 11) ≡ is_refusal n
-  others a b c = rw (ne_eqb n 0 a, ne_eqb n 8 b, ne_eqb n 9 c) (bool_cases (eqb n 11) (λ t. rw t refl) (λ t. rw t refl))

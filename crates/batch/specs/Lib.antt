@@ -1,6 +1,6 @@
 pub mod Layout
 pub mod Layouts
-pub mod Fault
+pub mod Stopped
 pub mod Batch
 pub mod Demand
 pub mod Run

@@ -1,5 +1,5 @@
 -- The changes of a batch made one after another on a good frame: what is counted on, how far it has come, and what is left.
-use Rattle.std.specs.Prelude.{ℕ, ◌+◌, ◌-◌, ◌<◌, ◌≤◌, ◌≡◌, List, ◌++◌, true, length, set}
+use Rattle.std.specs.Prelude.{ℕ, ◌+◌, ◌-◌, ◌<◌, ◌≤◌, ◌≡◌, List, ◌++◌, true, length, set, Result, Ok, Err}
 use Rattle.std.proofs.Math.Option.{some}
 use Rattle.model.specs.Edition.{Edition}
 use Rattle.model.specs.Order.{is_refusal}
@@ -8,7 +8,8 @@ use Rattle.descent.specs.Spot.{Standing}
 use Rattle.sequence.specs.Sequence.{Made}
 use Rattle.batch.specs.Layout.{count_in, at_key, end_of, changes_from, changes_of, laid}
 use Rattle.batch.specs.Batch.{Unrefused, told, Stopped}
-use Rattle.batch.specs.declared.run.Ended.{Ended}
+use Rattle.answers.specs.Number.{refusal_number}
+use Rattle.batch.specs.declared.run.Stopped.{Stopped as Halt}
 
 -- a change at o that lies within the batch
 pub record At (E : Edition) (b : List ℕ) (o : ℕ) : Type 0 where
@@ -51,8 +52,19 @@ pub record CarriedOut (E : Edition) (f b lent f' lent' : List ℕ) : Type 0 wher
   pub all : All E f b numbers f'
   pub tells : lent' ≡ told numbers lent
 
--- all changes were made and none refused, or one was, the first such
-pub record Tried (E : Edition) (f b : List ℕ) (r : Ended) (f' : List ℕ) : Type 0 where
-  pub bounded : (r.number < 256) × (r.place ≤ 4294967295)
-  pub through : r.place ≡ 0 → (r.number ≡ 0) × ((numbers : List ℕ) × All E f b numbers f' × Unrefused numbers)
-  pub halted : (r.place ≡ 0 → ⊥) → (is_refusal r.number ≡ true) × ((cs : List Call) (lent : List ℕ) → changes_of E b ≡ some cs → Stopped E f cs lent r.number r.place f f' lent)
+-- one was refused, the first such
+pub record Halted (E : Edition) (f b : List ℕ) (n at : ℕ) (f' : List ℕ) : Type 0 where
+  pub refused : is_refusal n ≡ true
+  pub small : n < 256
+  pub few : at ≤ 4294967295
+  pub stopped : (cs : List Call) (lent : List ℕ) → changes_of E b ≡ some cs → Stopped E f cs lent n at f f' lent
+
+-- all changes were made, and none was
+pub record Through (E : Edition) (f b f' : List ℕ) : Type 0 where
+  pub numbers : List ℕ
+  pub all : All E f b numbers f'
+  pub unrefused : Unrefused numbers
+
+abbrev pub Tried : Edition → (f b : List ℕ) → Result Unit Halt → (f' : List ℕ) → Type 0
+Tried E f b (Ok x) f' = Through E f b f'
+Tried E f b (Err s) f' = Halted E f b (refusal_number s.refusal) s.place f'

@@ -1,8 +1,9 @@
 // A batch's layout: the fields of its header and of a change, and the test of the whole, which takes any bytes.
 ghost use Rattle.std.specs.Prelude.{◌≡◌, ◌+◌, ◌≤◌, ◌<◌, length};
-ghost use Rattle.model.specs.Edition.{edition_of};
+ghost use Rattle.editions.specs.Rules.{rules_of};
 ghost use Rattle.batch.specs.Layout.{count_in, count_size, offset_at, offset_of, at_stamp, at_key, kind_at, key_long, value_long, stamp_at, end_of, Numbered, sound, changes_of, laid};
 
+use editions::Edition;
 use layout::number;
 
 const COUNT_SIZE: usize = 4;
@@ -82,38 +83,40 @@ pub fn value_length(b: &[u8], o: usize) -> usize
 }
 
 // Where the key of a change stands, counted from its start: edition 2 has a stamp before it.
-pub fn at_key(edition: usize) -> usize
-    ensures { (result ≡ at_key (edition_of edition)) × (at_stamp ≤ result) × (result ≤ 16) }
+#[tactic(auto, unfolding(crate::specs::Layout::at_key))]
+pub fn at_key(edition: Edition) -> usize
+    ensures { (result ≡ at_key (rules_of edition)) × (at_stamp ≤ result) × (result ≤ 16) }
 {
-    if edition == keys::SECOND {
-        return AT_STAMP + STAMP_SIZE;
+    match edition {
+        Edition::First => AT_STAMP,
+        Edition::Second => AT_STAMP + STAMP_SIZE,
     }
-    AT_STAMP
 }
 
 // The stamp of the change at o.
-pub fn stamp(b: &[u8], o: usize, edition: usize) -> usize
-    requires { (o < 4294967296) × (o + at_key (edition_of edition) ≤ length b.now) }
-    ensures { (result ≡ stamp_at (edition_of edition) b.now o) × (result < (edition_of edition).stamps) }
+#[tactic(auto, unfolding(crate::specs::Layout::at_key, crate::specs::Layout::stamp_at))]
+pub fn stamp(b: &[u8], o: usize, edition: Edition) -> usize
+    requires { (o < 4294967296) × (o + at_key (rules_of edition) ≤ length b.now) }
+    ensures { (result ≡ stamp_at (rules_of edition) b.now o) × (result < (rules_of edition).stamps) }
 {
-    if edition == keys::SECOND {
-        return number::read::<8>(b, o + AT_STAMP);
+    match edition {
+        Edition::First => 0,
+        Edition::Second => number::read::<8>(b, o + AT_STAMP),
     }
-    0
 }
 
 // Where the change at o ends.
-pub fn end(b: &[u8], o: usize, edition: usize) -> usize
-    requires { (o < 4294967296) × (o + at_key (edition_of edition) ≤ length b.now) }
-    ensures { result ≡ end_of (edition_of edition) b.now o }
+pub fn end(b: &[u8], o: usize, edition: Edition) -> usize
+    requires { (o < 4294967296) × (o + at_key (rules_of edition) ≤ length b.now) }
+    ensures { result ≡ end_of (rules_of edition) b.now o }
 {
     o + at_key(edition) + key_length(b, o) + value_length(b, o)
 }
 
 // The change at o begins after all that stands up to low, lies within the batch, and is of a known kind.
-fn is_sound(b: &[u8], low: usize, o: usize, edition: usize) -> bool
+fn is_sound(b: &[u8], low: usize, o: usize, edition: Edition) -> bool
     requires { o < 4294967296 }
-    ensures { result ≡ sound (edition_of edition) b.now low o }
+    ensures { result ≡ sound (rules_of edition) b.now low o }
 {
     if o < low {
         return false;
@@ -128,8 +131,8 @@ fn is_sound(b: &[u8], low: usize, o: usize, edition: usize) -> bool
 }
 
 // The bytes are a batch: no offset runs back, overlaps what stands before it or points outside, and every change is of a known kind.
-pub fn well_laid(b: &[u8], edition: usize) -> bool
-    ensures { result ≡ laid (changes_of (edition_of edition) b.now) }
+pub fn well_laid(b: &[u8], edition: Edition) -> bool
+    ensures { result ≡ laid (changes_of (rules_of edition) b.now) }
 {
     if b.len() < COUNT_SIZE {
         return false;

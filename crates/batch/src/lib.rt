@@ -6,52 +6,35 @@ mod laid;
 mod run;
 
 ghost use Rattle.std.specs.Prelude.{◌<◌, ◌≤◌};
-ghost use Rattle.model.specs.Edition.{edition_of};
 ghost use Rattle.batch.specs.Batch.{BatchPromise};
+ghost use Rattle.batch.specs.Stopped.{batch_number, batch_place};
 
+use answers::Refusal;
+use editions::Editioned;
 use moves::fill;
-use run::Ended;
+pub use run::Stopped;
 
-// 7: the second frame has another length
-const OTHER_LENGTH: usize = 7;
-
-// 12: the bytes are no batch
-const NOT_LAID: usize = 12;
-
-pub fn apply(
+pub fn apply<E: Editioned>(
     frame: &mut [u8],
     second: &mut [u8],
     batch: &[u8],
     answers: &mut [u8],
-    edition: usize,
-) -> Ended
-    ensures { BatchPromise (edition_of edition) frame.old second.old batch.now answers.old result.number result.place frame.new second.new answers.new × (result.number < 256) × (result.place ≤ 4294967295) }
+    edition: E,
+) -> Result<(), Stopped>
+    ensures { BatchPromise (E.rules edition) frame.old second.old batch.now answers.old (batch_number result) (batch_place result) frame.new second.new answers.new × (batch_number result < 256) × (batch_place result ≤ 4294967295) }
 {
-    let n = audit::check(frame, edition);
-    if n != audit::GOOD {
-        return Ended {
-            number: n,
-            place: 0,
-        };
-    }
+    let edition = edition.edition();
+    audit::check(frame, edition)?;
+    // 7: the second frame has another length
     if second.len() != frame.len() {
-        return Ended {
-            number: OTHER_LENGTH,
-            place: 0,
-        };
+        return Err(Stopped::from(Refusal::Output));
     }
     if !laid::well_laid(batch, edition) {
-        return Ended {
-            number: NOT_LAID,
-            place: 0,
-        };
+        return Err(Stopped::from(Refusal::Batch));
     }
     fill::paste(second, 0, frame);
-    let end = run::trial(second, batch, edition);
-    if end.place != 0 {
-        return end;
-    }
+    run::trial(second, batch, edition)?;
     run::carry_out(frame, batch, answers, edition);
     fill::paste(second, 0, frame);
-    end
+    Ok(())
 }

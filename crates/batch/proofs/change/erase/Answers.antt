@@ -1,15 +1,11 @@
 -- `erase`: refused for its key, or what the core has made. Assumes nothing.
-use native.Mathlib.Omega.{arith}
-use Rattle.batch.proofs.ChangeLaws.{erase_barred, erase_ready, erase_done_lem, erase_small}
+use Rattle.answers.proofs.NumberLaws.{handed_on}
+use Rattle.store.proofs.EraseCallLaws.{erase_made}
 use Rattle.batch.proofs.change.erase.Goals as goal
 
-pub returns-then-e-ne0 : goal.returns-then-e-ne0
-returns-then-e-ne0 c = erase_barred _ c.requires c.args.key.now _ c.fault-e.ensures c.if-e-ne0.true
-
-pub erase-requires : goal.erase-requires
-erase-requires c =
-    erase_ready _ c.requires c.args.key.now _ c.fault-e.ensures c.if-e-ne0.false (λ a. omega (arith, c.shared_slice_known-1.given a))
+pub returns-in_err-erased : goal.returns-in_err-erased
+returns-in_err-erased c =
+    let S = c.requires in rw (handed_on c.in_err-erased.field-0.0 _ _ c.from_residual-in_err-erased.ensures.1) (erase_made _ _ _ (S.st, S.stands) c.in_ok-fault.ensures c.in_err-erased.ensures)
 
 pub returns : goal.returns
-returns c =
-    let call = c.erase in rw c.erase_number.ensures (erase_done_lem _ c.requires c.args.key.now _ c.fault-e.ensures c.if-e-ne0.false call.ensures, erase_small call.result)
+returns c = let S = c.requires in erase_made _ _ _ (S.st, S.stands) c.in_ok-fault.ensures c.in_ok-erased.ensures

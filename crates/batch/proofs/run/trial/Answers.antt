@@ -1,9 +1,9 @@
 -- `trial`: the changes so far were made and none refused; the first that is ends it. Assumes nothing.
 use Prim.Native.Nat.{◌<◌}
-use mathlib.Core.Path.{◌≡◌, refl, sym, ◌∙◌}
+use mathlib.Core.Path.{◌≡◌, refl}
 use native.Mathlib.Omega.{arith}
 use Rattle.batch.specs.Layout.{count_in}
-use Rattle.batch.proofs.RunLaws.{headed_of, trial_start, far_at, trial_more, tried_through, tried_halted}
+use Rattle.batch.proofs.RunLaws.{headed_of, trial_start, far_at, trial_more, made_passes, tried_through, tried_halted}
 use borrow.Author.Rules.{rules}
 use Rattle.batch.proofs.run.trial.Goals as goal
 
@@ -18,20 +18,20 @@ offset-o-requires c =
     let H = headed_of _ c.args.b.now c.requires.whole in
     let n = c.count-n in (omega arith, omega (arith, H.offsets, n.ensures.0))
 
-pub change-m-requires : goal.change-m-requires
-change-m-requires c =
+pub change-requires : goal.change-requires
+change-requires c =
     let l = c.loop-i in let o = c.offset-o in let n = c.count-n.ensures.0 in let h : l.i < count_in c.args.b.now = omega arith in
     far_at l.invariant.1.0 h o.result o.ensures.0 o.ensures.1
 
-pub returns-then-is_refusal : goal.returns-then-is_refusal
-returns-then-is_refusal c =
-    let l = c.loop-i in let o = c.offset-o in let made = c.change-m in let n = c.count-n.ensures.0 in let h : l.i < count_in c.args.b.now = omega arith in
-    tried_halted l.invariant.1.0 l.invariant.1.1 h (omega arith) o.result o.ensures.0 made.result _ made.ensures (sym c.is_refusal.ensures ∙ c.if-is_refusal.true)
+pub returns-in-Err : goal.returns-in-Err
+returns-in-Err c =
+    let l = c.loop-i in let o = c.offset-o in let n = c.count-n.ensures.0 in let h : l.i < count_in c.args.b.now = omega arith in
+    tried_halted l.invariant.1.0 l.invariant.1.1 h (omega arith) o.result o.ensures.0 c.in-Err.refusal _ c.in-Err.ensures
 
 pub loop-i-preserved : goal.loop-i-preserved
 loop-i-preserved c =
-    let l = c.loop-i in let o = c.offset-o in let made = c.change-m in let n = c.count-n.ensures.0 in let h : l.i < count_in c.args.b.now = omega arith in
-    (search rules, trial_more l.invariant.1.0 l.invariant.1.1 h o.result o.ensures.0 made.result _ made.ensures (sym c.is_refusal.ensures ∙ c.if-is_refusal.false))
+    let l = c.loop-i in let o = c.offset-o in let n = c.count-n.ensures.0 in let h : l.i < count_in c.args.b.now = omega arith in
+    (search rules, trial_more l.invariant.1.0 l.invariant.1.1 h o.result o.ensures.0 _ _ c.change.ensures (made_passes _ _ c.in_default.is))
 
 pub returns : goal.returns
 returns c =
