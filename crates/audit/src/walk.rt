@@ -82,10 +82,7 @@ fn below_slot(f: &[u8], s: usize, u: usize, n: usize) -> bool
     }
     match Kind::try_from(Entry::read(f, s).high) {
         Ok(Kind::Prefix) => n == Prefix::MOST,
-        Ok(Kind::Node4) => true,
-        Ok(Kind::Node16) => true,
-        Ok(Kind::Node48) => true,
-        Ok(Kind::Node256) => true,
+        Ok(Kind::Node4 | Kind::Node16 | Kind::Node48 | Kind::Node256) => true,
         _ => false,
     }
 }

@@ -22,6 +22,13 @@ use pieces::zero_eight;
 use shape::leaf::lone_good;
 use sweep::swept;
 
+// By which rule a frame is good: its edition's, and whether what is freed has to be wiped.
+#[derive(Clone, Copy, Debug, PartialEq, Eq)]
+struct Rule {
+    edition: Edition,
+    wiped: bool,
+}
+
 // An EmptyRoot whose body lies at o.
 fn empty(f: &[u8], map: &mut [u64], o: usize, bounds: Bounds, t: Sums) -> Option<Sums>
     requires inside { bounds.next ≤ length f.now }
@@ -119,19 +126,12 @@ fn unmarked(f: &[u8], map: &[u64], bounds: Bounds, wiped: bool) -> bool
 }
 
 // All, with a map of units that is still zero. What nothing live has marked is looked at before the freed bodies are marked too.
-fn over(
-    f: &[u8],
-    map: &mut [u64],
-    path: &mut [u8],
-    waits: &mut [u32],
-    edition: Edition,
-    wiped: bool,
-) -> bool
-    requires header { HeaderFits (rules_of edition) f.now }
+fn over(f: &[u8], map: &mut [u64], path: &mut [u8], waits: &mut [u32], rule: Rule) -> bool
+    requires header { HeaderFits (rules_of rule.edition) f.now }
     requires room { length f.now ≤ 512 * length map.old }
     requires fresh { Seen map.old [] }
-    requires arrays { Arrays (rules_of edition) (le 4 f.now at_u) (length path.old) (length waits.old) }
-    ensures { Decides (Good (ruled wiped (rules_of edition)) f.now) result }
+    requires arrays { Arrays (rules_of rule.edition) (le 4 f.now at_u) (length path.old) (length waits.old) }
+    ensures { Decides (Good (ruled rule.wiped (rules_of rule.edition)) f.now) result }
 {
     let bounds = Bounds {
         start: Header::data_start(f),
@@ -143,10 +143,19 @@ fn over(
         bytes: 0,
         leaves: 0,
     };
-    let Some(live) = root(f, map, path, waits, Header::root(f), bounds, none, edition) else {
+    let Some(live) = root(
+        f,
+        map,
+        path,
+        waits,
+        Header::root(f),
+        bounds,
+        none,
+        rule.edition,
+    ) else {
         return false;
     };
-    if !unmarked(f, map, bounds, wiped) {
+    if !unmarked(f, map, bounds, rule.wiped) {
         return false;
     }
     let Some(all) = lists(f, map, bounds, live) else {
@@ -169,50 +178,45 @@ const MANY_SLOTS: usize = 128;
 
 // The same with arrays for the path and for the nodes that wait. They stand in a part of the stack of their own, which no other call takes.
 #[inline(never)]
-fn with_arrays<const PATH: usize, const WAITS: usize>(
-    f: &[u8],
-    map: &mut [u64],
-    edition: Edition,
-    wiped: bool,
-) -> bool
-    requires header { HeaderFits (rules_of edition) f.now }
+fn with_arrays<const PATH: usize, const WAITS: usize>(f: &[u8], map: &mut [u64], rule: Rule) -> bool
+    requires header { HeaderFits (rules_of rule.edition) f.now }
     requires room { length f.now ≤ 512 * length map.old }
     requires fresh { Seen map.old [] }
-    requires arrays { Arrays (rules_of edition) (le 4 f.now at_u) PATH WAITS }
+    requires arrays { Arrays (rules_of rule.edition) (le 4 f.now at_u) PATH WAITS }
     requires waits_fit { WAITS ≤ 512 }
-    ensures { Decides (Good (ruled wiped (rules_of edition)) f.now) result }
+    ensures { Decides (Good (ruled rule.wiped (rules_of rule.edition)) f.now) result }
 {
     let mut path = [0u8; PATH];
     let mut waits = [0u32; WAITS];
-    over(f, map, &mut path, &mut waits, edition, wiped)
+    over(f, map, &mut path, &mut waits, rule)
 }
 
 // The same with arrays that are no longer than they need be.
-fn by_slots(f: &[u8], map: &mut [u64], edition: Edition, wiped: bool) -> bool
-    requires header { HeaderFits (rules_of edition) f.now }
+fn by_slots(f: &[u8], map: &mut [u64], rule: Rule) -> bool
+    requires header { HeaderFits (rules_of rule.edition) f.now }
     requires room { length f.now ≤ 512 * length map.old }
     requires fresh { Seen map.old [] }
-    ensures { Decides (Good (ruled wiped (rules_of edition)) f.now) result }
+    ensures { Decides (Good (ruled rule.wiped (rules_of rule.edition)) f.now) result }
 {
     let given = Header::slots_given(f);
-    match edition {
+    match rule.edition {
         Edition::First => {
             if given <= FEW_SLOTS {
-                return with_arrays::<DEPTHS, FEW_SLOTS>(f, map, edition, wiped);
+                return with_arrays::<DEPTHS, FEW_SLOTS>(f, map, rule);
             }
-            with_arrays::<DEPTHS, DEPTHS>(f, map, edition, wiped)
+            with_arrays::<DEPTHS, DEPTHS>(f, map, rule)
         }
         Edition::Second => {
             if given <= FEW_SLOTS {
-                return with_arrays::<DEPTHS_SECOND, FEW_SLOTS>(f, map, edition, wiped);
+                return with_arrays::<DEPTHS_SECOND, FEW_SLOTS>(f, map, rule);
             }
             if given <= SOME_SLOTS {
-                return with_arrays::<DEPTHS_SECOND, SOME_SLOTS>(f, map, edition, wiped);
+                return with_arrays::<DEPTHS_SECOND, SOME_SLOTS>(f, map, rule);
             }
             if given <= MANY_SLOTS {
-                return with_arrays::<DEPTHS_SECOND, MANY_SLOTS>(f, map, edition, wiped);
+                return with_arrays::<DEPTHS_SECOND, MANY_SLOTS>(f, map, rule);
             }
-            with_arrays::<DEPTHS_SECOND, DEPTHS_SECOND>(f, map, edition, wiped)
+            with_arrays::<DEPTHS_SECOND, DEPTHS_SECOND>(f, map, rule)
         }
     }
 }
@@ -230,14 +234,14 @@ const SMALL_FRAME: usize = 16384;
 
 // The same with a map of so many words, in a part of the stack of its own.
 #[inline(never)]
-fn with_map<const WORDS: usize>(f: &[u8], edition: Edition, wiped: bool) -> bool
-    requires header { HeaderFits (rules_of edition) f.now }
+fn with_map<const WORDS: usize>(f: &[u8], rule: Rule) -> bool
+    requires header { HeaderFits (rules_of rule.edition) f.now }
     requires room { length f.now ≤ 512 * WORDS }
     requires words_fit { WORDS ≤ 1024 }
-    ensures { Decides (Good (ruled wiped (rules_of edition)) f.now) result }
+    ensures { Decides (Good (ruled rule.wiped (rules_of rule.edition)) f.now) result }
 {
     let mut map = [0u64; WORDS];
-    by_slots(f, &mut map, edition, wiped)
+    by_slots(f, &mut map, rule)
 }
 
 // All, with a map on the stack that is no larger than it need be.
@@ -245,12 +249,15 @@ pub fn all<E: Editioned>(f: &[u8], edition: E, wiped: bool) -> bool
     requires { HeaderFits (E.rules edition) f.now }
     ensures { Decides (Good (ruled wiped (E.rules edition)) f.now) result }
 {
-    let edition = edition.edition();
+    let rule = Rule {
+        edition: edition.edition(),
+        wiped,
+    };
     if f.len() <= SMALLEST_FRAME {
-        return with_map::<SMALLEST_MAP>(f, edition, wiped);
+        return with_map::<SMALLEST_MAP>(f, rule);
     }
     if f.len() <= SMALL_FRAME {
-        return with_map::<SMALL_MAP>(f, edition, wiped);
+        return with_map::<SMALL_MAP>(f, rule);
     }
-    with_map::<LARGE_MAP>(f, edition, wiped)
+    with_map::<LARGE_MAP>(f, rule)
 }
