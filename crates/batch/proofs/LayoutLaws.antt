@@ -27,10 +27,6 @@ layouts = record { stamps = refl; stampless = refl; plain = refl; empty = refl; 
 
 -- ---- by the edition
 
-pub key_behind : (E : Edition) → at_stamp ≤ at_key E
-unfolding at_key
-key_behind E = bool_cases (eqb E.stamps 1) (λ t. rw t (omega arith)) (λ t. rw t (omega arith))
-
 -- ---- one change
 
 -- what the code says of a kind

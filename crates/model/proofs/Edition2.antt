@@ -111,10 +111,6 @@ pub edition_one : edition_of 1 ≡ edition1
 unfolding edition_of
 edition_one = refl
 
-pub edition_two : edition_of 2 ≡ edition2
-unfolding edition_of
-edition_two = refl
-
 pub of_two : (n : ℕ) → n ≡ 2 → edition_of n ≡ edition2
 unfolding edition_of
 of_two n e = rw (eq-eqb n 2 e) refl

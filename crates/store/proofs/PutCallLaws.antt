@@ -99,23 +99,10 @@ module _ (E : Edition) (f k : List ℕ) (v : Value) where
 
 -- ---- the fault, by its tests
 
-pub fault_key : (E : Edition) (k : List ℕ) (v : Value) (r : Refusal) → refusal_number r ≡ E.key_fault k → refusal_number r ≡ fault_of E k v
-fault_key E k v r q = q ∙ rw (ne_eqb (E.key_fault k) 0 (λ z. never_zero r (q ∙ z))) refl
-
-pub fault_value : (E : Edition) (k : List ℕ) (v : Value) → 0 ≡ E.key_fault k → 65535 < length (text_of v) → 5 ≡ fault_of E k v
-fault_value E k v q l = rw (eq-eqb (E.key_fault k) 0 (sym q), lt-ltb 65535 (length (text_of v)) l) refl
-
 pub fault_free : (E : Edition) (k : List ℕ) (v : Value) → 0 ≡ E.key_fault k → length (text_of v) ≤ 65535 → 0 ≡ fault_of E k v
 fault_free E k v q l = rw (eq-eqb (E.key_fault k) 0 (sym q), le-ltb 65535 (length (text_of v)) l) refl
 
 -- ---- the stamp
-
-pub stamp_first : (s : ℕ) → (0 ≡ stamp_for edition1 s) × (0 < edition1.stamps)
-stamp_first s = (first_only s (ltb s 1) refl, lit< tt)
-  where
-    first_only : (s : ℕ) (b : Bool) → ltb s 1 ≡ b → 0 ≡ pick b s 0
-    first_only s true e = omega (arith, ltb-true s 1 e)
-    first_only s false e = refl
 
 pub stamp_second : (s : ℕ) → s < 18446744073709551616 → (s ≡ stamp_for edition2 s) × (s < edition2.stamps)
 stamp_second s h = rw (lt-ltb s 18446744073709551616 h) (refl, h)
