@@ -1,5 +1,6 @@
 // What the exact check counts on its way: bodies and extents claim their units of the map, each once, and the lists of freed slots are
-// followed. Each function tells its witness, or that no good frame has one (specs/Told.antt).
+// followed. Each function tells its witness, or that no good frame has one (specs/Told.antt). The map, the bounds and the counts pass side by side:
+// counts come out in an Option, none after a refusal, where a struct of all three would still hold some.
 #![tactic(auto)]
 
 pub mod freed;

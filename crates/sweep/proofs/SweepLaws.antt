@@ -126,9 +126,6 @@ pub record Sweeping (f m : List ℕ) (d b at left : ℕ) : Type 0 where
   pub done : (a : ℕ) → d ≤ a → a < 8 * at → bit m (a / 8) ≡ 0 → byte_at f a ≡ 0
 
 module _ {f m : List ℕ} {d b : ℕ} where
-  pub sweep_start : d % 8 ≡ 0 → b % 8 ≡ 0 → d ≤ b → Sweeping f m d b (d / 8) ((b - d) / 8)
-  sweep_start p q l = record { low = omega arith; ends = omega arith; done = λ a x y z. absurd (omega arith) }
-
   module _ {at left n : ℕ} (S : Sweeping f m d b at left) (R : Run at left n) where
     -- a unit's mark is a digit of the word that all of them stand in
     mark_is : (u : ℕ) → at ≤ u → u < at + n → bit m u ≡ digit (get_or m (at / 64) 0) (u % 64)
@@ -159,6 +156,3 @@ module _ {f m : List ℕ} {d b : ℕ} where
               let c : a / 8 ≡ u = omega arith in
               W.bare a (omega arith) (omega arith) (rw c (mark_is u p q ∙ z));
         })
-
-  pub sweep_end : {at left : ℕ} {r : Bool} → Sweeping f m d b at left → left ≡ 0 → Decides (Blank f b (length f)) r → Decides (Swept f m d b) r
-  sweep_end S z D = let e = S.ends in handed D (λ T. record { bare = λ a x y q. S.done a x (omega arith) q; tail = T }) (λ W. W.tail)

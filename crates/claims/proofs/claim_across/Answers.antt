@@ -1,8 +1,7 @@
 -- `claims::claim_across` meets its contract. The loop's invariant: `left` units from `at` on are not marked yet, and the others are.
 -- Assumes nothing.
-use native.Mathlib.Omega.{arith}
 use Rattle.model.proofs.StringLaws.{clash}
-use Rattle.claims.proofs.BitLaws.{claim_start, claim_more, claim_taken, claim_end}
+use Rattle.claims.proofs.BitLaws.{claim_start, claim_more, claim_taken}
 use Rattle.claims.proofs.claim_across.Goals as goal
 
 pub loop-left-init : goal.loop-left-init
@@ -15,6 +14,3 @@ returns-then-old-bits-ne0 c =
 pub loop-left-preserved : goal.loop-left-preserved
 loop-left-preserved c =
     claim_more c.loop-left.invariant c.within-n.ensures c.mask-bits.ensures c.requires.0 c.if-old-bits-ne0.false
-
-pub returns : goal.returns
-returns c = (λ e. claim_end c.loop-left.invariant (omega arith), λ e. clash (cc))
