@@ -1,5 +1,1 @@
-pub mod LookUpLaws
-pub mod InfoLaws
-pub mod ListLaws
 pub mod BatchLaws
-pub mod PutLaws

@@ -1,7 +1,0 @@
--- 2 names edition 2. Assumes nothing.
-use Rattle.model.specs.Edition.{edition_of}
-use Rattle.frame_store.proofs.frame2_check.Goals as goal
-
-pub returns : goal.returns
-unfolding edition_of
-returns c = c.check.ensures

@@ -1,7 +1,0 @@
--- 1 names edition 1. Assumes nothing.
-use Rattle.model.specs.Edition.{edition_of}
-use Rattle.frame_store.proofs.frame_look_up.Goals as goal
-
-pub returns : goal.returns
-unfolding edition_of
-returns c = c.look_up.ensures
