@@ -4,7 +4,6 @@ use mathlib.Core.Path.{◌≡◌, refl, sym, subst, ◌∙◌}
 use mathlib.Core.List.{List, [], ◌∷◌, ◌++◌}
 use Rattle.std.specs.Prelude.{Option, None, Some}
 use native.Mathlib.Omega.{arith}
-use native.Mathlib.Decide.{ℕ_discrete}
 use lib.ListN.{length, length-append}
 use Rattle.layout.specs.Kind.{leaf_kind, node4_kind}
 use Rattle.model.specs.Edition.{Edition}
@@ -48,14 +47,14 @@ module _ {E : Edition} {f k : List ℕ} {s : State} (w : Stands E f s) {l : Lone
   leaf_taking {xs} {b} {first} T (leaf n o e k' v') i P = by_body b
       (λ z. record { left = art (plug xs (leaf n o e k' v')); frees = node4_kind ∷ leaf_kind ∷ []; dead = extent_of k P.value; is = lone_change w P (T.without z) (leaf n o e k' v') [] (node4_kind ∷ leaf_kind ∷ []) refl })
       (λ a z.
-        let R = T.run a z in
-        let u = leaf n o e k' v' in
-        subst (λ (zs : List Step). (Q : Site E k w.root zs l (leaf n o e k' v')) → Taking E k (art (plug zs (pair_of Q))) []) (sym R.is) (λ Q. record {
-          left = art (plug R.up u);
-          frees = prefixes (length (rows R.run)) ++ node4_kind ∷ leaf_kind ∷ [];
-          dead = extent_of k Q.value;
-          is = leaf_change w R.run R.up R.only R.free (run_some R.run first R.only R.top) Q refl;
-        }) P)
+      let R = T.run a z in
+      let u = leaf n o e k' v' in
+      subst (λ (zs : List Step). (Q : Site E k w.root zs l (leaf n o e k' v')) → Taking E k (art (plug zs (pair_of Q))) []) (sym R.is) (λ Q. record {
+        left = art (plug R.up u);
+        frees = prefixes (length (rows R.run)) ++ node4_kind ∷ leaf_kind ∷ [];
+        dead = extent_of k Q.value;
+        is = leaf_change w R.run R.up R.only R.free (run_some R.run first R.only R.top) Q refl;
+      }) P)
 
   -- no Prefix above has room
   pub full_taking : {xs : List Step} → Full xs → (u : Lay) → NotLeaf u → (P : Site E k w.root xs l u) → Taking E k (art (plug xs (pair_of P))) (prefixes (lacks u))

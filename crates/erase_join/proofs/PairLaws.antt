@@ -254,9 +254,9 @@ module _ {E : Edition} {f k : List ℕ} {p : Spot} {host : Body} {l : Lone} (A :
     full_above z =
         by_body p.above (λ e. none_full A.steps (A.top.without e))
         (λ u e.
-          let C = capped_of {Q = NotLeaf} (A.is.other kind) u e in
-          let P = above_at u C in
-          subst Full (sym (A.top.capped u e).is) (omega (arith, H.some u e, P.long, P.most)))
+        let C = capped_of {Q = NotLeaf} (A.is.other kind) u e in
+        let P = above_at u C in
+        subst Full (sym (A.top.capped u e).is) (omega (arith, H.some u e, P.long, P.most)))
 
     pub other_bare : n ≡ 0 → Bare E Full NotLeaf f k l host.link
     other_bare z = record { steps = A.steps; child = A.child; is = A.is.other kind; ready = A.ready; free = full_above z; link_is = A.link_is }

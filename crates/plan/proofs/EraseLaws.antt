@@ -351,7 +351,7 @@ module _ {E : Edition} {f k : List ℕ} {st : State} {s : Spot} {host : Body} (W
         end_under z A =
             leaf_or child (λ i. taken (leaf_taking W D.top child i site) A)
             (λ i. by_body s.above (λ e. absurd (z (H.none e)))
-              (λ u e. let C = D.top.capped u e in taken (subst (λ (xs : List Step). (P : Site E k W.root xs lone child) → Taking E k (art (plug xs (pair_of P))) []) (sym C.is) (λ P. roomy_taking W u C.bytes C.up (omega (arith, (above_long u e).0)) child i P) site) A))
+            (λ u e. let C = D.top.capped u e in taken (subst (λ (xs : List Step). (P : Site E k W.root xs lone child) → Taking E k (art (plug xs (pair_of P))) []) (sym C.is) (λ P. roomy_taking W u C.bytes C.up (omega (arith, (above_long u e).0)) child i P) site) A))
 
         full_above : m ≡ 0 → Full D.up
         full_above z =
