@@ -1,7 +1,8 @@
 // A call that changes the records.
 ghost use Rattle.layout.specs.Number.{Bytes};
 
-use answers;
+use answers::{Erased, Refusal, Written};
+use editions::Editioned;
 use store::erase::erase;
 use store::put::{put, replace};
 
@@ -13,7 +14,14 @@ pub enum Kind {
     Erase,
 }
 
-// A call that changes the records. An erase has no use for the value and the stamp.
+// What a change answers that is not refused.
+#[derive(Clone, Copy, Debug, PartialEq, Eq)]
+pub enum Answer {
+    Written(Written),
+    Erased(Erased),
+}
+
+// An erase has no use for the value and the stamp.
 #[derive(Clone, Copy, Debug, PartialEq, Eq)]
 pub struct Change<'a> {
     pub kind: Kind,
@@ -24,22 +32,21 @@ pub struct Change<'a> {
 }
 
 impl<'a> Change<'a> {
-    ghost use Rattle.model.specs.Edition.{edition_of};
+    ghost use Rattle.answers.specs.Number.{number_of};
     ghost use Rattle.model.specs.Call.{Called};
-    ghost use Rattle.demanded.specs.Orders.{call_of};
+    ghost use Rattle.demanded.specs.Orders.{call_of, answer_number};
 
-    // Makes the call, and gives the number of its answer.
-    pub fn make(self, frame: &mut [u8], edition: usize) -> u32
-        ensures { Called (edition_of edition) frame.old (call_of (edition_of edition) self.entry) result frame.new }
+    // Makes the call.
+    pub fn make<E: Editioned>(self, frame: &mut [u8], edition: E) -> Result<Answer, Refusal>
+        ensures { Called (E.rules edition) frame.old (call_of (E.rules edition) self.entry) (number_of answer_number result) frame.new }
     {
+        let edition = edition.edition();
         match self.kind {
-            Kind::Put => {
-                answers::put_number(put(frame, self.key, self.value, self.stamp, edition))
-            }
-            Kind::Replace => {
-                answers::replace_number(replace(frame, self.key, self.value, self.stamp, edition))
-            }
-            Kind::Erase => answers::erase_number(erase(frame, self.key, edition)),
+            Kind::Put => Ok(Answer::Written(put(frame, self.key, self.value, self.stamp, edition)?)),
+            Kind::Replace => Ok(Answer::Written(replace(
+                frame, self.key, self.value, self.stamp, edition,
+            )?)),
+            Kind::Erase => Ok(Answer::Erased(erase(frame, self.key, edition)?)),
         }
     }
 }

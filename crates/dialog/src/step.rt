@@ -1,13 +1,14 @@
 // One line of the session: the command that it is, carried out on the frame in use, and the answer to write.
 ghost use Rattle.std.specs.Prelude.{◌≡◌, List, ℕ, ◌+◌, ◌≤◌, length as List·length};
 ghost use Rattle.std.specs.Option.{ForSome};
-ghost use Rattle.model.specs.Edition.{edition_of};
+ghost use Rattle.model.specs.Edition.{edition1};
 ghost use Rattle.lines.specs.Input.{come, Held};
 ghost use Rattle.lines.specs.Line.{of_command, said};
 ghost use Rattle.lines.specs.Text.{Appended};
 ghost use Rattle.dialog.specs.Answer.{Wide, Answer, alone, question as Answer·question, count as Answer·count, with_counts, Formats, Puts, Gets, Erases, Packs, Does, Steps, Replies};
 
-use answers;
+use answers::LookUp;
+use editions::Edition;
 use fields::header::Header;
 use lines::command::{Command, parse};
 use lines::input::Line;
@@ -38,47 +39,37 @@ fn number(out: &mut [u8], n: u32) -> usize
     requires { Wide out.old }
     ensures { Answer out.new result (λ t. t ≡ alone n) }
 {
-    let at = append_number(out, 0, n as u64);
+    let at = append_number(out, 0, u64::from(n));
     append(out, at, b"\n")
 }
 
 // "The session program's `p` and every other caller that relied on replacement must ask for it."
 fn put_line(frame: &mut [u8], key: &[u8], value: &[u8], out: &mut [u8]) -> usize
     requires { Wide out.old }
-    ensures { Answer out.new result (λ t. Puts (edition_of 1) frame.old key.now value.now frame.new t) }
+    ensures { Answer out.new result (λ t. Puts edition1 frame.old key.now value.now frame.new t) }
 {
-    number(
-        out,
-        answers::put_or_replace_number(put_or_replace(
-            frame,
-            key,
-            value,
-            NO_STAMP,
-            Header::FIRST_EDITION,
-        )),
-    )
+    let answer = put_or_replace(frame, key, value, NO_STAMP, Edition::First);
+    number(out, answers::number(answer))
 }
 
 fn erase_line(frame: &mut [u8], key: &[u8], out: &mut [u8]) -> usize
     requires { Wide out.old }
-    ensures { Answer out.new result (λ t. Erases (edition_of 1) frame.old key.now frame.new t) }
+    ensures { Answer out.new result (λ t. Erases edition1 frame.old key.now frame.new t) }
 {
-    number(
-        out,
-        answers::erase_number(erase(frame, key, Header::FIRST_EDITION)),
-    )
+    let answer = erase(frame, key, Edition::First);
+    number(out, answers::number(answer))
 }
 
 fn get_line(frame: &[u8], key: &[u8], out: &mut [u8]) -> usize
     requires { Wide out.old × (List·length frame.now ≤ 16384) }
-    ensures { Answer out.new result (λ t. Gets (edition_of 1) frame.now key.now frame.now t) }
+    ensures { Answer out.new result (λ t. Gets edition1 frame.now key.now frame.now t) }
 {
-    let n = answers::look_up_number(look_up(frame, key, Header::FIRST_EDITION));
-    if n != 0 {
-        return number(out, n);
-    }
+    let answer = look_up(frame, key, Edition::First);
+    let Ok(LookUp::Found(_)) = answer else {
+        return number(out, answers::number(answer));
+    };
     let at = append(out, 0, b"0 ");
-    let end = append(out, at, value(frame, key, Header::FIRST_EDITION));
+    let end = append(out, at, value(frame, key, Edition::First));
     append(out, end, b"\n")
 }
 
@@ -104,11 +95,10 @@ fn counts(out: &mut [u8], slots: usize, bytes: usize, records: usize) -> usize
 
 fn pack_line(frame: &[u8], packed: &mut [u8], out: &mut [u8]) -> usize
     requires { Wide out.old × (List·length packed.old ≡ List·length frame.now) }
-    ensures { Answer out.new result (λ t. Packs (edition_of 1) frame.now frame.now t) }
+    ensures { Answer out.new result (λ t. Packs edition1 frame.now frame.now t) }
 {
-    let n = answers::pack_number(pack(frame, packed, Header::FIRST_EDITION));
-    if n != 0 {
-        return number(out, n);
+    if let Err(refusal) = pack(frame, packed, Edition::First) {
+        return number(out, refusal.number());
     }
     let slots = Header::slots_given(packed);
     let bytes = Header::next_byte(packed);
@@ -119,7 +109,7 @@ fn pack_line(frame: &[u8], packed: &mut [u8], out: &mut [u8]) -> usize
 // Any command but `f`.
 fn frame_line(frame: &mut [u8], packed: &mut [u8], command: Command, out: &mut [u8]) -> usize
     requires { Wide out.old × (List·length packed.old ≡ List·length frame.old) × (List·length frame.old ≤ 16384) }
-    ensures { Answer out.new result (λ t. Does (edition_of 1) frame.old (of_command command.entry) frame.new t) }
+    ensures { Answer out.new result (λ t. Does edition1 frame.old (of_command command.entry) frame.new t) }
 {
     match command {
         Command::Format(_, _) => question(out),
@@ -148,19 +138,14 @@ impl<'a> Frames<'a> {
         ensures same_buffer { self.new.buffer.ghost_name ≡ self.old.buffer.ghost_name }
         ensures same_packed { self.new.packed.ghost_name ≡ self.old.packed.ghost_name }
         ensures same_length { List·length self.new.buffer.now ≡ List·length self.old.buffer.now }
-        ensures answer { Answer out.new result (λ t. Formats (edition_of 1) self.old.buffer.now self.old.long length capacity self.new.buffer.now self.new.long t) }
+        ensures answer { Answer out.new result (λ t. Formats edition1 self.old.buffer.now self.old.long length capacity self.new.buffer.now self.new.long t) }
     {
         if length > MOST_FRAME {
             return number(out, 1);
         }
-        let n = answers::format_number(format(
-            &mut self.buffer[..length],
-            length,
-            capacity,
-            Header::FIRST_EDITION,
-        ));
-        if n != 0 {
-            return number(out, n);
+        let frame = &mut self.buffer[..length];
+        if let Err(refusal) = format(frame, length, capacity, Edition::First) {
+            return number(out, refusal.number());
         }
         self.long = Some(length);
         number(out, 0)
@@ -171,7 +156,7 @@ impl<'a> Frames<'a> {
         ensures same_buffer { self.new.buffer.ghost_name ≡ self.old.buffer.ghost_name }
         ensures same_packed { self.new.packed.ghost_name ≡ self.old.packed.ghost_name }
         ensures same_length { List·length self.new.buffer.now ≡ List·length self.old.buffer.now }
-        ensures answer { Answer out.new result (λ t. Steps (edition_of 1) self.old.buffer.now self.old.long (said line.now) self.new.buffer.now self.new.long t) }
+        ensures answer { Answer out.new result (λ t. Steps edition1 self.old.buffer.now self.old.long (said line.now) self.new.buffer.now self.new.long t) }
     {
         let Some(command) = parse(line) else {
             return question(out);
@@ -196,7 +181,7 @@ impl<'a> Frames<'a> {
         ensures same_buffer { self.new.buffer.ghost_name ≡ self.old.buffer.ghost_name }
         ensures same_packed { self.new.packed.ghost_name ≡ self.old.packed.ghost_name }
         ensures same_length { List·length self.new.buffer.now ≡ List·length self.old.buffer.now }
-        ensures answer { Answer out.new result (λ t. ((l : List ℕ) → Held l line.now.held.now (come line.now.have) → Replies (edition_of 1) self.old.buffer.now self.old.long l self.new.buffer.now self.new.long t)) }
+        ensures answer { Answer out.new result (λ t. ((l : List ℕ) → Held l line.now.held.now (come line.now.have) → Replies edition1 self.old.buffer.now self.old.long l self.new.buffer.now self.new.long t)) }
     {
         let Some(line) = line.bytes() else {
             return question(out);

@@ -6,7 +6,7 @@
 mod part;
 
 ghost use Rattle.std.specs.Prelude.{◌≡◌, List, ℕ, ◌≤◌, length};
-ghost use Rattle.model.specs.Edition.{edition_of};
+ghost use Rattle.model.specs.Edition.{edition1};
 ghost use Rattle.lines.specs.Input.{come, Held};
 ghost use Rattle.dialog.specs.Answer.{Wide};
 ghost use Rattle.session.specs.Part.{Part};
@@ -43,10 +43,10 @@ fn answer_piece(
     piece: &[u8],
 )
     requires { Wide out.old }
-    ensures { (begun : List ℕ) → Held begun line.old.held.now (come line.old.have) → (text : List ℕ) × Part (edition_of 1) frames.old.buffer.now frames.old.long begun piece.now frames.new.buffer.now frames.new.long line.new.held.now (come line.new.have) text }
+    ensures { (begun : List ℕ) → Held begun line.old.held.now (come line.old.have) → (text : List ℕ) × Part edition1 frames.old.buffer.now frames.old.long begun piece.now frames.new.buffer.now frames.new.long line.new.held.now (come line.new.have) text }
 {
     let mut rest = piece;
-    while rest.len() > 0 {
+    while !rest.is_empty() {
         let answered = answer_lines(frames, line, out, rest);
         write(rt, &out[..answered.written]);
         rest = answered.rest;
@@ -56,7 +56,7 @@ fn answer_piece(
 // A proved loop has to end, and nothing says that the input does: no run uses up these turns.
 fn answer_all(rt: &HostRuntime, frames: &mut Frames, line: &mut Line, out: &mut [u8])
     requires { Wide out.old }
-    ensures { (begun : List ℕ) → Held begun line.old.held.now (come line.old.have) → (input : List ℕ) × (text : List ℕ) × Part (edition_of 1) frames.old.buffer.now frames.old.long begun input frames.new.buffer.now frames.new.long line.new.held.now (come line.new.have) text }
+    ensures { (begun : List ℕ) → Held begun line.old.held.now (come line.old.have) → (input : List ℕ) × (text : List ℕ) × Part edition1 frames.old.buffer.now frames.old.long begun input frames.new.buffer.now frames.new.long line.new.held.now (come line.new.have) text }
 {
     for _ in 0..u64::MAX {
         let mut piece = [0; PIECE];

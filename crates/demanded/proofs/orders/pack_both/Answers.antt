@@ -3,4 +3,4 @@ use Rattle.demanded.proofs.DemandedLaws.{packed_both}
 use Rattle.demanded.proofs.orders.pack_both.Goals as goal
 
 pub returns : goal.returns
-returns c = packed_both _ (rw c.pack_number.ensures c.pack.ensures) (rw c.pack_number-2.ensures c.pack-2.ensures)
+returns g c = rw (← c.edition-edition.ensures) (packed_both _ c.pack.ensures c.pack-2.ensures)

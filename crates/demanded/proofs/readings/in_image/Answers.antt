@@ -1,12 +1,15 @@
 -- The three calls keep their promises, and demand 2 speaks of them. Assumes nothing.
 use native.Mathlib.Omega.{arith}
-use Rattle.model.specs.Edition.{edition_of}
+use Rattle.editions.specs.Rules.{rules_of}
 use Rattle.store.specs.Write.{value_for}
 use Rattle.store.proofs.PutCallLaws.{stamp_held}
 use Rattle.demanded.proofs.DemandedLaws.{read_in_image}
 use Rattle.demanded.proofs.readings.in_image.Goals as goal
 
 pub returns : goal.returns
-returns c =
-    let z = c.args in read_in_image _ z.key.now (value_for (edition_of z.edition) z.value.now z.stamp) (λ a. omega (arith, c.type_inv.key a)) (λ a. omega (arith, c.type_inv.value a)) (stamp_held z.edition z.stamp)
-    (rw c.put_or_replace_number-given.ensures c.put_or_replace.ensures) (rw c.pack_number-packed.ensures c.pack.ensures) c.look_up-found.ensures
+returns g c =
+    let z = c.args in
+    let e = c.edition-edition in
+    rw (← e.ensures)
+    (read_in_image e.result z.key.now (value_for (rules_of e.result) z.value.now z.stamp) (λ a. omega (arith, c.type_inv.key a)) (λ a. omega (arith, c.type_inv.value a)) (stamp_held e.result z.stamp)
+    c.put_or_replace-given.ensures c.pack-packed.ensures c.look_up-found.ensures)
