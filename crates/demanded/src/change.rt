@@ -42,7 +42,9 @@ impl<'a> Change<'a> {
     {
         let edition = edition.edition();
         match self.kind {
-            Kind::Put => Ok(Answer::Written(put(frame, self.key, self.value, self.stamp, edition)?)),
+            Kind::Put => Ok(Answer::Written(put(
+                frame, self.key, self.value, self.stamp, edition,
+            )?)),
             Kind::Replace => Ok(Answer::Written(replace(
                 frame, self.key, self.value, self.stamp, edition,
             )?)),
