@@ -44,7 +44,8 @@ fn empty(f: &[u8], map: &mut [u64], o: usize, bounds: Bounds, t: Sums) -> Option
     Some(r)
 }
 
-// A Leaf whose body lies at o, to which no path leads. The walk's own is another function, so that it is compiled into the walk.
+// A Leaf whose body lies at o, to which no path leads. Tried as one with the walk's, whose second caller it then is: a check took 1.06 to 1.11 of the
+// instructions.
 fn lone(
     f: &[u8],
     map: &mut [u64],

@@ -68,8 +68,8 @@ fn step(f: &[u8], key: &[u8], word: &[u8], s: Spot, edition: Edition) -> Spot
     }
 }
 
-// Where the way of a legal key through a good frame ends; `word` is what is read of it on the way.
-pub fn descend(f: &[u8], key: &[u8], word: &[u8], edition: Edition) -> Spot
+// The way of a legal key through a good frame; `word` is what is read of it on the way.
+fn way(f: &[u8], key: &[u8], word: &[u8], edition: Edition) -> Spot
     requires { Standing (rules_of edition) f.now × Sought (rules_of edition) key.now word.now }
     ensures { (st : State) (W : Stands (rules_of edition) f.now st) → SpotAt (rules_of edition) key.now W.root result }
 {
@@ -79,7 +79,7 @@ pub fn descend(f: &[u8], key: &[u8], word: &[u8], edition: Edition) -> Spot
     if e.kind() == Kind::EmptyRoot {
         return s.ended(End::Empty, e.place, Kind::EmptyRoot, 0);
     }
-    // it follows slots down the tree and steps no index
+    // it follows slots down the tree and steps no index: a `for` is no plainer
     loop {
         s = step(f, key, word, s, edition);
         match s.end {
@@ -87,6 +87,14 @@ pub fn descend(f: &[u8], key: &[u8], word: &[u8], edition: Edition) -> Spot
             _ => return s,
         }
     }
+}
+
+// Where the way of a legal key through a good frame ends; `word` is what is read of it on the way.
+pub fn descend<E: Editioned>(f: &[u8], key: &[u8], word: &[u8], edition: E) -> Spot
+    requires { Standing (E.rules edition) f.now × Sought (E.rules edition) key.now word.now }
+    ensures { (st : State) (W : Stands (E.rules edition) f.now st) → SpotAt (E.rules edition) key.now W.root result }
+{
+    way(f, key, word, edition.edition())
 }
 
 // Of a short key every walked string has room in a short word.
@@ -102,7 +110,7 @@ pub fn descend_long<E: Editioned>(f: &[u8], key: &[u8], edition: E) -> Spot
     let edition = edition.edition();
     let mut word: [u8; keys::LONGEST_WORD] = [0; keys::LONGEST_WORD];
     let n = keys::spell(key, &mut word);
-    descend(f, key, &word[0..n], edition)
+    way(f, key, &word[0..n], edition)
 }
 
 // Where the way of a legal key through a good frame ends. Edition 2 reads the walked string, written out, and edition 1 the key itself.
@@ -112,11 +120,11 @@ pub fn spot_of(f: &[u8], key: &[u8], edition: Edition) -> Spot
     ensures { (st : State) (W : Stands (rules_of edition) f.now st) → SpotAt (rules_of edition) key.now W.root result }
 {
     match edition {
-        Edition::First => descend(f, key, key, edition),
+        Edition::First => way(f, key, key, edition),
         Edition::Second if key.len() <= SHORT_KEY => {
             let mut word: [u8; SHORT_WORD] = [0; SHORT_WORD];
             let n = keys::spell(key, &mut word);
-            descend(f, key, &word[0..n], edition)
+            way(f, key, &word[0..n], edition)
         }
         Edition::Second => descend_long(f, key, edition),
     }

@@ -7,12 +7,11 @@ ghost use Rattle.pieces.specs.Decides.{Decides};
 ghost use Rattle.model.specs.Strings.{has_zero, shared};
 ghost use Rattle.answers.specs.Number.{done_number};
 ghost use Rattle.model.specs.Edition.{escaped};
-ghost use Rattle.editions.specs.Rules.{rules_of};
 ghost use Rattle.model.specs.Frame.{Begins};
 ghost use Rattle.keys.specs.Word.{Spelt, ended, weight_of, ByteFits};
 
 use answers::Refusal;
-use editions::Edition;
+use editions::{Edition, Editioned};
 use moves::fill;
 
 // the most bytes of a walked string
@@ -31,9 +30,10 @@ fn has_zero(key: &[u8]) -> bool
 }
 
 // What refuses a key, if anything does.
-pub fn fault(key: &[u8], edition: Edition) -> Result<(), Refusal>
-    ensures { done_number result ≡ (rules_of edition).key_fault key.now }
+pub fn fault<E: Editioned>(key: &[u8], edition: E) -> Result<(), Refusal>
+    ensures { done_number result ≡ (E.rules edition).key_fault key.now }
 {
+    let edition = edition.edition();
     if key.is_empty() || key.len() > edition.longest_key() {
         return Err(Refusal::KeyLength);
     }
@@ -248,10 +248,11 @@ fn shared_plain(key: &[u8], other: &[u8], d: usize) -> usize
 }
 
 // How many walked bytes two keys share from depth d on, up to which they share all.
-pub fn shared_from(key: &[u8], other: &[u8], d: usize, edition: Edition) -> usize
-    requires { (length key.now < 65536) × (length other.now < 65536) × (d ≤ shared ((rules_of edition).walked key.now) ((rules_of edition).walked other.now)) }
-    ensures { result ≡ shared (drop d ((rules_of edition).walked key.now)) (drop d ((rules_of edition).walked other.now)) }
+pub fn shared_from<E: Editioned>(key: &[u8], other: &[u8], d: usize, edition: E) -> usize
+    requires { (length key.now < 65536) × (length other.now < 65536) × (d ≤ shared ((E.rules edition).walked key.now) ((E.rules edition).walked other.now)) }
+    ensures { result ≡ shared (drop d ((E.rules edition).walked key.now)) (drop d ((E.rules edition).walked other.now)) }
 {
+    let edition = edition.edition();
     match edition {
         Edition::First => shared_plain(key, other, d),
         Edition::Second => shared_escaped(key, other) - d,
@@ -277,10 +278,11 @@ fn byte_escaped(key: &[u8], d: usize) -> u8
 }
 
 // The walked byte of a key at a depth, 0 past the end.
-pub fn byte_at(key: &[u8], d: usize, edition: Edition) -> u8
+pub fn byte_at<E: Editioned>(key: &[u8], d: usize, edition: E) -> u8
     requires { length key.now < 65536 }
-    ensures { result ≡ get_or ((rules_of edition).walked key.now) d 0 }
+    ensures { result ≡ get_or ((E.rules edition).walked key.now) d 0 }
 {
+    let edition = edition.edition();
     match edition {
         Edition::First => at(key, d),
         Edition::Second => byte_escaped(key, d),

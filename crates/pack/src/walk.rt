@@ -40,7 +40,8 @@ pub fn tree(f: &[u8], out: &mut [u8], s: usize, left: usize, next: Next) -> Next
 }
 
 // The inner node of slot s, at the smallest kind that holds its children, and the run of its children: "A node's children are packed in
-// ascending byte order". What the frame says of the node is read again for each child, so that little is kept while a child is packed.
+// ascending byte order". What the frame says of the node is read again for each child, and no `for` goes
+// over the count: its end would stand on the stack of every call below, and the stack is to be small.
 #[cycle(run_tree)]
 fn run(f: &[u8], out: &mut [u8], s: usize, left: usize, next: Next) -> Next
     requires { SomeEdition (λ E. TreeReady E f.now s left out.old next) × (4 ≤ high_of f.now s) × (high_of f.now s ≤ 7) }

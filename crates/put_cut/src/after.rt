@@ -11,7 +11,7 @@ use moves::fill;
 use room::heap;
 
 // The bytes of the Prefix from q on are the first of `bytes`; those of the chain below follow, and its bodies are the row's from `have` on.
-// A row and `have`, bytes and their number stand apart, as chain::read_row takes them and RowRead tells of them.
+// A row and `have`, bytes and their number stand apart, as chain::read_row takes them and its clause RowRead tells of them, which may not change.
 fn gather(f: &[u8], place: usize, q: usize, row: &mut [usize], have: usize, bytes: &mut [u8]) -> Run
     requires { Gathers f.now row.old bytes.old place q have }
     ensures { RunGathered f.now row.old row.new bytes.new place q have result.count result.long result.child }

@@ -1,9 +1,8 @@
 // The frame's length and its header.
 ghost use Rattle.pieces.specs.Decides.{Decides};
-ghost use Rattle.editions.specs.Rules.{rules_of};
 ghost use Rattle.shape.specs.Shape.{LengthFits, NumbersFit, HeaderTold};
 
-use editions::Edition;
+use editions::Editioned;
 use fields::body::EmptyRoot;
 use fields::header::Header;
 use layout::entry::Entry;
@@ -57,11 +56,11 @@ fn numbers_fit(length: usize, n: usize, d: usize, b: usize, u: usize) -> bool
 }
 
 // The header is a good one of the edition, and the entries above U are zero. The slice's length has been passed.
-pub fn header_good(f: &[u8], edition: Edition) -> bool
+pub fn header_good<E: Editioned>(f: &[u8], edition: E) -> bool
     requires { LengthFits f.now }
-    ensures { HeaderTold (rules_of edition) f.now result }
+    ensures { HeaderTold (E.rules edition) f.now result }
 {
-    if Header::edition(f) != edition.number() {
+    if Header::edition(f) != edition.edition().number() {
         return false;
     }
     let n = Header::slot_capacity(f);

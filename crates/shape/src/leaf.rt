@@ -157,13 +157,7 @@ pub fn leaf_good<E: Editioned>(
 }
 
 // A Leaf to which no path leads, so that its key is only to be a legal one.
-pub fn lone_good<E: Editioned>(
-    f: &[u8],
-    o: usize,
-    d: usize,
-    b: usize,
-    edition: E,
-) -> Option<Extent>
+pub fn lone_good<E: Editioned>(f: &[u8], o: usize, d: usize, b: usize, edition: E) -> Option<Extent>
     requires { (o + 16 ≤ length f.now) × (b ≤ length f.now) }
     ensures { LeafTold (E.rules edition) f.now [] o d b result }
 {

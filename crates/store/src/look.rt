@@ -1,4 +1,4 @@
-// The check, and look-up: the number with the value's place and length, the slots visited and the stamp, or the value itself as a part of the lent frame.
+// The check, and look-up: where the value stands, the slots visited and the stamp, or the value itself as a part of the lent frame.
 ghost use Rattle.answers.specs.Number.{done_number};
 ghost use Rattle.model.specs.Promise.{CheckPromise, LookUpPromise};
 ghost use Rattle.store.specs.Found.{found_in, ValueAt};

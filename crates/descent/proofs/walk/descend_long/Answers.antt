@@ -2,4 +2,4 @@
 use Rattle.descent.proofs.walk.descend_long.Goals as goal
 
 pub returns : goal.returns
-returns g c = rw c.edition-edition.ensures at c.descend.ensures
+returns g c = rw c.edition-edition.ensures at c.way.ensures

@@ -1,8 +1,8 @@
--- `descend`: the invariant is the way so far, the measure what is left of the bytes that a path can have. Assumes nothing.
+-- `way`: the invariant is the way so far, the measure what is left of the bytes that a path can have. Assumes nothing.
 use Prim.Native.Nat.{◌-◌}
 use Rattle.editions.specs.Rules.{rules_of}
 use Rattle.descent.specs.Spot.{Underway}
-use Rattle.descent.proofs.walk.descend.Given as goal
+use Rattle.descent.proofs.walk.way.Given as goal
 
 abbrev pub invariant-loop-s : goal.invariant-loop-s
 invariant-loop-s l = Underway (rules_of l.edition) l.f l.key l.s
