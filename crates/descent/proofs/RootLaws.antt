@@ -13,7 +13,6 @@ use Rattle.model.specs.Edition.{Edition}
 use Rattle.model.specs.State.{State}
 use Rattle.model.specs.Item.{Item, body, sum}
 use Rattle.model.specs.Frame.{Lay, Root, bare, tree, Entry, Tree, RootAt, root_slot, root_items, Numbers, view_of, Heap, Stands}
-use Rattle.model.proofs.StringLaws.{clash}
 use Rattle.model.proofs.UniqueLaws.{root_unique}
 use Rattle.room.proofs.HeapLaws.{lies}
 use Rattle.between.specs.Hole.{plug, Link}
@@ -113,8 +112,8 @@ module _ (E : Edition) where
             link_is = link_root;
             over = record {
               free = λ y. tt;
-              top = λ y. record { without = λ x. tt; capped = λ u x. clash (cc); run = λ u x. clash (cc) };
-              held = λ m y. clash (cc);
+              top = λ y. record { without = λ x. tt; capped = λ x. absurd (omega arith); run = λ x. absurd (omega arith) };
+              held = λ y. absurd (omega arith);
             };
           };
         }

@@ -1,9 +1,8 @@
 -- One step of a descent: to the end at a Leaf, an inner node or a Prefix, or past a Prefix or an inner node to the child. Assumes nothing.
 use Prim.Native.Nat.{ℕ, suc, ◌+◌, ◌<◌, ◌≤◌}
-use mathlib.Core.Path.{◌≡◌, refl, sym, ap, subst, ◌∙◌}
+use mathlib.Core.Path.{◌≡◌, refl, sym, ap, ◌∙◌}
 use mathlib.Core.List.{List, [], ◌∷◌, ◌++◌}
 use mathlib.Core.Option.{none, some}
-use Rattle.std.specs.Prelude.{Option, None, Some}
 use native.Mathlib.Omega.{arith}
 use native.Mathlib.Decide.{ℕ_discrete}
 use lib.ListN.{length, get_or, drop, length-append}
@@ -35,7 +34,7 @@ use Rattle.descent.specs.declared.spot.End.{End}
 use Rattle.descent.specs.declared.spot.End.TheVariants as end
 use Rattle.descent.specs.declared.spot.Body.{Body}
 use Rattle.descent.specs.declared.spot.Spot.{Spot}
-use Rattle.descent.specs.Spot.{end_at, below_prefix, over_in, over_of, top_in, below_node, Capped, Run, Topped, Holder, Over, Way, ThisKey, OtherKey, NoByte, PartPrefix, Going, Counted, AtLeaf, AtPrefix, AtNode, Stepped}
+use Rattle.descent.specs.Spot.{end_at, below_prefix, over_of, top_of, top_link_of, below_node, Run, Topped, Holder, Over, Way, ThisKey, OtherKey, NoByte, PartPrefix, Going, Counted, AtLeaf, AtPrefix, AtNode, Stepped}
 
 -- ---- strings
 
@@ -51,10 +50,7 @@ shared_all (x ∷ p) (y ∷ r) h = elim (ℕ_discrete x y) [
   | no n ↦ absurd (let z : suc (length p) ≤ 0 = rw (ne_eqb x y n) at h in omega arith)
 ]
 
--- ---- a body that is there
-
-pub some_same : {n m : Body} → ◌≡◌ {A = Option Body} (Some n) (Some m) → n ≡ m
-some_same e = cc
+-- ---- the end of the way
 
 -- ---- past a Prefix
 
@@ -68,22 +64,27 @@ link_among : (s o kind : ℕ) (ls : LayKids) (b j : ℕ) (rs : LayKids) (xs : Li
 unfolding Link
 link_among s o kind ls b j rs xs at e = e
 
-not_under : {xs : List Step} {n : Body} {b : ℕ} {u : Option Body} {first at : ℕ} → Holder xs n b u first at → NotUnder xs
+not_under : {xs : List Step} {n : Body} {b : ℕ} {u : Body} {first at : ℕ} → Holder xs n b u first at → NotUnder xs
 not_under H = rw H.is tt
 
 -- the Prefix just above the body where the descent stands
-over_top : (xs : List Step) (n : Option Body) (b : ℕ) (u : Option Body) (first at : ℕ) → Over xs n b u first at → Topped xs (over_in n u) first at
-over_top xs None b u first at O = O.top refl
-over_top xs (Some n) b u first at O = record { without = λ z. not_under (O.held n refl); capped = λ m z. clash (cc); run = λ m z. clash (cc) }
+over_top : (xs : List Step) (s : Spot) → Over xs s.node s.byte s.above s.first s.first_link → Topped xs (over_of s) s.first s.first_link
+over_top xs s O = elim (ℕ_discrete s.node.slot 0) [
+  | yes e ↦ rw (eq-eqb s.node.slot 0 e) (O.top e)
+  | no e ↦ rw (ne_eqb s.node.slot 0 e) (record { without = λ z. not_under (O.held (omega arith)); capped = λ z. absurd (omega arith); run = λ z. absurd (omega arith) })
+]
 
 -- a Prefix there ends a run: that of the Prefix just above it, or its own
-run_below : (xs : List Step) (u : Option Body) (n link first at o : ℕ) (p : List ℕ) → Topped xs u first at → Link xs link → Run (under n o p ∷ xs) (top_in u n first) (top_in u link at)
+run_below : (xs : List Step) (s : Spot) (o : ℕ) (p : List ℕ) → Topped xs (over_of s) s.first s.first_link → Link xs s.here.link → Run (under s.here.slot o p ∷ xs) (top_of s) (top_link_of s)
 unfolding plug plug1
-run_below xs None n link first at o p T l = record { run = under n o p ∷ []; up = xs; is = refl; only = tt; free = T.without refl; top = λ t. refl; link = l }
-run_below xs (Some u) n link first at o p T l =
-    let R = T.run u refl in
-    let x = under n o p in
-    record { run = x ∷ R.run; up = R.up; is = ap (λ ys. x ∷ ys) R.is; only = R.only; free = R.free; top = λ t. R.top (plug1 x t); link = R.link }
+run_below xs s o p T l = elim (ℕ_discrete (over_of s).slot 0) [
+  | yes e ↦ rw (eq-eqb (over_of s).slot 0 e) (record { run = under s.here.slot o p ∷ []; up = xs; is = refl; only = tt; free = T.without e; top = λ t. refl; link = l })
+  | no e ↦
+      let R = T.run (omega arith) in
+      let x = under s.here.slot o p in
+      rw (ne_eqb (over_of s).slot 0 e)
+      (record { run = x ∷ R.run; up = R.up; is = ap (λ ys. x ∷ ys) R.is; only = R.only; free = R.free; top = λ t. R.top (plug1 x t); link = R.link })
+]
 
 module _ (E : Edition) where
   pub way_end : {k : List ℕ} {l : Lay} {s : Spot} (W : Way E k l s) (e : End) (o : ℕ) (kind : Kind) (q : ℕ) → Way E k l (end_at s e o kind q)
@@ -160,12 +161,8 @@ module _ (E : Edition) where
                   link_is = link_under s.here.slot o p W.steps;
                   over = record {
                     free = λ y. tt;
-                    top = λ y. record {
-                      without = λ x. clash (cc);
-                      capped = λ u x. subst (Capped (under s.here.slot o p ∷ W.steps)) (some_same x) (record { bytes = p; up = W.steps; is = refl; link = W.link_is });
-                      run = λ u x. run_below W.steps (over_of s) s.here.slot s.here.link s.first s.first_link o p (over_top W.steps s.node s.byte s.above s.first s.first_link W.over) W.link_is;
-                    };
-                    held = λ m y. clash (cc);
+                    top = λ y. record { without = λ x. absurd (omega (arith, A.low)); capped = λ x. record { bytes = p; up = W.steps; is = refl; link = W.link_is }; run = λ x. run_below W.steps s o p (over_top W.steps s W.over) W.link_is };
+                    held = λ y. absurd (omega arith);
                   };
                 };
               };
@@ -231,17 +228,9 @@ module _ (E : Edition) where
                   slot_is = S.slot;
                   link_is = link_among sl o n S.before b S.place S.after W.steps at at2;
                   over = record {
-                    free = λ y. clash (cc);
-                    top = λ y. clash (cc);
-                    held = λ m y. subst (λ (m : Body). Holder (x ∷ W.steps) m b (over_of s) s.first s.first_link) (some_same y) (record {
-                      before = S.before;
-                      place = S.place;
-                      after = S.after;
-                      up = W.steps;
-                      is = refl;
-                      link = W.link_is;
-                      top = over_top W.steps s.node s.byte s.above s.first s.first_link W.over;
-                    });
+                    free = λ y. absurd (omega (arith, A.low));
+                    top = λ y. absurd (omega (arith, A.low));
+                    held = λ y. record { before = S.before; place = S.place; after = S.after; up = W.steps; is = refl; link = W.link_is; top = over_top W.steps s W.over };
                   };
                 };
               };

@@ -1,11 +1,11 @@
 -- Where a descent ends, and what stands there: read by look-up, put and erase.
-use Rattle.std.specs.Prelude.{ℕ, ◌+◌, ◌<◌, ◌≤◌, ◌≡◌, List, [], ◌∷◌, ◌++◌, length, drop, Option, None, Some}
+use Rattle.std.specs.Prelude.{ℕ, ◌+◌, ◌<◌, ◌≤◌, ◌≡◌, List, [], ◌∷◌, ◌++◌, length, drop, eqb}
 use Rattle.std.proofs.Math.Option.{none, some}
 use Rattle.layout.specs.Place.{prefix_child}
 use Rattle.layout.specs.Kind.{number_of}
 use Rattle.layout.specs.declared.kind.Kind.{Kind}
 use Rattle.layout.specs.declared.kind.Kind.TheVariants as kinds
-use Rattle.model.specs.Strings.{shared}
+use Rattle.model.specs.Strings.{pick, shared}
 use Rattle.model.specs.Edition.{Edition, Lawful, Legal, Value}
 use Rattle.model.specs.State.{State}
 use Rattle.model.specs.Body.{PrefixAt, look_kid}
@@ -22,11 +22,14 @@ use Rattle.descent.specs.declared.spot.Spot.{Spot}
 
 -- ---- the struct, field by field
 
+abbrev pub no_body : Body
+no_body = record { slot = 0; place = 0; kind = kinds.EmptyRoot; link = 0 }
+
 abbrev pub named : ℕ → ℕ → Body
 named s l = record { slot = s; place = 0; kind = kinds.EmptyRoot; link = l }
 
 abbrev pub start_at : ℕ → ℕ → Spot
-start_at s l = record { end = end.Going; here = named s l; depth = 0; shared = 0; visited = 0; node = None; byte = 0; above = None; first = 0; first_link = 0 }
+start_at s l = record { end = end.Going; here = named s l; depth = 0; shared = 0; visited = 0; node = no_body; byte = 0; above = no_body; first = 0; first_link = 0 }
 
 abbrev pub end_at : Spot → End → ℕ → Kind → ℕ → Spot
 end_at s e o kind q = record {
@@ -43,22 +46,14 @@ end_at s e o kind q = record {
 }
 
 -- the Prefix just above the body where s stands, and the top of the run of Prefixes that a Prefix there would end
-abbrev pub over_in : Option Body → Option Body → Option Body
-over_in None u = u
-over_in (Some n) u = None
-
-abbrev pub over_of : Spot → Option Body
-over_of s = over_in s.node s.above
-
-abbrev pub top_in : Option Body → ℕ → ℕ → ℕ
-top_in None own first = own
-top_in (Some u) own first = first
+abbrev pub over_of : Spot → Body
+over_of s = pick (eqb s.node.slot 0) s.above no_body
 
 abbrev pub top_of : Spot → ℕ
-top_of s = top_in (over_of s) s.here.slot s.first
+top_of s = pick (eqb (over_of s).slot 0) s.here.slot s.first
 
 abbrev pub top_link_of : Spot → ℕ
-top_link_of s = top_in (over_of s) s.here.link s.first_link
+top_link_of s = pick (eqb (over_of s).slot 0) s.here.link s.first_link
 
 abbrev pub below_prefix : Spot → ℕ → ℕ → ℕ → Spot
 below_prefix s o n c = record {
@@ -67,9 +62,9 @@ below_prefix s o n c = record {
   depth = s.depth + n;
   shared = 0;
   visited = s.visited + 1;
-  node = None;
+  node = no_body;
   byte = 0;
-  above = Some (record { slot = s.here.slot; place = o; kind = kinds.Prefix; link = s.here.link });
+  above = record { slot = s.here.slot; place = o; kind = kinds.Prefix; link = s.here.link };
   first = top_of s;
   first_link = top_link_of s;
 }
@@ -81,7 +76,7 @@ below_node s o kind b c l = record {
   depth = s.depth + 1;
   shared = 0;
   visited = s.visited + 1;
-  node = Some (record { slot = s.here.slot; place = o; kind = kind; link = s.here.link });
+  node = record { slot = s.here.slot; place = o; kind = kind; link = s.here.link };
   byte = b;
   above = over_of s;
   first = s.first;
@@ -112,14 +107,14 @@ pub record Run (xs : List Step) (first at : ℕ) : Type 0 where
   pub top : (t : Lay) → slot_of (plug run t) ≡ first
   pub link : Link up at
 
--- b is the Prefix just above, if there is one, and the last of a run
-pub record Topped (xs : List Step) (b : Option Body) (first at : ℕ) : Type 0 where
-  pub without : b ≡ None → NotUnder xs
-  pub capped : (u : Body) → b ≡ Some u → Capped xs u
-  pub run : (u : Body) → b ≡ Some u → Run xs first at
+-- b is the Prefix just above, of slot 0 if there is none, and the last of a run
+pub record Topped (xs : List Step) (b : Body) (first at : ℕ) : Type 0 where
+  pub without : b.slot ≡ 0 → NotUnder xs
+  pub capped : 1 ≤ b.slot → Capped xs b
+  pub run : 1 ≤ b.slot → Run xs first at
 
 -- the inner node n that holds the hole at byte b, and the Prefix u just above that
-pub record Holder (xs : List Step) (n : Body) (b : ℕ) (u : Option Body) (first at : ℕ) : Type 0 where
+pub record Holder (xs : List Step) (n : Body) (b : ℕ) (u : Body) (first at : ℕ) : Type 0 where
   pub before : LayKids
   pub place : ℕ
   pub after : LayKids
@@ -133,11 +128,11 @@ NotAmong [] = Unit {0}
 NotAmong (under s o p ∷ xs) = Unit {0}
 NotAmong (among s o kind ls b j rs ∷ xs) = ⊥
 
--- n holds the hole; if there is none, u is the Prefix just above the hole
-pub record Over (xs : List Step) (n : Option Body) (b : ℕ) (u : Option Body) (first at : ℕ) : Type 0 where
-  pub free : n ≡ None → NotAmong xs
-  pub top : n ≡ None → Topped xs u first at
-  pub held : (m : Body) → n ≡ Some m → Holder xs m b u first at
+-- n holds the hole; if its slot is 0, none does, and u is the Prefix just above the hole
+pub record Over (xs : List Step) (n : Body) (b : ℕ) (u : Body) (first at : ℕ) : Type 0 where
+  pub free : n.slot ≡ 0 → NotAmong xs
+  pub top : n.slot ≡ 0 → Topped xs u first at
+  pub held : 1 ≤ n.slot → Holder xs n b u first at
 
 -- ---- the ends, and the way to them
 

@@ -4,7 +4,6 @@ use mathlib.Core.Path.{◌≡◌, refl, sym, ap, subst, ◌∙◌}
 use mathlib.Core.List.{List}
 use mathlib.Core.Bool.{Bool, true, false}
 use mathlib.Core.Option.{Option, none, some}
-use Rattle.std.specs.Prelude.{None, Some}
 use native.Mathlib.Omega.{arith}
 use lib.ListN.{length, take, drop}
 use Rattle.layout.specs.Kind.{shrink_mark, number_of}
@@ -27,7 +26,6 @@ use Rattle.room.specs.Fit.{Fit, RoomOf}
 use Rattle.room.proofs.FitLaws.{fits_room}
 use Rattle.between.proofs.EraseLaws.{erase_is}
 use Rattle.descent.specs.declared.spot.End.TheVariants as end
-use Rattle.descent.specs.declared.spot.Body.{Body}
 use Rattle.descent.specs.declared.spot.Spot.{Spot}
 use Rattle.descent.specs.Lookup.{value_in}
 use Rattle.descent.specs.Spot.{SpotAt, InTree}
@@ -43,25 +41,25 @@ use Rattle.erase_core.specs.Core.{Asked, EraseMade}
 
 -- ---- what each edit counts on
 
-module _ {E : Edition} {f k : List ℕ} {p : Spot} {host : Body} (P : EraseAt E f k p host) where
-  inner_at : InnerAt f host.place (number_of host.kind) (pairs (kids P P.st P.stands))
+module _ {E : Edition} {f k : List ℕ} {p : Spot} (P : EraseAt E f k p) where
+  inner_at : InnerAt f p.node.place (number_of p.node.kind) (pairs (kids P P.st P.stands))
   inner_at = (N0 P P.st P.stands).inner
 
-  pub node_fits : (host.place + 2 ≤ length f) × ((number_of host.kind) < 9)
+  pub node_fits : (p.node.place + 2 ≤ length f) × ((number_of p.node.kind) < 9)
   node_fits = inner_fits (pairs (kids P P.st P.stands)) inner_at
 
   -- m: the children that are counted; g: the mark
-  module _ {m g : ℕ} (count : (kind : ℕ) (ks : List (ℕ × ℕ)) → InnerAt f host.place kind ks → m ≡ length ks) (mark : g ≡ shrink_mark (number_of host.kind)) where
-    count_is : counted f host ≡ m
-    count_is = inner_count (pairs (kids P P.st P.stands)) inner_at ∙ sym (count (number_of host.kind) _ inner_at)
+  module _ {m g : ℕ} (count : (kind : ℕ) (ks : List (ℕ × ℕ)) → InnerAt f p.node.place kind ks → m ≡ length ks) (mark : g ≡ shrink_mark (number_of p.node.kind)) where
+    count_is : counted f p ≡ m
+    count_is = inner_count (pairs (kids P P.st P.stands)) inner_at ∙ sym (count (number_of p.node.kind) _ inner_at)
 
-    pub at_keeps : (m ≡ g + 1 → ⊥) → Stays E f k p host
+    pub at_keeps : (m ≡ g + 1 → ⊥) → Stays E f k p
     at_keeps d = record { erase = P; more = λ z. d (omega (arith, count_is)) }
 
-    pub at_pair : m ≡ g + 1 → (number_of host.kind) ≡ 4 → Pair E f k p
-    at_pair d e = record { node = host; pair = record { at = P; kind = e; two = omega (arith, count_is, ap shrink_mark e) } }
+    pub at_pair : m ≡ g + 1 → (number_of p.node.kind) ≡ 4 → Pair E f k p
+    at_pair d e = record { at = P; kind = e; two = omega (arith, count_is, ap shrink_mark e) }
 
-    pub at_mark : m ≡ g + 1 → ((number_of host.kind) ≡ 4 → ⊥) → Falls E f k p host
+    pub at_mark : m ≡ g + 1 → ((number_of p.node.kind) ≡ 4 → ⊥) → Falls E f k p
     at_mark d e = let r = inner_at.range in record { erase = P; large = omega arith; mark = omega (arith, count_is) }
 
 -- ---- the erase
@@ -107,12 +105,12 @@ module _ {E : Edition} {f k : List ℕ} (A : Asked E f k) {p : Spot} (S : (s : S
     inside : {s : State} (w : Stands E f s) → InTree E k w.root p
     inside {s} w = (S s w).in_tree (λ z. let e = found in clash (cc))
 
-    pub only : p.node ≡ None → OnlyAt E f k
+    pub only : p.node.slot ≡ 0 → OnlyAt E f k
     only z = let I = inside A.stands in only_at A.lawful A.stands I.is I.spot.way (I.spot.found found) z
 
-    module _ {host : Body} (held : p.node ≡ Some host) where
-      pub from : EraseFrom E f k p host
-      from = record { lawful = A.lawful; st = A.st; stands = A.stands; spot = S A.st A.stands; found = found; held = held }
+    module _ (held : p.node.slot ≡ 0 → ⊥) where
+      pub from : EraseFrom E f k p
+      from = record { lawful = A.lawful; st = A.st; stands = A.stands; spot = S A.st A.stands; found = found; held = omega arith }
 
       module _ {n : Needs} (N : ErasePlan E f k p n) where
         erasing : (s : State) (w : Stands E f s) → Erasing E k (art (inside w).lay) n
@@ -146,7 +144,7 @@ module _ {E : Edition} {f k : List ℕ} (A : Asked E f k) {p : Spot} (S : (s : S
         pub no_room : b ≡ false → EraseMade E f k 6 f
         no_room e = unchanged E k 6 refl (λ s w. call_is s w e)
 
-        pub at_spot : 1 ≤ length k → b ≡ true → EraseAt E f k p host
+        pub at_spot : 1 ≤ length k → b ≡ true → EraseAt E f k p
         at_spot long e =
             let I = inside A.stands in
             record {
@@ -157,7 +155,7 @@ module _ {E : Edition} {f k : List ℕ} (A : Asked E f k) {p : Spot} (S : (s : S
               is = I.is;
               way = I.spot.way;
               found = I.spot.found found;
-              held = held;
+              held = omega arith;
               legal = A.legal;
               some = long;
               room = sym (room_any A.st A.stands) ∙ e;

@@ -7,7 +7,7 @@ ghost use Rattle.erase_remove.specs.Erase.{EraseAt, EraseStep};
 ghost use Rattle.erase_core.specs.Core.{Asked, EraseMade};
 
 use answers::{Erased, Refusal};
-use descent::spot::{Body, End, Spot};
+use descent::spot::{End, Spot};
 use descent::walk;
 use editions::Editioned;
 use erase_join::join;
@@ -17,19 +17,20 @@ use layout::kind::Kind;
 use room::{fit, left};
 
 // The edit that the Leaf's node calls for: it keeps its kind, or it falls to the mark of its kind, a Node4 to one child.
-fn apply(f: &mut [u8], key: &[u8], node: Body, spot: Spot)
-    requires { SomeEdition (λ E. EraseAt E f.old key.now spot node) }
-    ensures { (E : Edition) → EraseAt E f.old key.now spot node → EraseStep E f.old key.now f.new }
+fn apply(f: &mut [u8], key: &[u8], spot: Spot)
+    requires { SomeEdition (λ E. EraseAt E f.old key.now spot) }
+    ensures { (E : Edition) → EraseAt E f.old key.now spot → EraseStep E f.old key.now f.new }
 {
+    let node = spot.node;
     if look::count(f, node.place) != node.kind.shrink_mark() + 1 {
-        remove::remove_child(f, node, spot);
+        remove::remove_child(f, spot);
         return;
     }
     if node.kind == Kind::Node4 {
         join::join(f, key, spot);
         return;
     }
-    shrink::shrink(f, node, spot);
+    shrink::shrink(f, spot);
 }
 
 // The record of a legal key goes.
@@ -42,14 +43,14 @@ pub fn erase<E: Editioned>(f: &mut [u8], key: &[u8], edition: E) -> Result<Erase
         return Ok(Erased::Absent);
     }
     // the only record needs nothing
-    let Some(node) = spot.node else {
+    if spot.node.slot == 0 {
         only::erase_only(f);
         return Ok(Erased::Done);
-    };
-    let needs = plan::erase::erase_needs(f, key, node, spot);
+    }
+    let needs = plan::erase::erase_needs(f, key, spot);
     if !fit::fits(left::room_for(f, needs), needs) {
         return Err(Refusal::Room);
     }
-    apply(f, key, node, spot);
+    apply(f, key, spot);
     Ok(Erased::Done)
 }

@@ -2,8 +2,8 @@
 use Prim.Native.Nat.{ℕ, suc, ◌+◌, ◌-◌, ◌<◌}
 use mathlib.Core.Path.{◌≡◌, refl, sym, subst, ◌∙◌}
 use mathlib.Core.List.{List, [], ◌∷◌, ◌++◌}
-use Rattle.std.specs.Prelude.{Option, None, Some}
 use native.Mathlib.Omega.{arith}
+use native.Mathlib.Decide.{ℕ_discrete}
 use lib.ListN.{length, length-append}
 use Rattle.layout.specs.Kind.{leaf_kind, node4_kind}
 use Rattle.model.specs.Edition.{Edition}
@@ -27,11 +27,6 @@ use Rattle.erase_join.proofs.RunLaws.{rows, run_some}
 use Rattle.erase_join.proofs.UpLaws.{child_run, child_many, lone_change, run_change}
 use Rattle.erase_join.proofs.OverLaws.{opened_above, over_change, leaf_change}
 
--- there is no body, or one
-pub by_body : {A : Type 0} (b : Option Body) → (b ≡ None → A) → ((u : Body) → b ≡ Some u → A) → A
-by_body None a g = a refl
-by_body (Some u) a g = g u refl
-
 -- the erase of k leaves a tree and takes these bodies
 pub record Taking (E : Edition) (k : List ℕ) (a : Art) (takes : List ℕ) : Type 0 where
   pub left : Art
@@ -41,20 +36,21 @@ pub record Taking (E : Edition) (k : List ℕ) (a : Art) (takes : List ℕ) : Ty
 
 module _ {E : Edition} {f k : List ℕ} {s : State} (w : Stands E f s) {l : Lone} where
   -- a Leaf is left, and frees what stands above
-  pub leaf_taking : {xs : List Step} {b : Option Body} {first at : ℕ} → Topped xs b first at → (u : Lay) → IsLeaf u → (P : Site E k w.root xs l u) → Taking E k (art (plug xs (pair_of P))) []
+  pub leaf_taking : {xs : List Step} {b : Body} {first at : ℕ} → Topped xs b first at → (u : Lay) → IsLeaf u → (P : Site E k w.root xs l u) → Taking E k (art (plug xs (pair_of P))) []
   leaf_taking T (prefix n o p t) i P = absurd i
   leaf_taking T (node n o kind ks) i P = absurd i
-  leaf_taking {xs} {b} {first} T (leaf n o e k' v') i P = by_body b
-      (λ z. record { left = art (plug xs (leaf n o e k' v')); frees = node4_kind ∷ leaf_kind ∷ []; dead = extent_of k P.value; is = lone_change w P (T.without z) (leaf n o e k' v') [] (node4_kind ∷ leaf_kind ∷ []) refl })
-      (λ a z.
-      let R = T.run a z in
-      let u = leaf n o e k' v' in
-      subst (λ (zs : List Step). (Q : Site E k w.root zs l (leaf n o e k' v')) → Taking E k (art (plug zs (pair_of Q))) []) (sym R.is) (λ Q. record {
-        left = art (plug R.up u);
-        frees = prefixes (length (rows R.run)) ++ node4_kind ∷ leaf_kind ∷ [];
-        dead = extent_of k Q.value;
-        is = leaf_change w R.run R.up R.only R.free (run_some R.run first R.only R.top) Q refl;
-      }) P)
+  leaf_taking {xs} {b} {first} T (leaf n o e k' v') i P = elim (ℕ_discrete b.slot 0) [
+    | yes z ↦ record { left = art (plug xs (leaf n o e k' v')); frees = node4_kind ∷ leaf_kind ∷ []; dead = extent_of k P.value; is = lone_change w P (T.without z) (leaf n o e k' v') [] (node4_kind ∷ leaf_kind ∷ []) refl }
+    | no z ↦
+        let R = T.run (omega arith) in
+        let u = leaf n o e k' v' in
+        subst (λ (zs : List Step). (Q : Site E k w.root zs l (leaf n o e k' v')) → Taking E k (art (plug zs (pair_of Q))) []) (sym R.is) (λ Q. record {
+          left = art (plug R.up u);
+          frees = prefixes (length (rows R.run)) ++ node4_kind ∷ leaf_kind ∷ [];
+          dead = extent_of k Q.value;
+          is = leaf_change w R.run R.up R.only R.free (run_some R.run first R.only R.top) Q refl;
+        }) P
+  ]
 
   -- no Prefix above has room
   pub full_taking : {xs : List Step} → Full xs → (u : Lay) → NotLeaf u → (P : Site E k w.root xs l u) → Taking E k (art (plug xs (pair_of P))) (prefixes (lacks u))

@@ -4,7 +4,6 @@ use mathlib.Core.Path.{◌≡◌, refl, sym, ap, subst, ◌∙◌}
 use mathlib.Core.List.{List, [], ◌∷◌, ◌++◌}
 use mathlib.Core.Bool.{true}
 use mathlib.Core.Option.{Option, none, some}
-use Rattle.std.specs.Prelude.{None, Some}
 use native.Mathlib.Omega.{arith}
 use native.Mathlib.Decide.{ℕ_discrete}
 use lib.ListN.{length}
@@ -28,16 +27,13 @@ use Rattle.between.proofs.KidsLaws.{app_look, app_remove}
 use Rattle.between.proofs.WorkLaws.{forest_first}
 use Rattle.chain.specs.Row.{Entered}
 use Rattle.chain.proofs.ReadLaws.{entered_at}
-use Rattle.descent.specs.declared.spot.Body.{Body}
 use Rattle.descent.specs.declared.spot.Spot.{Spot}
-use Rattle.descent.proofs.StepLaws.{some_same}
 use Rattle.erase_remove.proofs.SpotLaws.{held, path, kids, left, gone, N0, left_none, count_is}
 use Rattle.erase_join.specs.declared.lone.Lone.{Lone}
-use Rattle.erase_join.specs.Erase.{PairIn, Pair}
+use Rattle.erase_join.specs.Erase.{Pair}
 use Rattle.between.specs.Lead.{NotUnder, NotLeaf}
 use Rattle.erase_join.specs.Lone.{IsLeaf, Told, Full, Site, Ready, Bare, UnderRun, Capped, Roomy, Couple, AtSpot, Above, HasRoom}
 use Rattle.erase_join.proofs.UpLaws.{child_stood}
-use Rattle.erase_join.proofs.NeedLaws.{by_body}
 use Rattle.erase_join.proofs.OverLaws.{opened_above}
 use Rattle.erase_join.proofs.SiteLaws.{beside, site_open}
 
@@ -126,17 +122,17 @@ one_kid nil n = absurd (omega arith)
 one_kid (kid b j u nil) n = record { byte = b; place = j; child = u; is = refl }
 one_kid (kid b j u (kid c i t ks)) n = absurd (omega arith)
 
-module _ {E : Edition} {f k : List ℕ} {p : Spot} {host : Body} (P : PairIn E f k p host) where
+module _ {E : Edition} {f k : List ℕ} {p : Spot} (P : Pair E f k p) where
   abbrev s : State
   s = P.at.st
 
   left_one : OneKid (left P.at s P.at.stands)
   left_one = one_kid (left P.at s P.at.stands) (omega (arith, count_is P.at s P.at.stands, P.two))
 
-  inner_four : InnerAt f host.place node4_kind (pairs (kids P.at s P.at.stands))
-  inner_four = subst (λ z. InnerAt f host.place z (pairs (kids P.at s P.at.stands))) P.kind (N0 P.at s P.at.stands).inner
+  inner_four : InnerAt f p.node.place node4_kind (pairs (kids P.at s P.at.stands))
+  inner_four = subst (λ z. InnerAt f p.node.place z (pairs (kids P.at s P.at.stands))) P.kind (N0 P.at s P.at.stands).inner
 
-  pub pair_couple : Couple f host.place p.byte
+  pub pair_couple : Couple f p.node.place p.byte
   pair_couple =
       let H = held P.at in
       let ks = pairs (kids P.at s P.at.stands) in
@@ -150,9 +146,9 @@ module _ {E : Edition} {f k : List ℕ} {p : Spot} {host : Body} (P : PairIn E f
 
   -- what is read
   abbrev lone_of : ℕ → ℕ → Lone
-  lone_of b c = record { node = host.slot; leaf = p.here.slot; at = p.here.place; byte = b; child = c }
+  lone_of b c = record { node = p.node.slot; leaf = p.here.slot; at = p.here.place; byte = b; child = c }
 
-  module _ {b c : ℕ} (O : Other f host.place p.byte b c) where
+  module _ {b c : ℕ} (O : Other f p.node.place p.byte b c) where
     one_pair : ◌≡◌ {A = List (ℕ × ℕ)} ((left_one.byte, slot_of left_one.child) ∷ []) ((b, c) ∷ [])
     unfolding pairs
     one_pair =
@@ -163,14 +159,14 @@ module _ {E : Edition} {f k : List ℕ} {p : Spot} {host : Body} (P : PairIn E f
     slot_is : slot_of left_one.child ≡ c
     slot_is = ap (λ x. child_in x 0) one_pair
 
-    whole_is : P.at.lay ≡ plug (held P.at).steps (node host.slot host.place node4_kind (kids P.at s P.at.stands))
-    whole_is = (held P.at).is ∙ ap (λ z. plug (held P.at).steps (node host.slot host.place z (kids P.at s P.at.stands))) P.kind
+    whole_is : P.at.lay ≡ plug (held P.at).steps (node p.node.slot p.node.place node4_kind (kids P.at s P.at.stands))
+    whole_is = (held P.at).is ∙ ap (λ z. plug (held P.at).steps (node p.node.slot p.node.place z (kids P.at s P.at.stands))) P.kind
 
     pair_site : Site E k P.at.stands.root (held P.at).steps (lone_of b c) left_one.child
     pair_site =
         let H = held P.at in
         record {
-          node_at = host.place;
+          node_at = p.node.place;
           before = H.before;
           byte = p.byte;
           place = H.place;
@@ -190,7 +186,7 @@ module _ {E : Edition} {f k : List ℕ} {p : Spot} {host : Body} (P : PairIn E f
     pub child_entry : Entered f c
     child_entry = entered_at (child_stood P.at.stands pair_site) slot_is
 
-    pub pair_read : AtSpot E f k p host (lone_of b c)
+    pub pair_read : AtSpot E f k p (lone_of b c)
     unfolding pair_site
     pair_read =
         let H = held P.at in
@@ -206,31 +202,27 @@ module _ {E : Edition} {f k : List ℕ} {p : Spot} {host : Body} (P : PairIn E f
           top = H.top;
         }
 
--- it is the node that the spot names
-pub pair_in : {E : Edition} {f k : List ℕ} {p : Spot} {host : Body} → p.node ≡ Some host → Pair E f k p → PairIn E f k p host
-pair_in {E} {f} {k} {p} e P = subst (PairIn E f k p) (some_same (sym P.pair.at.held ∙ e)) P.pair
-
 -- ---- the join that the child and the Prefix above ask for
 
-module _ {E : Edition} {f k : List ℕ} {p : Spot} {host : Body} {l : Lone} (A : AtSpot E f k p host l) where
-  abbrev capped_of : {Q : Lay → Type 0} → Q A.child → (u : Body) → p.above ≡ Some u → Capped E Q f k l u
-  capped_of i u e =
-      let C = A.top.capped u e in
+module _ {E : Edition} {f k : List ℕ} {p : Spot} {l : Lone} (A : AtSpot E f k p l) where
+  abbrev capped_of : {Q : Lay → Type 0} → Q A.child → (p.above.slot ≡ 0 → ⊥) → Capped E Q f k l p.above
+  capped_of i n =
+      let C = A.top.capped (omega arith) in
       record { bytes = C.bytes; up = C.up; child = A.child; is = i; ready = subst (λ (xs : List Step). Ready E f k xs l A.child) C.is A.ready; link_is = C.link }
 
-  above_at : {Q : Lay → Type 0} (u : Body) (C : Capped E Q f k l u) → PrefixAt f u.place C.bytes l.node
-  above_at u C = (opened_above C.ready.stands u C.bytes C.up C.ready.site).1
+  above_at : {Q : Lay → Type 0} (C : Capped E Q f k l p.above) → PrefixAt f p.above.place C.bytes l.node
+  above_at C = (opened_above C.ready.stands p.above C.bytes C.up C.ready.site).1
 
   pub above_of : Above f p.above
-  above_of u e = let P = above_at u (capped_of {Q = λ u. Unit {0}} tt u e) in (P.room, omega (arith, P.long, P.most))
+  above_of n = let P = above_at (capped_of {Q = λ u. Unit {0}} tt n) in (P.room, omega (arith, P.long, P.most))
 
   module _ (kind : high_of f l.child ≡ leaf_kind) where
-    pub leaf_bare : p.above ≡ None → Bare E NotUnder IsLeaf f k l host.link
+    pub leaf_bare : p.above.slot ≡ 0 → Bare E NotUnder IsLeaf f k l p.node.link
     leaf_bare e = record { steps = A.steps; child = A.child; is = A.is.as_leaf kind; ready = A.ready; free = A.top.without e; link_is = A.link_is }
 
-    pub leaf_under : (u : Body) → p.above ≡ Some u → UnderRun E f k l p.first p.first_link
-    leaf_under u e =
-        let R = A.top.run u e in
+    pub leaf_under : (p.above.slot ≡ 0 → ⊥) → UnderRun E f k l p.first p.first_link
+    leaf_under n =
+        let R = A.top.run (omega arith) in
         record {
           run = R.run;
           up = R.up;
@@ -251,16 +243,18 @@ module _ {E : Edition} {f k : List ℕ} {p : Spot} {host : Body} {l : Lone} (A :
 
     -- one that stands above has no room
     full_above : n ≡ 0 → Full A.steps
-    full_above z =
-        by_body p.above (λ e. none_full A.steps (A.top.without e))
-        (λ u e.
-        let C = capped_of {Q = NotLeaf} (A.is.other kind) u e in
-        let P = above_at u C in
-        subst Full (sym (A.top.capped u e).is) (omega (arith, H.some u e, P.long, P.most)))
+    full_above z = elim (ℕ_discrete p.above.slot 0) [
+      | yes e ↦ none_full A.steps (A.top.without e)
+      | no d ↦
+          let C = capped_of {Q = NotLeaf} (A.is.other kind) d in
+          let P = above_at C in
+          subst Full (sym (A.top.capped (omega arith)).is) (omega (arith, H.some d, P.long, P.most))
+    ]
 
-    pub other_bare : n ≡ 0 → Bare E Full NotLeaf f k l host.link
+    pub other_bare : n ≡ 0 → Bare E Full NotLeaf f k l p.node.link
     other_bare z = record { steps = A.steps; child = A.child; is = A.is.other kind; ready = A.ready; free = full_above z; link_is = A.link_is }
 
-    pub other_roomy : (n ≡ 0 → ⊥) → (u : Body) → p.above ≡ Some u → Roomy E f k l u
-    other_roomy z u e =
-        record { capped = capped_of (A.is.other kind) u e; room = omega (arith, H.some u e) }
+    pub other_roomy : (n ≡ 0 → ⊥) → Roomy E f k l p.above
+    other_roomy z =
+        let d : p.above.slot ≡ 0 → ⊥ = λ e. z (H.none e) in
+        record { capped = capped_of (A.is.other kind) d; room = omega (arith, H.some d) }

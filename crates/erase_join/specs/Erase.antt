@@ -2,17 +2,11 @@
 use Rattle.std.specs.Prelude.{ℕ, ◌≡◌, List}
 use Rattle.layout.specs.Kind.{number_of, node4_kind}
 use Rattle.model.specs.Edition.{Edition}
-use Rattle.descent.specs.declared.spot.Body.{Body}
 use Rattle.descent.specs.declared.spot.Spot.{Spot}
 use Rattle.erase_remove.specs.Erase.{EraseAt, counted}
 
--- the Leaf of key k at the spot stands in the Node4 n of two
-pub record PairIn (E : Edition) (f k : List ℕ) (p : Spot) (n : Body) : Type 0 where
-  pub at : EraseAt E f k p n
-  pub kind : number_of n.kind ≡ node4_kind
-  pub two : counted f n ≡ 2
-
 -- the Leaf of key k at the spot stands in a Node4 of two
 pub record Pair (E : Edition) (f k : List ℕ) (p : Spot) : Type 0 where
-  pub node : Body
-  pub pair : PairIn E f k p node
+  pub at : EraseAt E f k p
+  pub kind : number_of p.node.kind ≡ node4_kind
+  pub two : counted f p ≡ 2

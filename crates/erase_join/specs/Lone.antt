@@ -1,5 +1,5 @@
 -- A Node4 of two children, one of them the key's Leaf: the site of a join.
-use Rattle.std.specs.Prelude.{ℕ, ◌+◌, ◌-◌, ◌<◌, ◌≤◌, ◌≡◌, List, [], ◌∷◌, ◌++◌, Option, None, Some, true, false, length}
+use Rattle.std.specs.Prelude.{ℕ, ◌+◌, ◌-◌, ◌<◌, ◌≤◌, ◌≡◌, List, [], ◌∷◌, ◌++◌, true, false, length}
 use Rattle.std.proofs.Math.Option.{some}
 use Rattle.layout.specs.Number.{le}
 use Rattle.layout.specs.Place.{prefix_length, prefix_most}
@@ -116,20 +116,20 @@ pub record Couple (f : List ℕ) (o b : ℕ) : Type 0 where
   pub child : ℕ
   pub has : look_kid b kids ≡ some child
 
--- l was read at the spot p, in the node n
-pub record AtSpot (E : Edition) (f k : List ℕ) (p : Spot) (n : Body) (l : Lone) : Type 0 where
+-- l was read at the spot p
+pub record AtSpot (E : Edition) (f k : List ℕ) (p : Spot) (l : Lone) : Type 0 where
   pub steps : List Step
   pub child : Lay
   pub entered : Entered f l.child
   pub is : Told (high_of f l.child) child
   pub ready : Ready E f k steps l child
-  pub link_is : Link steps n.link
+  pub link_is : Link steps p.node.link
   pub top : Topped steps p.above p.first p.first_link
 
 -- the Prefix b, if there is one, and how many bytes more it has room for
-abbrev pub Above : List ℕ → Option Body → Type 0
-Above f b = (u : Body) → b ≡ Some u → (u.place + 128 ≤ length f) × (le 2 f (u.place + prefix_length) ≤ prefix_most)
+abbrev pub Above : List ℕ → Body → Type 0
+Above f b = (b.slot ≡ 0 → ⊥) → (b.place + 128 ≤ length f) × (le 2 f (b.place + prefix_length) ≤ prefix_most)
 
-pub record HasRoom (f : List ℕ) (b : Option Body) (n : ℕ) : Type 0 where
-  pub none : b ≡ None → n ≡ 0
-  pub some : (u : Body) → b ≡ Some u → n ≡ prefix_most - le 2 f (u.place + prefix_length)
+pub record HasRoom (f : List ℕ) (b : Body) (n : ℕ) : Type 0 where
+  pub none : b.slot ≡ 0 → n ≡ 0
+  pub some : (b.slot ≡ 0 → ⊥) → n ≡ prefix_most - le 2 f (b.place + prefix_length)

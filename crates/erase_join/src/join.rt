@@ -5,7 +5,7 @@ ghost use Rattle.model.specs.Edition.{Edition, SomeEdition};
 ghost use Rattle.model.specs.Body.{InnerAt};
 ghost use Rattle.node.specs.Kids.{remove_kid};
 ghost use Rattle.erase_remove.specs.Erase.{EraseStep};
-ghost use Rattle.erase_join.specs.Erase.{PairIn, Pair};
+ghost use Rattle.erase_join.specs.Erase.{Pair};
 ghost use Rattle.erase_join.specs.Lone.{Couple, AtSpot, Above, HasRoom};
 
 use crate::lone;
@@ -30,10 +30,11 @@ pub fn other_child(f: &[u8], o: usize, b: u8) -> Child
 }
 
 // What the join has to know of the spot.
-fn read(f: &[u8], key: &[u8], node: Body, spot: Spot) -> Lone
-    requires { SomeEdition (λ E. PairIn E f.now key.now spot node) }
-    ensures { (E : Edition) → PairIn E f.now key.now spot node → AtSpot E f.now key.now spot node result }
+fn read(f: &[u8], key: &[u8], spot: Spot) -> Lone
+    requires { SomeEdition (λ E. Pair E f.now key.now spot) }
+    ensures { (E : Edition) → Pair E f.now key.now spot → AtSpot E f.now key.now spot result }
 {
+    let node = spot.node;
     let here = spot.here;
     let other = other_child(f, node.place, spot.byte);
     Lone {
@@ -46,13 +47,13 @@ fn read(f: &[u8], key: &[u8], node: Body, spot: Spot) -> Lone
 }
 
 // How many bytes more the Prefix above has room for; none if there is none.
-pub fn spare(f: &[u8], above: Option<Body>) -> usize
+pub fn spare(f: &[u8], above: Body) -> usize
     requires { Above f.now above }
     ensures { HasRoom f.now above result }
 {
-    let Some(above) = above else {
+    if above.slot == 0 {
         return 0;
-    };
+    }
     Prefix::MOST - Prefix::length(f, above.place)
 }
 
@@ -61,26 +62,21 @@ pub fn join(f: &mut [u8], key: &[u8], spot: Spot)
     requires { SomeEdition (λ E. Pair E f.old key.now spot) }
     ensures { (E : Edition) → Pair E f.old key.now spot → EraseStep E f.old key.now f.new }
 {
-    // one holds the Leaf
-    let Some(node) = spot.node else {
-        unreachable!()
-    };
-    let l = read(f, key, node, spot);
+    let l = read(f, key, spot);
+    let node = spot.node;
+    let above = spot.above;
     let child = Entry::read(f, l.child);
     if child.kind() != Kind::Leaf {
-        if spare(f, spot.above) == 0 {
+        if spare(f, above) == 0 {
             lone::up(f, key, l, node.link);
             return;
         }
-        // what has room is there
-        let Some(above) = spot.above else {
-            unreachable!()
-        };
         lone::over(f, key, l, above);
         return;
     }
-    match spot.above {
-        None => lone::leaf_up(f, key, l, node.link),
-        Some(_) => lone::leaf_over(f, key, l, spot.first, spot.first_link),
+    if above.slot == 0 {
+        lone::leaf_up(f, key, l, node.link);
+        return;
     }
+    lone::leaf_over(f, key, l, spot.first, spot.first_link);
 }

@@ -3,7 +3,6 @@ use Prim.Native.Nat.{ℕ, ◌≤◌}
 use mathlib.Core.Path.{◌≡◌, refl, sym, ap, subst, ◌∙◌}
 use mathlib.Core.List.{List, [], ◌∷◌}
 use mathlib.Core.Option.{some}
-use Rattle.std.specs.Prelude.{None}
 use native.Mathlib.Omega.{arith}
 use borrow.Author.Tests.{eq-eqb}
 use lib.ListN.{length}
@@ -90,7 +89,7 @@ steps_none [] a u = refl
 steps_none (under s o p ∷ xs) a u = absurd u
 steps_none (among s o kind ls b j rs ∷ xs) a u = absurd a
 
-pub only_at : {E : Edition} {f k : List ℕ} {p : Spot} {st : State} {lay : Lay} → Lawful E → (w : Stands E f st) → w.root ≡ tree lay → (W : Way E k lay p) → ThisKey k p W.steps W.sub → p.node ≡ None → OnlyAt E f k
+pub only_at : {E : Edition} {f k : List ℕ} {p : Spot} {st : State} {lay : Lay} → Lawful E → (w : Stands E f st) → w.root ≡ tree lay → (W : Way E k lay p) → ThisKey k p W.steps W.sub → p.node.slot ≡ 0 → OnlyAt E f k
 only_at {p = p} {st = st} law w er W F z =
     record {
       lawful = law;

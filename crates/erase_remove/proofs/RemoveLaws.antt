@@ -35,7 +35,6 @@ use Rattle.between.proofs.EraseLaws.{less_stays, lost_stays}
 use Rattle.between.proofs.BookedLaws.{booked_row}
 use Rattle.between.proofs.SinceLaws.{since_start, since_also, since_write}
 use Rattle.between.proofs.OutsideLaws.{among_here, among_there}
-use Rattle.descent.specs.declared.spot.Body.{Body}
 use Rattle.descent.specs.declared.spot.Spot.{Spot}
 use Rattle.erase_remove.specs.Leaf.{Drops, Dropped}
 use Rattle.erase_remove.specs.Erase.{Stays}
@@ -48,15 +47,15 @@ pub booked_none : (h : View) → length h.lists ≡ 8 → Booked h h [] [] 0 0 h
 unfolding taken_all
 booked_none h e = booked_row h [] nil e
 
-module _ {E : Edition} {f k : List ℕ} {p : Spot} {host : Body} (P : Stays E f k p host) (s : State) (w : Stands E f s) where
+module _ {E : Edition} {f k : List ℕ} {p : Spot} (P : Stays E f k p) (s : State) (w : Stands E f s) where
   abbrev n : ℕ
-  n = host.slot
+  n = p.node.slot
 
   abbrev o : ℕ
-  o = host.place
+  o = p.node.place
 
   abbrev kind : ℕ
-  kind = number_of host.kind
+  kind = number_of p.node.kind
 
   abbrev rest : LayKids
   rest = left P.erase s w

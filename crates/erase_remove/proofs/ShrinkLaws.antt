@@ -53,7 +53,6 @@ use Rattle.between.proofs.BookedLaws.{room_of, booked_row, booked_root, booked_f
 use Rattle.between.proofs.SinceLaws.{since_start, since_take, since_write, since_also, since_link, since_free}
 use Rattle.between.proofs.OutsideLaws.{among_here, among_there, slots_later, slots_app, holder_slots, holder_sum, next_above, among_not}
 use Rattle.between.proofs.StayLaws.{carried_marks}
-use Rattle.descent.specs.declared.spot.Body.{Body}
 use Rattle.descent.specs.declared.spot.Spot.{Spot}
 use Rattle.erase_remove.specs.Leaf.{Drops, Dropped}
 use Rattle.erase_remove.specs.Erase.{Falls}
@@ -84,18 +83,18 @@ one_row h k K e = booked_row h (k ∷ []) (book.cons K book.nil) e
 
 -- ---- the edit
 
-pub large : {E : Edition} {f k : List ℕ} {p : Spot} {host : Body} (P : Falls E f k p host) → (5 ≤ number_of host.kind) × (number_of host.kind ≤ 7)
+pub large : {E : Edition} {f k : List ℕ} {p : Spot} (P : Falls E f k p) → (5 ≤ number_of p.node.kind) × (number_of p.node.kind ≤ 7)
 large P = (P.large, (N0 P.erase P.erase.st P.erase.stands).inner.range.1)
 
-module _ {E : Edition} {f k : List ℕ} {p : Spot} {host : Body} (P : Falls E f k p host) (s : State) (w : Stands E f s) {kd : ℕ} (ekd : kd ≡ kind_down (number_of host.kind)) where
+module _ {E : Edition} {f k : List ℕ} {p : Spot} (P : Falls E f k p) (s : State) (w : Stands E f s) {kd : ℕ} (ekd : kd ≡ kind_down (number_of p.node.kind)) where
   abbrev n : ℕ
-  n = host.slot
+  n = p.node.slot
 
   abbrev o : ℕ
-  o = host.place
+  o = p.node.place
 
   abbrev kind : ℕ
-  kind = number_of host.kind
+  kind = number_of p.node.kind
 
   abbrev ys : List Step
   ys = xs P.erase s w
@@ -259,14 +258,14 @@ module _ {E : Edition} {f k : List ℕ} {p : Spot} {host : Body} (P : Falls E f 
               (work_kids way us (body m kd q1 ∷ body n kind o ∷ []) ks1 W4 (carried_trees E f4 way kd rest F.0) F.1 (λ v. omega (arith, kids_sum v way rest us, carried_sum v kd rest)))
               (carried_node rest C4 I3 marks.0 marks.1)
 
-          pub shrink_links : (64 ≤ length f4) × (host.link + 4 ≤ length f4)
+          pub shrink_links : (64 ≤ length f4) × (p.node.link + 4 ≤ length f4)
           shrink_links =
               let l = W4.heap.header.limits in
               let z : 1024 ≤ length f4 = omega (arith, W4.heap.header.size) in
-              (omega arith, link_room E f4 ys host.link n (held P.erase).link W4.around z)
+              (omega arith, link_room E f4 ys p.node.link n (held P.erase).link W4.around z)
 
           -- relink
-          module _ {f5 : List ℕ} (G : (host.link ≡ at_root → f5 ≡ put 2 f4 at_root m) × ((host.link ≡ at_root → ⊥) → f5 ≡ put 4 f4 host.link m)) where
+          module _ {f5 : List ℕ} (G : (p.node.link ≡ at_root → f5 ≡ put 2 f4 at_root m) × ((p.node.link ≡ at_root → ⊥) → f5 ≡ put 4 f4 p.node.link m)) where
             abbrev h5 : View
             h5 = rooted h1 (root_of ys m)
 
@@ -274,7 +273,7 @@ module _ {E : Edition} {f k : List ℕ} {p : Spot} {host : Body} (P : Falls E f 
             T1 = plug ys new
 
             W5 : Work E f5 h5 [] (slot_of T1) (([], T1) ∷ us) (body n kind o ∷ [])
-            W5 = work_close ys new us (relinked m shrink_entry.0 shrink_entry.2 host.link ys (held P.erase).link W4' G) refl (is_node ys m q1 kd ks1)
+            W5 = work_close ys new us (relinked m shrink_entry.0 shrink_entry.2 p.node.link ys (held P.erase).link W4' G) refl (is_node ys m q1 kd ks1)
 
             abbrev rest5 : List Item
             rest5 = [] ++ (steps_items [] ++ forest_items (([], T1) ∷ us))
@@ -378,7 +377,7 @@ module _ {E : Edition} {f k : List ℕ} {p : Spot} {host : Body} (P : Falls E f 
                     let Z2 = since_write D.only (λ a x u. omega (arith, sum_cons (cover a) (body n kind o) [], cover_body a n kind o x u)) (since_also (body n kind o ∷ []) Z1) in
                     let Z3 = since_write O3 (λ a x u. omega (arith, sum_cons (cover a) B1 [], cover_body a m kd q1 x u)) Z2 in
                     let Z4 = since_write C4.only (λ a x u. omega (arith, sum_cons (cover a) B1 [], cover_body a m kd q1 x u)) Z3 in
-                    let Z5 = since_link m host.link ys (held P.erase).link W4' G Z4 in
+                    let Z5 = since_link m p.node.link ys (held P.erase).link W4' G Z4 in
                     let Z6 = since_free kind_kind W5.heap (first_owns W5) Z5 F6 in
                     erase_done_lem w ys t er L change new v erased el (λ p h. tt) (node_found P.erase s w) (fits_is w ys t er L change new v erased el (λ p h. tt) (fits P.erase s w)) P.erase.lawful tt
                     X.work refl bytes books fewer (was_is P.erase s w) (X.since f h0 (B1 ∷ []) rs (body n kind o ∷ []) [] Z6)

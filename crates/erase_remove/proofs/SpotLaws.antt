@@ -25,7 +25,6 @@ use Rattle.model.proofs.UniqueLaws.{root_unique, stands_unique}
 use Rattle.model.proofs.MarkLaws.{leaf_marks, kid_marks}
 use Rattle.inner.specs.Inner.{NodeHas}
 use Rattle.inner.proofs.InnerLaws.{inner_asc, inner_count}
-use Rattle.descent.specs.declared.spot.Body.{Body}
 use Rattle.descent.specs.declared.spot.Spot.{Spot}
 use Rattle.descent.specs.Spot.{Topped}
 use Rattle.between.specs.Hole.{app, Step, among, plug, step_path, path_of, steps_items, Link, app_kids}
@@ -67,7 +66,7 @@ unfolding path_of step_path Foremost
 leads_up s o kind ls b j rs xs r L = record { word = L.word ∙ append_assoc (path_of xs) (b ∷ []) r; first = L.first.1 }
 
 -- the Leaf of key k at the spot p of the tree `whole` is held at the spot's byte by the spot's node, of other children `before` and `after`
-pub record Held (E : Edition) (k : List ℕ) (p : Spot) (host : Body) (whole : Lay) : Type 0 where
+pub record Held (E : Edition) (k : List ℕ) (p : Spot) (whole : Lay) : Type 0 where
   pub steps : List Step
   pub before : LayKids
   pub place : ℕ
@@ -76,14 +75,14 @@ pub record Held (E : Edition) (k : List ℕ) (p : Spot) (host : Body) (whole : L
   pub value : Value
   pub rest : List ℕ
   pub leads : Leads E k steps (p.byte ∷ rest)
-  pub link : Link steps host.link
+  pub link : Link steps p.node.link
   pub top : Topped steps p.above p.first p.first_link
-  pub is : whole ≡ plug steps (node host.slot host.place (number_of host.kind) (app before (kid p.byte place (leaf p.here.slot p.here.place extent k value) after)))
+  pub is : whole ≡ plug steps (node p.node.slot p.node.place (number_of p.node.kind) (app before (kid p.byte place (leaf p.here.slot p.here.place extent k value) after)))
 
-pub held : {E : Edition} {f k : List ℕ} {p : Spot} {host : Body} (P : EraseAt E f k p host) → Held E k p host P.lay
-held {E} {f} {k} {p} {host} P =
-    let H = P.way.over.held host P.held in
-    let n = host in
+pub held : {E : Edition} {f k : List ℕ} {p : Spot} (P : EraseAt E f k p) → Held E k p P.lay
+held {E} {f} {k} {p} P =
+    let H = P.way.over.held P.held in
+    let n = p.node in
     let F = P.found in
     let t = leaf p.here.slot p.here.place F.extent k F.value in
     record {
@@ -103,7 +102,7 @@ held {E} {f} {k} {p} {host} P =
 
 -- ---- the node in the good frame, seen through any witness of it
 
-module _ {E : Edition} {f k : List ℕ} {p : Spot} {host : Body} (P : EraseAt E f k p host) (s : State) (w : Stands E f s) where
+module _ {E : Edition} {f k : List ℕ} {p : Spot} (P : EraseAt E f k p) (s : State) (w : Stands E f s) where
   abbrev pub xs : List Step
   xs = (held P).steps
 
@@ -121,7 +120,7 @@ module _ {E : Edition} {f k : List ℕ} {p : Spot} {host : Body} (P : EraseAt E 
   left = app (held P).before (held P).after
 
   abbrev pub holder : Lay
-  holder = node host.slot host.place (number_of host.kind) kids
+  holder = node p.node.slot p.node.place (number_of p.node.kind) kids
 
   pub root_is : w.root ≡ tree (plug xs holder)
   root_is = root_unique E f s P.st w P.stands ∙ P.is ∙ ap tree (held P).is
@@ -131,11 +130,11 @@ module _ {E : Edition} {f k : List ℕ} {p : Spot} {host : Body} (P : EraseAt E 
       subst (λ (l : Lay). room s (erase_change E (art l) k) ≡ true) (held P).is
       (subst (λ (t : State). room t (erase_change E (art P.lay) k) ≡ true) (sym (stands_unique E f s P.st w P.stands)) P.room)
 
-  abbrev pub W0 : Work E f (stands_view w) xs host.slot ((path, holder) ∷ []) []
+  abbrev pub W0 : Work E f (stands_view w) xs p.node.slot ((path, holder) ∷ []) []
   W0 = (work_open xs holder [] (work_of w (plug xs holder) root_is) refl).0
 
-  abbrev pub N0 : NodeOf f host.place (number_of host.kind) kids
-  N0 = (open_node path [] [] host.slot host.place (number_of host.kind) kids W0).1
+  abbrev pub N0 : NodeOf f p.node.place (number_of p.node.kind) kids
+  N0 = (open_node path [] [] p.node.slot p.node.place (number_of p.node.kind) kids W0).1
 
   pub left_none : has_byte p.byte (held P).before ≡ false
   left_none = app_left p.byte (held P).place gone 0 (held P).before (held P).after (inner_asc (pairs kids) N0.inner)
@@ -144,7 +143,7 @@ module _ {E : Edition} {f k : List ℕ} {p : Spot} {host : Body} (P : EraseAt E 
   kids_length = remove_len p.byte (held P).place gone (held P).before (held P).after
 
   -- what the count says
-  pub count_is : counted f host ≡ length (pairs left) + 1
+  pub count_is : counted f p ≡ length (pairs left) + 1
   count_is = inner_count (pairs kids) N0.inner ∙ kids_length
 
   pub records_some : 1 ≤ w.nums.R
@@ -154,7 +153,7 @@ module _ {E : Edition} {f k : List ℕ} {p : Spot} {host : Body} (P : EraseAt E 
         w.counted,
         stands_sum w (plug xs holder) root_is leafy,
         plug_sum leafy xs holder,
-        node_sum leafy host.slot host.place (number_of host.kind) kids,
+        node_sum leafy p.node.slot p.node.place (number_of p.node.kind) kids,
         remove_sum leafy (held P).before (held P).after p.byte (held P).place gone,
         leafy_leaf p.here.slot p.here.place (held P).extent k (held P).value,
       )
@@ -170,8 +169,8 @@ module _ {E : Edition} {f k : List ℕ} {p : Spot} {host : Body} (P : EraseAt E 
   pub bare_count : count bare ≡ length (pairs left)
   bare_count = ap count (sym left_art) ∙ sym (length_pairs left)
 
-  art_is : art holder ≡ Art.node (number_of host.kind) (app_kids (art_kids (held P).before) (Kids.kid p.byte (held P).place (Art.leaf k (held P).value) (art_kids (held P).after)))
-  art_is = ap (Art.node (number_of host.kind)) (art_app (held P).before (kid p.byte (held P).place gone (held P).after))
+  art_is : art holder ≡ Art.node (number_of p.node.kind) (app_kids (art_kids (held P).before) (Kids.kid p.byte (held P).place (Art.leaf k (held P).value) (art_kids (held P).after)))
+  art_is = ap (Art.node (number_of p.node.kind)) (art_app (held P).before (kid p.byte (held P).place gone (held P).after))
 
   pub node_found : find_tree E (art holder) (length path) k ≡ some (held P).value
   node_found =
@@ -181,25 +180,25 @@ module _ {E : Edition} {f k : List ℕ} {p : Spot} {host : Body} (P : EraseAt E 
 
   -- the node after its Leaf went
   pub node_erased : erase_tree E (art holder) (length path) k
-      ≡ less_one (number_of host.kind) bare (record { now = Left.gone; takes = []; frees = leaf_kind ∷ []; extent = 0; dead = extent_of k (held P).value; fresh = false })
+      ≡ less_one (number_of p.node.kind) bare (record { now = Left.gone; takes = []; frees = leaf_kind ∷ []; extent = 0; dead = extent_of k (held P).value; fresh = false })
   node_erased =
       ap (λ a. erase_tree E a (length path) k) art_is
-      ∙ node_erase E k (length path) p.byte (held P).place (leads_byte (held P).leads) (number_of host.kind) k (held P).value (held P).before (held P).after (same_refl k) left_none
+      ∙ node_erase E k (length path) p.byte (held P).place (leads_byte (held P).leads) (number_of p.node.kind) k (held P).value (held P).before (held P).after (same_refl k) left_none
 
-  pub node_touched : touch_erase E holder (above_of xs) (length path) k ≡ touch_lost (above_of xs) host.slot (number_of host.kind) p.here.slot left
+  pub node_touched : touch_erase E holder (above_of xs) (length path) k ≡ touch_lost (above_of xs) p.node.slot (number_of p.node.kind) p.here.slot left
   node_touched =
-      node_touch E k (length path) p.byte (held P).place p.here.slot p.here.place (held P).extent k (held P).value (held P).before (held P).after (above_of xs) host.slot host.place (number_of host.kind)
+      node_touch E k (length path) p.byte (held P).place p.here.slot p.here.place (held P).extent k (held P).value (held P).before (held P).after (above_of xs) p.node.slot p.node.place (number_of p.node.kind)
       (leads_byte (held P).leads) left_none
 
   -- the items of the tree
   pub items_are : (v : Item → ℕ) → sum v (root_items w.root)
-      ≡ sum v (steps_items xs) + (v (body host.slot (number_of host.kind) host.place) + ((v (body p.here.slot leaf_kind p.here.place) + v (extent (held P).extent (extent_of k (held P).value))) + sum v (items_all left)))
+      ≡ sum v (steps_items xs) + (v (body p.node.slot (number_of p.node.kind) p.node.place) + ((v (body p.here.slot leaf_kind p.here.place) + v (extent (held P).extent (extent_of k (held P).value))) + sum v (items_all left)))
   items_are v =
       omega (
         arith,
         stands_sum w (plug xs holder) root_is v,
         plug_sum v xs holder,
-        node_sum v host.slot host.place (number_of host.kind) kids,
+        node_sum v p.node.slot p.node.place (number_of p.node.kind) kids,
         remove_sum v (held P).before (held P).after p.byte (held P).place gone,
         leaf_sum v p.here.slot p.here.place (held P).extent k (held P).value,
       )
@@ -220,13 +219,13 @@ module _ {E : Edition} {f k : List ℕ} {p : Spot} {host : Body} (P : EraseAt E 
       )
 
   -- the node has the byte, also in a frame on the way
-  pub has_byte_lem : {g : List ℕ} {h : View} {loose : List Item} → Work E g h xs host.slot ((path, holder) ∷ []) loose → NodeHas g host.place (number_of host.kind) p.byte
+  pub has_byte_lem : {g : List ℕ} {h : View} {loose : List Item} → Work E g h xs p.node.slot ((path, holder) ∷ []) loose → NodeHas g p.node.place (number_of p.node.kind) p.byte
   has_byte_lem {loose = loose} W =
-      let N = (open_node path [] loose host.slot host.place (number_of host.kind) kids W).1 in
+      let N = (open_node path [] loose p.node.slot p.node.place (number_of p.node.kind) kids W).1 in
       record { kids = pairs kids; node = N.inner; child = p.here.slot; has = app_look p.byte (held P).place gone 0 (held P).before (held P).after (inner_asc (pairs kids) N.inner) }
 
 -- where the key's extent stands at entry
-pub was_is : {E : Edition} {f k : List ℕ} {p : Spot} {host : Body} (P : EraseAt E f k p host) (s : State) (w : Stands E f s) → extent_at (length k) (find_at E w.root k) ≡ extent (held P).extent (extent_of k (held P).value) ∷ []
+pub was_is : {E : Edition} {f k : List ℕ} {p : Spot} (P : EraseAt E f k p) (s : State) (w : Stands E f s) → extent_at (length k) (find_at E w.root k) ≡ extent (held P).extent (extent_of k (held P).value) ∷ []
 unfolding held
 was_is {E} {f} {k} {p} P s w =
     plug_extent P.way.leads w.root p.here.slot p.here.place P.found.extent P.found.value

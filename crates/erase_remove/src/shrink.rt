@@ -5,16 +5,17 @@ ghost use Rattle.descent.specs.Spot.{SomeDescent};
 ghost use Rattle.erase_remove.specs.Erase.{Falls, EraseStep};
 
 use crate::leaf;
-use descent::spot::{Body, Spot};
+use descent::spot::Spot;
 use inner::{carry, change};
 use layout::entry::Entry;
 use room::heap;
 
 // A smaller body is taken and gets the children that stay; the old body and the Leaf go.
-pub fn shrink(f: &mut [u8], node: Body, spot: Spot)
-    requires { SomeDescent (λ E k. Falls E f.old k spot node) }
-    ensures { (E : Edition) (k : List ℕ) → Falls E f.old k spot node → EraseStep E f.old k f.new }
+pub fn shrink(f: &mut [u8], spot: Spot)
+    requires { SomeDescent (λ E k. Falls E f.old k spot) }
+    ensures { (E : Edition) (k : List ℕ) → Falls E f.old k spot → EraseStep E f.old k f.new }
 {
+    let node = spot.node;
     let here = spot.here;
     // a Node4, which has no kind below, is joined
     let Some(smaller) = node.kind.down() else {

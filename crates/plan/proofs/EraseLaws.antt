@@ -3,8 +3,8 @@ use Prim.Native.Nat.{ℕ, suc, ◌+◌, ◌-◌, ◌%◌, ◌≤◌}
 use mathlib.Core.Path.{◌≡◌, refl, sym, ap, subst, ◌∙◌}
 use mathlib.Core.List.{List, [], ◌∷◌, ◌++◌, append_assoc}
 use mathlib.Core.Bool.{false}
-use Rattle.std.specs.Prelude.{Some}
 use native.Mathlib.Omega.{arith}
+use native.Mathlib.Decide.{ℕ_discrete}
 use lib.ListN.{length}
 use Rattle.layout.specs.Kind.{number_of, leaf_kind, prefix_kind, node4_kind, fewest, shrink_mark, kind_down, Inner}
 use Rattle.layout.specs.Kind.Inner.{node4, node16, node48, node256}
@@ -36,7 +36,6 @@ use Rattle.between.proofs.WorkLaws.{stands_tree, stands_view}
 use Rattle.between.proofs.LeadLaws.{HangsIn, hangs_in, hangs_over, leads_byte, leads_of}
 use Rattle.between.proofs.EraseLaws.{with_now, node_erase, less_stays, less_shrinks, plug_erase}
 use Rattle.descent.specs.declared.spot.End.TheVariants as end
-use Rattle.descent.specs.declared.spot.Body.{Body}
 use Rattle.descent.specs.declared.spot.Spot.{Spot}
 use Rattle.descent.specs.Spot.{Topped, InTree, SpotAt}
 use Rattle.chain.specs.Row.{Entered, bytes_of}
@@ -46,7 +45,7 @@ use Rattle.erase_join.specs.Lone.{IsLeaf, Full, Site, pair_of, Couple, Above, Ha
 use Rattle.erase_join.proofs.SiteLaws.{node_body, beside, site_open}
 use Rattle.erase_join.proofs.UpLaws.{child_stood, child_tree}
 use Rattle.erase_join.proofs.OverLaws.{opened_above}
-use Rattle.erase_join.proofs.NeedLaws.{by_body, Taking, leaf_taking, full_taking, roomy_taking}
+use Rattle.erase_join.proofs.NeedLaws.{Taking, leaf_taking, full_taking, roomy_taking}
 use Rattle.plan.specs.Run.{RunAt, Measured}
 use Rattle.plan.specs.Erase.{EraseFrom, PairFrom, Erasing, ErasePlan}
 use Rattle.chain.proofs.ReadLaws.{entered_at}
@@ -158,7 +157,7 @@ tree_same : (l m : Lay) → tree l ≡ tree m → l ≡ m
 tree_same l m e = cc
 
 -- the node that holds the Leaf of k
-pub record Losing (E : Edition) (f k : List ℕ) (s : Spot) (host : Body) (l : Lay) : Type 0 where
+pub record Losing (E : Edition) (f k : List ℕ) (s : Spot) (l : Lay) : Type 0 where
   pub extent : ℕ
   pub value : Value
   pub before : LayKids
@@ -166,18 +165,18 @@ pub record Losing (E : Edition) (f k : List ℕ) (s : Spot) (host : Body) (l : L
   pub after : LayKids
   pub up : List Step
   pub rest : List ℕ
-  pub whole : l ≡ plug up (node host.slot host.place (number_of host.kind) (app before (kid s.byte place (leaf s.here.slot s.here.place extent k value) after)))
+  pub whole : l ≡ plug up (node s.node.slot s.node.place (number_of s.node.kind) (app before (kid s.byte place (leaf s.here.slot s.here.place extent k value) after)))
   pub word : E.walked k ≡ path_of up ++ s.byte ∷ rest
   pub top : Topped up s.above s.first s.first_link
 
-module _ {E : Edition} {f k : List ℕ} {st : State} {s : Spot} {host : Body} (W : Stands E f st) (S : SpotAt E k W.root s) (e : s.end ≡ end.Found) (h : s.node ≡ Some host) (l : Lay) (q : W.root ≡ tree l) where
-  pub losing : Losing E f k s host l
+module _ {E : Edition} {f k : List ℕ} {st : State} {s : Spot} (W : Stands E f st) (S : SpotAt E k W.root s) (e : s.end ≡ end.Found) (h : 1 ≤ s.node.slot) (l : Lay) (q : W.root ≡ tree l) where
+  pub losing : Losing E f k s l
   losing =
       let I = S.in_tree (λ z. clash (cc)) in
       let w = I.spot.way in
       let F = I.spot.found e in
-      let H = w.over.held host h in
-      let n = host in
+      let H = w.over.held h in
+      let n = s.node in
       let t = leaf s.here.slot s.here.place F.extent k F.value in
       record {
         extent = F.extent;
@@ -194,7 +193,7 @@ module _ {E : Edition} {f k : List ℕ} {st : State} {s : Spot} {host : Body} (W
         top = H.top;
       }
 
-  abbrev D : Losing E f k s host l
+  abbrev D : Losing E f k s l
   D = losing
 
   abbrev lost_leaf : Lay
@@ -208,23 +207,23 @@ module _ {E : Edition} {f k : List ℕ} {st : State} {s : Spot} {host : Body} (W
   stays = app D.before D.after
 
   abbrev holder_lay : Lay
-  holder_lay = node host.slot host.place (number_of host.kind) kids
+  holder_lay = node s.node.slot s.node.place (number_of s.node.kind) kids
 
   whole_tree : Tree E f [] (plug D.up holder_lay)
   whole_tree = stands_tree W (plug D.up holder_lay) (q ∙ ap tree D.whole)
 
-  hole_there : Around E f D.up host.slot × Tree E f (path_of D.up) holder_lay
+  hole_there : Around E f D.up s.node.slot × Tree E f (path_of D.up) holder_lay
   hole_there = let z = hole_out E f D.up holder_lay whole_tree in (z.0, z.2)
 
-  pub node_of_lem : NodeOf f host.place (number_of host.kind) kids
-  node_of_lem = (node_parts E f (path_of D.up) host.slot host.place (number_of host.kind) kids hole_there.1).1
+  pub node_of_lem : NodeOf f s.node.place (number_of s.node.kind) kids
+  node_of_lem = (node_parts E f (path_of D.up) s.node.slot s.node.place (number_of s.node.kind) kids hole_there.1).1
 
   leads : Leads E k D.up (s.byte ∷ D.rest)
-  leads = leads_of f host.slot (s.byte ∷ D.rest) hole_there.0 D.word
+  leads = leads_of f s.node.slot (s.byte ∷ D.rest) hole_there.0 D.word
 
-  holder_hangs : HangsIn D.up (Art.node (number_of host.kind) (app_kids (art_kids D.before) (Kids.kid s.byte D.place (Art.leaf k D.value) (art_kids D.after))))
+  holder_hangs : HangsIn D.up (Art.node (number_of s.node.kind) (app_kids (art_kids D.before) (Kids.kid s.byte D.place (Art.leaf k D.value) (art_kids D.after))))
   holder_hangs =
-      subst (λ (z : Kids). HangsIn D.up (Art.node (number_of host.kind) z)) (art_app D.before (kid s.byte D.place lost_leaf D.after)) (hangs_in E f D.up holder_lay whole_tree)
+      subst (λ (z : Kids). HangsIn D.up (Art.node (number_of s.node.kind) z)) (art_app D.before (kid s.byte D.place lost_leaf D.after)) (hangs_in E f D.up holder_lay whole_tree)
 
   first : has_byte s.byte D.before ≡ false
   first = app_left s.byte D.place lost_leaf 0 D.before D.after (inner_asc (pairs kids) node_of_lem.inner)
@@ -232,21 +231,21 @@ module _ {E : Edition} {f k : List ℕ} {st : State} {s : Spot} {host : Body} (W
   fewer : length (pairs kids) ≡ length (pairs stays) + 1
   fewer = remove_len s.byte D.place lost_leaf D.before D.after
 
-  art_is : art l ≡ art_in D.up (Art.node (number_of host.kind) (app_kids (art_kids D.before) (Kids.kid s.byte D.place (Art.leaf k D.value) (art_kids D.after))))
-  art_is = ap art D.whole ∙ art_plug D.up holder_lay ∙ ap (λ (z : Kids). art_in D.up (Art.node (number_of host.kind) z)) (art_app D.before (kid s.byte D.place lost_leaf D.after))
+  art_is : art l ≡ art_in D.up (Art.node (number_of s.node.kind) (app_kids (art_kids D.before) (Kids.kid s.byte D.place (Art.leaf k D.value) (art_kids D.after))))
+  art_is = ap art D.whole ∙ art_plug D.up holder_lay ∙ ap (λ (z : Kids). art_in D.up (Art.node (number_of s.node.kind) z)) (art_app D.before (kid s.byte D.place lost_leaf D.after))
 
   module _ {n : Needs} where
-    pub end_keeps : (length (pairs kids) ≡ shrink_mark (number_of host.kind) + 1 → ⊥) → Asks n [] 0 → Erasing E k (art l) n
+    pub end_keeps : (length (pairs kids) ≡ shrink_mark (number_of s.node.kind) + 1 → ⊥) → Asks n [] 0 → Erasing E k (art l) n
     end_keeps m A =
         let r = node_of_lem.inner.range in
-        let m' : length (pairs stays) ≡ shrink_mark (number_of host.kind) → ⊥ = λ z. m (fewer ∙ ap (λ i. i + 1) z) in
-        rw art_is (keeps (number_of host.kind) D.before s.byte D.place D.after D.up leads first D.value holder_hangs (enough (number_of host.kind) (length (pairs stays)) r.0 r.1 (omega (arith, fewer, node_of_lem.least)) m') m' A)
+        let m' : length (pairs stays) ≡ shrink_mark (number_of s.node.kind) → ⊥ = λ z. m (fewer ∙ ap (λ i. i + 1) z) in
+        rw art_is (keeps (number_of s.node.kind) D.before s.byte D.place D.after D.up leads first D.value holder_hangs (enough (number_of s.node.kind) (length (pairs stays)) r.0 r.1 (omega (arith, fewer, node_of_lem.least)) m') m' A)
 
-    pub end_falls : length (pairs kids) ≡ shrink_mark (number_of host.kind) + 1 → (number_of host.kind ≡ 4 → ⊥) → Asks n (kind_down (number_of host.kind) ∷ []) 0 → Erasing E k (art l) n
+    pub end_falls : length (pairs kids) ≡ shrink_mark (number_of s.node.kind) + 1 → (number_of s.node.kind ≡ 4 → ⊥) → Asks n (kind_down (number_of s.node.kind) ∷ []) 0 → Erasing E k (art l) n
     end_falls m d A =
         let r = node_of_lem.inner.range in
-        let e : length (pairs stays) ≡ shrink_mark (number_of host.kind) = omega (arith, fewer) in
-        rw art_is (falls (number_of host.kind) D.before s.byte D.place D.after D.up leads first D.value holder_hangs (omega (arith, e, marks_two (number_of host.kind) r.0 r.1 d)) e A)
+        let e : length (pairs stays) ≡ shrink_mark (number_of s.node.kind) = omega (arith, fewer) in
+        rw art_is (falls (number_of s.node.kind) D.before s.byte D.place D.after D.up leads first D.value holder_hangs (omega (arith, e, marks_two (number_of s.node.kind) r.0 r.1 d)) e A)
 
   -- of two children one is left
   module _ (two : length (pairs kids) ≡ 2) where
@@ -262,24 +261,24 @@ module _ {E : Edition} {f k : List ℕ} {st : State} {s : Spot} {host : Body} (W
     own_pair = app_remove s.byte D.place lost_leaf 0 D.before D.after (inner_asc (pairs kids) node_of_lem.inner) ∙ ap pairs left_alone.is
 
     -- its byte c and slot r
-    module _ (four : number_of host.kind ≡ 4) (c r : ℕ) (is : remove_kid s.byte (pairs kids) ≡ (c, r) ∷ []) where
+    module _ (four : number_of s.node.kind ≡ 4) (c r : ℕ) (is : remove_kid s.byte (pairs kids) ≡ (c, r) ∷ []) where
       one_pair : ◌≡◌ {A = List (ℕ × ℕ)} ((left_alone.byte, slot_of child) ∷ []) ((c, r) ∷ [])
       one_pair = sym own_pair ∙ is
 
       abbrev lone : Lone
-      lone = record { node = host.slot; leaf = s.here.slot; at = s.here.place; byte = c; child = r }
+      lone = record { node = s.node.slot; leaf = s.here.slot; at = s.here.place; byte = c; child = r }
 
       abbrev pair : Lay
-      pair = node host.slot host.place node4_kind kids
+      pair = node s.node.slot s.node.place node4_kind kids
 
       whole_is : l ≡ plug D.up pair
-      whole_is = D.whole ∙ ap (λ i. plug D.up (node host.slot host.place i kids)) four
+      whole_is = D.whole ∙ ap (λ i. plug D.up (node s.node.slot s.node.place i kids)) four
 
       -- the site of a join
       site : Site E k W.root D.up lone child
       site =
           record {
-            node_at = host.place;
+            node_at = s.node.place;
             before = D.before;
             byte = s.byte;
             place = D.place;
@@ -315,7 +314,7 @@ module _ {E : Edition} {f k : List ℕ} {st : State} {s : Spot} {host : Body} (W
             edition = E;
             view = stands_view W;
             steps = D.up;
-            top = host.slot;
+            top = s.node.slot;
             path = path_of D.up ++ c ∷ [];
             tree = child;
             trees = beside site;
@@ -326,13 +325,13 @@ module _ {E : Edition} {f k : List ℕ} {st : State} {s : Spot} {host : Body} (W
           }
 
       child_long : {n : ℕ} → Measured f r n → n ≡ length (bytes_of child)
-      child_long M = M E (stands_view W) D.up host.slot (path_of D.up ++ c ∷ []) child (beside site) (node_body site) (site_open W site) site.slot_is ∙ run_long_lem child
+      child_long M = M E (stands_view W) D.up s.node.slot (path_of D.up ++ c ∷ []) child (beside site) (node_body site) (site_open W site) site.slot_is ∙ run_long_lem child
 
       -- the Prefix above
       pub above_fits : Above f s.above
-      above_fits u e =
-          let C = D.top.capped u e in
-          let P = (opened_above W u C.bytes C.up (subst (λ (xs : List Step). Site E k W.root xs lone child) C.is site)).1 in
+      above_fits n =
+          let C = D.top.capped (omega arith) in
+          let P = (opened_above W s.above C.bytes C.up (subst (λ (xs : List Step). Site E k W.root xs lone child) C.is site)).1 in
           (P.room, omega (arith, P.long, P.most))
 
       taken : {n : Needs} {takes : List ℕ} → Taking E k (art (plug D.up (pair_of site))) takes → Asks n takes 0 → Erasing E k (art l) n
@@ -340,23 +339,25 @@ module _ {E : Edition} {f k : List ℕ} {st : State} {s : Spot} {host : Body} (W
       taken {n} T A = subst (λ (z : Lay). Erasing E k (art z) n) (sym whole_is) (record { left = T.left; leaves = ap (λ (x : Change Left). x.now) T.is; asks = rw T.is A })
 
       module _ {m : ℕ} (H : HasRoom f s.above m) where
-        above_long : (u : Body) (e : s.above ≡ Some u) → let p = (D.top.capped u e).bytes in (m ≡ 112 - length p) × (length p ≤ 112)
-        above_long u e =
-            let C = D.top.capped u e in
-            let P = (opened_above W u C.bytes C.up (subst (λ (xs : List Step). Site E k W.root xs lone child) C.is site)).1 in
-            (H.some u e ∙ ap (λ i. 112 - i) P.long, P.most)
+        above_long : (d : s.above.slot ≡ 0 → ⊥) → let p = (D.top.capped (omega arith)).bytes in (m ≡ 112 - length p) × (length p ≤ 112)
+        above_long d =
+            let C = D.top.capped (omega arith) in
+            let P = (opened_above W s.above C.bytes C.up (subst (λ (xs : List Step). Site E k W.root xs lone child) C.is site)).1 in
+            (H.some d ∙ ap (λ i. 112 - i) P.long, P.most)
 
         -- it takes the byte, or is freed
         pub end_under : {n : Needs} → (m ≡ 0 → ⊥) → Asks n [] 0 → Erasing E k (art l) n
         end_under z A =
+            let d : s.above.slot ≡ 0 → ⊥ = λ e. z (H.none e) in
+            let C = D.top.capped (omega arith) in
             leaf_or child (λ i. taken (leaf_taking W D.top child i site) A)
-            (λ i. by_body s.above (λ e. absurd (z (H.none e)))
-            (λ u e. let C = D.top.capped u e in taken (subst (λ (xs : List Step). (P : Site E k W.root xs lone child) → Taking E k (art (plug xs (pair_of P))) []) (sym C.is) (λ P. roomy_taking W u C.bytes C.up (omega (arith, (above_long u e).0)) child i P) site) A))
+            (λ i. taken (subst (λ (xs : List Step). (P : Site E k W.root xs lone child) → Taking E k (art (plug xs (pair_of P))) []) (sym C.is) (λ P. roomy_taking W s.above C.bytes C.up (omega (arith, (above_long d).0)) child i P) site) A)
 
         full_above : m ≡ 0 → Full D.up
-        full_above z =
-            by_body s.above (λ e. none_full D.up (D.top.without e))
-            (λ u e. subst Full (sym (D.top.capped u e).is) (omega (arith, (above_long u e).0, (above_long u e).1)))
+        full_above z = elim (ℕ_discrete s.above.slot 0) [
+          | yes e ↦ none_full D.up (D.top.without e)
+          | no d ↦ subst Full (sym (D.top.capped (omega arith)).is) (omega (arith, (above_long d).0, (above_long d).1))
+        ]
 
         pub end_leaf : {n : Needs} → high_of f r ≡ leaf_kind → Asks n [] 0 → Erasing E k (art l) n
         end_leaf g A = taken (leaf_taking W D.top child (child_leaf g) site) A
@@ -374,53 +375,53 @@ module _ {E : Edition} {f k : List ℕ} {st : State} {s : Spot} {host : Body} (W
 
 -- ---- the code's ends
 
-module _ {E : Edition} {f k : List ℕ} {s : Spot} {host : Body} (P : EraseFrom E f k s host) where
+module _ {E : Edition} {f k : List ℕ} {s : Spot} (P : EraseFrom E f k s) where
   abbrev in_tree : InTree E k P.stands.root s
   in_tree = P.spot.in_tree (λ z. let e = P.found in clash (cc))
 
-  pub node_room : host.place + 2 ≤ length f
+  pub node_room : s.node.place + 2 ≤ length f
   node_room = (inner_fits _ (node_of_lem P.stands P.spot P.found P.held in_tree.lay in_tree.is).inner).0
 
-  pub node_inner : (4 ≤ number_of host.kind) × (number_of host.kind ≤ 7)
+  pub node_inner : (4 ≤ number_of s.node.kind) × (number_of s.node.kind ≤ 7)
   node_inner = (node_of_lem P.stands P.spot P.found P.held in_tree.lay in_tree.is).inner.range
 
   -- m: the children that are counted
-  module _ (m : ℕ) (q : (kind : ℕ) (ks : List (ℕ × ℕ)) → InnerAt f host.place kind ks → m ≡ length ks) where
-    pub plan_keeps : {n : Needs} → (m ≡ shrink_mark (number_of host.kind) + 1 → ⊥) → Asks n [] 0 → ErasePlan E f k s n
+  module _ (m : ℕ) (q : (kind : ℕ) (ks : List (ℕ × ℕ)) → InnerAt f s.node.place kind ks → m ≡ length ks) where
+    pub plan_keeps : {n : Needs} → (m ≡ shrink_mark (number_of s.node.kind) + 1 → ⊥) → Asks n [] 0 → ErasePlan E f k s n
     plan_keeps d A =
         record {
           small = asks_small A (omega arith) (omega arith);
-          erasing = λ st W S l e. end_keeps W S P.found P.held l e (λ z. d (q (number_of host.kind) _ (node_of_lem W S P.found P.held l e).inner ∙ z)) A;
+          erasing = λ st W S l e. end_keeps W S P.found P.held l e (λ z. d (q (number_of s.node.kind) _ (node_of_lem W S P.found P.held l e).inner ∙ z)) A;
         }
 
-    pub plan_falls : {n : Needs} (g : ℕ) → m ≡ shrink_mark (number_of host.kind) + 1 → (number_of host.kind ≡ 4 → ⊥) → g ≡ kind_down (number_of host.kind) → Asks n (g ∷ []) 0 → ErasePlan E f k s n
+    pub plan_falls : {n : Needs} (g : ℕ) → m ≡ shrink_mark (number_of s.node.kind) + 1 → (number_of s.node.kind ≡ 4 → ⊥) → g ≡ kind_down (number_of s.node.kind) → Asks n (g ∷ []) 0 → ErasePlan E f k s n
     plan_falls g d u e A =
         record {
           small = asks_small A (omega arith) (omega arith);
-          erasing = λ st W S l x. end_falls W S P.found P.held l x (sym (q (number_of host.kind) _ (node_of_lem W S P.found P.held l x).inner) ∙ d) u (rw (← e) A);
+          erasing = λ st W S l x. end_falls W S P.found P.held l x (sym (q (number_of s.node.kind) _ (node_of_lem W S P.found P.held l x).inner) ∙ d) u (rw (← e) A);
         }
 
-    pub pair_from : m ≡ shrink_mark (number_of host.kind) + 1 → number_of host.kind ≡ 4 → PairFrom E f k s host
-    pair_from d e = record { from = P; kind = e; two = λ ks N. sym (q (number_of host.kind) ks N) ∙ d ∙ ap (λ i. shrink_mark i + 1) e }
+    pub pair_from : m ≡ shrink_mark (number_of s.node.kind) + 1 → number_of s.node.kind ≡ 4 → PairFrom E f k s
+    pair_from d e = record { from = P; kind = e; two = λ ks N. sym (q (number_of s.node.kind) ks N) ∙ d ∙ ap (λ i. shrink_mark i + 1) e }
 
-module _ {E : Edition} {f k : List ℕ} {s : Spot} {host : Body} (P : PairFrom E f k s host) where
-  abbrev from : EraseFrom E f k s host
+module _ {E : Edition} {f k : List ℕ} {s : Spot} (P : PairFrom E f k s) where
+  abbrev from : EraseFrom E f k s
   from = P.from
 
   module _ {st : State} (W : Stands E f st) (S : SpotAt E k W.root s) (l : Lay) (e : W.root ≡ tree l) where
     abbrev two_kids : List (ℕ × ℕ)
     two_kids = pairs (kids W S from.found from.held l e)
 
-    pair_at : InnerAt f host.place (number_of host.kind) two_kids
+    pair_at : InnerAt f s.node.place (number_of s.node.kind) two_kids
     pair_at = (node_of_lem W S from.found from.held l e).inner
 
-    four_at : InnerAt f host.place 4 two_kids
-    four_at = subst (λ i. InnerAt f host.place i two_kids) P.kind pair_at
+    four_at : InnerAt f s.node.place 4 two_kids
+    four_at = subst (λ i. InnerAt f s.node.place i two_kids) P.kind pair_at
 
     two_there : length two_kids ≡ 2
     two_there = P.two two_kids pair_at
 
-  pub couple : Couple f host.place s.byte
+  pub couple : Couple f s.node.place s.byte
   couple =
       let W = from.stands in
       let S = from.spot in
@@ -454,7 +455,7 @@ module _ {E : Edition} {f k : List ℕ} {s : Spot} {host : Body} (P : PairFrom E
         }
 
   -- the other child: its byte c and slot r
-  module _ (c r : ℕ) (q : (ks : List (ℕ × ℕ)) → InnerAt f host.place 4 ks → remove_kid s.byte ks ≡ (c, r) ∷ []) where
+  module _ (c r : ℕ) (q : (ks : List (ℕ × ℕ)) → InnerAt f s.node.place 4 ks → remove_kid s.byte ks ≡ (c, r) ∷ []) where
     left_there : {st : State} (W : Stands E f st) (S : SpotAt E k W.root s) (l : Lay) (e : W.root ≡ tree l) → remove_kid s.byte (two_kids W S l e) ≡ (c, r) ∷ []
     left_there W S l e = q (two_kids W S l e) (four_at W S l e)
 

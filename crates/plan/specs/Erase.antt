@@ -1,6 +1,6 @@
 -- What the plan of an erase counts on, and what it says.
 use Rattle.layout.specs.Kind.{number_of}
-use Rattle.std.specs.Prelude.{ℕ, ◌≡◌, List, Some, length}
+use Rattle.std.specs.Prelude.{ℕ, ◌≤◌, ◌≡◌, List, length}
 use Rattle.model.specs.Edition.{Edition, Lawful}
 use Rattle.model.specs.Tree.{Art}
 use Rattle.model.specs.Tree.Left.{kept}
@@ -10,25 +10,24 @@ use Rattle.model.specs.Frame.{Lay, tree, art, Stands}
 use Rattle.room.specs.declared.fit.Needs.{Needs}
 use Rattle.room.specs.Fit.{Small, Asks}
 use Rattle.descent.specs.declared.spot.End.TheVariants as end
-use Rattle.descent.specs.declared.spot.Body.{Body}
 use Rattle.descent.specs.declared.spot.Spot.{Spot}
 use Rattle.descent.specs.Spot.{SpotAt}
 
 module _ (E : Edition) where
-  -- f is a good frame, and the descent of key k through it ended at its Leaf, which the inner node n holds
-  pub record EraseFrom (f k : List ℕ) (s : Spot) (n : Body) : Type 0 where
+  -- f is a good frame, and the descent of key k through it ended at its Leaf, which an inner node holds
+  pub record EraseFrom (f k : List ℕ) (s : Spot) : Type 0 where
     pub lawful : Lawful E
     pub st : State
     pub stands : Stands E f st
     pub spot : SpotAt E k stands.root s
     pub found : s.end ≡ end.Found
-    pub held : s.node ≡ Some n
+    pub held : 1 ≤ s.node.slot
 
   -- a Node4 of two
-  pub record PairFrom (f k : List ℕ) (s : Spot) (n : Body) : Type 0 where
-    pub from : EraseFrom f k s n
-    pub kind : number_of n.kind ≡ 4
-    pub two : (ks : List (ℕ × ℕ)) → InnerAt f n.place (number_of n.kind) ks → length ks ≡ 2
+  pub record PairFrom (f k : List ℕ) (s : Spot) : Type 0 where
+    pub from : EraseFrom f k s
+    pub kind : number_of s.node.kind ≡ 4
+    pub two : (ks : List (ℕ × ℕ)) → InnerAt f s.node.place (number_of s.node.kind) ks → length ks ≡ 2
 
   -- the erase of k from the tree a leaves a tree, and these are its needs
   pub record Erasing (k : List ℕ) (a : Art) (n : Needs) : Type 0 where

@@ -3,7 +3,7 @@ ghost use Rattle.model.specs.Edition.{Edition, SomeEdition};
 ghost use Rattle.plan.specs.Erase.{EraseFrom, PairFrom, ErasePlan};
 
 use crate::run;
-use descent::spot::{Body, Spot};
+use descent::spot::Spot;
 use erase_join::join;
 use inner::look;
 use layout::entry::Entry;
@@ -13,14 +13,16 @@ use room::fit::Needs;
 // "A Node4 that falls to one child is freed." Where no Prefix above has room, its byte joins in front of what is left: "need .. as many
 // Prefixes as the frame then has more".
 #[tactic(auto, using(crate::proofs::NoneLaws::none_small))]
-fn joining(f: &[u8], key: &[u8], node: Body, spot: Spot) -> Needs
-    requires { SomeEdition (λ E. PairFrom E f.now key.now spot node) }
-    ensures { (E : Edition) → PairFrom E f.now key.now spot node → ErasePlan E f.now key.now spot result }
+fn joining(f: &[u8], key: &[u8], spot: Spot) -> Needs
+    requires { SomeEdition (λ E. PairFrom E f.now key.now spot) }
+    ensures { (E : Edition) → PairFrom E f.now key.now spot → ErasePlan E f.now key.now spot result }
 {
     let none = Needs::none();
-    if join::spare(f, spot.above) != 0 {
+    let above = spot.above;
+    if join::spare(f, above) != 0 {
         return none;
     }
+    let node = spot.node;
     let other = join::other_child(f, node.place, spot.byte);
     let entry = Entry::read(f, other.slot);
     if entry.kind() == Kind::Leaf {
@@ -33,19 +35,20 @@ fn joining(f: &[u8], key: &[u8], node: Body, spot: Spot) -> Needs
     none.with(Kind::Prefix)
 }
 
-// What an erase needs whose Leaf, where the descent ended, stands in this inner node: "A Node256 that falls to 37, a Node48 to 12, a
+// What an erase needs whose Leaf, where the descent ended, stands in an inner node: "A Node256 that falls to 37, a Node48 to 12, a
 // Node16 to 3 needs a body of the next smaller kind".
 #[tactic(auto, using(crate::proofs::NoneLaws::none_small))]
-pub fn erase_needs(f: &[u8], key: &[u8], node: Body, spot: Spot) -> Needs
-    requires { SomeEdition (λ E. EraseFrom E f.now key.now spot node) }
-    ensures { (E : Edition) → EraseFrom E f.now key.now spot node → ErasePlan E f.now key.now spot result }
+pub fn erase_needs(f: &[u8], key: &[u8], spot: Spot) -> Needs
+    requires { SomeEdition (λ E. EraseFrom E f.now key.now spot) }
+    ensures { (E : Edition) → EraseFrom E f.now key.now spot → ErasePlan E f.now key.now spot result }
 {
+    let node = spot.node;
     let none = Needs::none();
     if look::count(f, node.place) != node.kind.shrink_mark() + 1 {
         return none;
     }
     match node.kind.down() {
         Some(smaller) => none.with(smaller),
-        None => joining(f, key, node, spot),
+        None => joining(f, key, spot),
     }
 }

@@ -35,9 +35,9 @@ pub returns-in_err-trial : goal.returns-in_err-trial
 returns-in_err-trial g c =
     let S = standing _ _ [] (lawful c.edition-edition.result) c.in_ok-check.ensures in
     let q = change_refused c.in_err-trial.field-0.0 _ c.from_residual-in_err-trial.ensures.1 in
-    let p = pasted_all _ _ _ c.paste.ensures c.if-second-frame.false in
+    let copied = pasted_all _ _ _ c.paste.ensures c.if-second-frame.false in
     rw (q.0, q.1, ← c.edition-edition.ensures)
-    (halted_at _ _ _ _ _ S c.if-second-frame.false (sym c.well_laid.ensures ∙ c.if-not-well_laid.false) _ _ _ (halted_as p c.in_err-trial.ensures))
+    (halted_at _ _ _ _ _ S c.if-second-frame.false (sym c.well_laid.ensures ∙ c.if-not-well_laid.false) _ _ _ (halted_as copied c.in_err-trial.ensures))
 
 pub carry_out-requires : goal.carry_out-requires
 carry_out-requires g c =
