@@ -1,50 +1,98 @@
 #!/usr/bin/env python3
-"""ports/plain.py little|big <MODULE.ll >PLAIN.ll: the text of the kit's module for x86-64, for machines with the lowest or the highest byte first.
+"""ports/plain.py 64|32|32be <MODULE.ll >PLAIN.ll: the text of the kit's module for x86-64, for a machine with pointers of so many bits.
 
 What names x86-64 goes, and what older compilers do not know: a remark on parameters, and a word for a pointer's address.
 
-The kit's code reads and writes memory at places that it has reckoned itself, with eight bytes for a pointer, and so on every machine alike. One thing
-in it hangs on the machine: an array that is a constant stands in memory as bytes, each number's lowest byte first, and whole numbers are read of it.
-Where the highest byte comes first, each number is turned. How wide they are is seen from what is done with the constant's address: nothing but
-reading numbers of one width, at multiples of it, which have to fill the constant. A constant in memory that is more than bytes, as with a pointer in
-it, is not known.
+The kit's code reads and writes memory at places that it has reckoned itself, with eight bytes for a pointer, and so on every machine alike. Three
+things in it hang on the machine, and are said here so that they do not:
 
-It stops at what it does not know, and at what would hang on the machine: a small record, loaded or returned whole, whose fields would stand elsewhere
-with pointers of 32 bits; and, where the highest byte comes first, a number of several bytes that is stored with `align 1`, as a tag of which one byte
-is read."""
+- It loads and returns small records whole, as `{ i8, ptr }`, whose places are the compiler's. With pointers of 32 bits those after the first can fall
+  elsewhere. Such a record gets its gaps written out.
+- It stores an enum's tag as a number of 16, 32 or 64 bits with `align 1` (nothing else is stored so), and reads one byte of it, the lowest, where it
+  begins. Where the highest byte comes first (be), that byte alone is stored.
+- An array that is a constant stands in memory as bytes, each number's lowest byte first, and whole numbers are read of it. Where the highest byte
+  comes first (be), each number is turned, but for a constant of one byte, which has no order. How wide they are is seen from what is done with the
+  constant's address: nothing but reading numbers of one width, at multiples of it, which have to fill the constant. A constant in memory that is more
+  than bytes, as with a pointer in it, is not known.
+
+It stops at what it does not know."""
 import re
 import sys
 
-ORDER = sys.argv[1] if len(sys.argv) == 2 else ""
-if ORDER not in ("little", "big"):
+KIND = sys.argv[1] if len(sys.argv) == 2 else ""
+if KIND not in ("64", "32", "32be"):
     sys.exit(__doc__)
-RECORD = re.compile(r"\{ ((?:i\d+|ptr)(?:, (?:i\d+|ptr))*) \}")
+POINTER = 8 if KIND == "64" else 4
+STRUCT = re.compile(r"\{ ((?:i\d+|ptr)(?:, (?:i\d+|ptr))*) \}")
 SIZES = {"i1": 1, "i8": 1, "i16": 2, "i32": 4, "i64": 8}
-WIDE_UNALIGNED = re.compile(r" *store (?:i16|i32|i64) .*, align 1\b")
 
 
 def stop(why):
     sys.exit(f"ports/plain.py: {why}")
 
 
+def size(field, pointer):
+    if field != "ptr" and field not in SIZES:
+        stop(f"a record has a field {field}")
+    return pointer if field == "ptr" else SIZES[field]
+
+
 def places(fields, pointer):
-    """Where the fields of a record stand, and what it takes."""
+    """Where the fields stand, and what the record takes."""
     at, found, most = 0, [], 1
     for field in fields:
-        if field != "ptr" and field not in SIZES:
-            stop(f"a record has a field {field}")
-        size = pointer if field == "ptr" else SIZES[field]
-        at = -(-at // size) * size
+        n = size(field, pointer)
+        at = -(-at // n) * n
         found.append(at)
-        at, most = at + size, max(most, size)
+        at, most = at + n, max(most, n)
     return found, -(-at // most) * most
 
 
-def hangs_on_the_machine(line):
-    """Whether a record of the line stands otherwise with pointers of 32 bits, or a wide number at no place of its own with the highest byte first."""
-    if any(places(it[1].split(", "), 8) != places(it[1].split(", "), 4) for it in RECORD.finditer(line)):
-        return True
-    return ORDER == "big" and WIDE_UNALIGNED.match(line) is not None
+def spelled(fields):
+    """The record as it stands on x86-64, and the new number of each field, or None where it stands so on this machine."""
+    on_x86, whole = places(fields, 8)
+    if (on_x86, whole) == places(fields, POINTER):
+        return None
+    parts, numbers, at = [], [], 0
+    for field, place in zip(fields, on_x86):
+        if place > at:
+            parts.append(f"[{place - at} x i8]")
+        numbers.append(len(parts))
+        parts.append(field)
+        at = place + size(field, POINTER)
+    if whole > at:
+        parts.append(f"[{whole - at} x i8]")
+    return f"<{{ {', '.join(parts)} }}>", numbers
+
+
+def records(line):
+    found = [it for it in STRUCT.finditer(line) if spelled(it[1].split(", "))]
+    if not found:
+        return line
+    value = re.search(r" = (extractvalue|insertvalue) (\{ [^{}]* \}) (.*), (\d+)$", line)
+    if value and len(found) == 1:
+        new, numbers = spelled(STRUCT.fullmatch(value[2])[1].split(", "))
+        return f"{line[:value.start()]} = {value[1]} {new} {value[3]}, {numbers[int(value[4])]}"
+    if not re.search(r" = load | = call |^define |^declare |^ *ret ", line) or re.search(r"\} \{|getelementptr", line):
+        stop(f"a record stands in a line of another kind: {line}")
+    return STRUCT.sub(lambda it: (spelled(it[1].split(", ")) or [it[0]])[0], line)
+
+
+fresh = 0
+
+
+def tags(line):
+    """The lowest byte of a tag in the place of the tag."""
+    global fresh
+    it = re.fullmatch(r"( *)store (i16|i32|i64) (%\w+|\d+), (ptr .*), align 1", line)
+    if not it:
+        return line
+    if not it[3].startswith("%"):
+        if int(it[3]) > 255:
+            stop(f"a tag has more than a byte: {line}")
+        return f"{it[1]}store i8 {it[3]}, {it[4]}, align 1"
+    fresh += 1
+    return f"{it[1]}%tag.{fresh} = trunc {it[2]} {it[3]} to i8\n{it[1]}store i8 %tag.{fresh}, {it[4]}, align 1"
 
 
 CONSTANT = re.compile(
@@ -102,7 +150,7 @@ def meet_reads(body):
 def highest_first(line):
     """The constant with the highest byte of each number first."""
     it = CONSTANT.fullmatch(line)
-    if not it or it[4] == "zeroinitializer":
+    if not it or it[4] == "zeroinitializer" or it[1] not in widths:
         return line
     if len(widths[it[1]]) != 1:
         stop(f"numbers of {len(widths[it[1]])} widths are read of a constant: {line}")
@@ -116,13 +164,15 @@ def highest_first(line):
 
 lines = sys.stdin.read().splitlines()
 widths = {}
-if ORDER == "big":
+if KIND != "64":
     for line in lines:
         if line.startswith("@"):
             it = CONSTANT.fullmatch(line)
             if not it:
                 stop(f"something else than bytes stands in memory: {line}")
-            widths[it[1]] = set()
+            if int(it[3]) > 1:
+                widths[it[1]] = set()
+if KIND == "32be":
     for body in bodies(lines):
         meet_reads(body)
 
@@ -133,6 +183,8 @@ for line in lines:
     line = line.replace(" captures(none)", "").replace(" = ptrtoaddr ", " = ptrtoint ")
     if "x86" in line:
         stop(f"it names x86: {line}")
-    if hangs_on_the_machine(line):
-        stop(f"a place or an order hangs on the machine: {line}")
-    print(highest_first(line) if ORDER == "big" else line)
+    if KIND != "64":
+        line = records(line)
+    if KIND == "32be":
+        line = tags(highest_first(line))
+    print(line)
