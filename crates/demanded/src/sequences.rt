@@ -18,7 +18,8 @@ pub struct Three {
     pub packed: Result<(), Refusal>,
 }
 
-// Three changes, and what they leave packed.
+// Three changes, and what they leave packed. It stands beside `in_order`: an array of answers, for one function of both, would begin with answers
+// that no call gave.
 fn in_row(
     frame: &mut [u8],
     out: &mut [u8],

@@ -28,6 +28,7 @@ const NO_STAMP: usize = 0;
 // Bytes for one answer: a value of any frame, and what is written around it.
 pub const ANSWER: usize = 16640;
 
+// `Wide` is asked here and below: a struct that holds the buffer would be no plainer, with a clause that it holds the same one in each place of this.
 pub fn question(out: &mut [u8]) -> usize
     requires { Wide out.old }
     ensures { Answer out.new result (λ t. t ≡ Answer·question) }
