@@ -14,16 +14,17 @@ use store_bench::measure::alternate;
 use store_bench::random::Random;
 use store_bench::workload::{sought, sought_text, Record, SOUGHT};
 
-/// What a look-up gives: whether it found the key stands first, then place, length,
-/// slots and stamp.
+/// What a look-up gives: the slots, whether there is a value, and its place, length
+/// and stamp.
 #[repr(C)]
 struct Held {
-    found: bool,
-    numbers: [usize; 4],
+    slots: usize,
+    found: u8,
+    value: [usize; 3],
 }
 
 /// The module passes a slice as an address and a length: the frame, the key, the edition.
-type Find = unsafe extern "C" fn(*mut Held, *const u8, usize, *const u8, usize, usize);
+type Find = unsafe extern "C" fn(*mut Held, *const u8, usize, *const u8, usize, u8);
 
 extern "C" {
     fn linear_find(
@@ -32,7 +33,7 @@ extern "C" {
         frame_length: usize,
         key: *const u8,
         key_length: usize,
-        edition: usize,
+        edition: u8,
     );
     fn halving_find(
         held: *mut Held,
@@ -40,12 +41,12 @@ extern "C" {
         frame_length: usize,
         key: *const u8,
         key_length: usize,
-        edition: usize,
+        edition: u8,
     );
 }
 
-/// Of the frames that are searched.
-const EDITION: usize = 1;
+/// Of the frames that are searched: the first of the editions, counted from 0.
+const EDITION: u8 = 0;
 
 /// Look-ups in a sample: keys of the frame, drawn at random for each sample, so
 /// that no row of jumps is met again.
@@ -55,7 +56,7 @@ const LOOK_UPS: usize = 4_096;
 fn look_ups(find: Find, frame: &[u8], records: &[Record], random: &mut Random) -> f64 {
     let keys: Vec<&[u8]> =
         (0..LOOK_UPS).map(|_| &records[random.below(records.len())].key[..]).collect();
-    let mut held = Held { found: false, numbers: [0; 4] };
+    let mut held = Held { slots: 0, found: 0, value: [0; 3] };
     let mut found = 0;
     let start = Instant::now();
     for key in &keys {
