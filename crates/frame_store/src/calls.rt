@@ -28,12 +28,11 @@ pub fn check(frame: &[u8], edition: Edition) -> u32
 }
 
 // The numbers, where there is room for just so many.
-fn tell<const N: usize>(out: &mut [u64], numbers: [u64; N])
-    requires fits { N ≤ 14 }
-    ensures { Tells out.old numbers.entry out.new }
+fn tell(out: &mut [u64], numbers: &[u64])
+    ensures { Tells out.old numbers.now out.new }
 {
-    if out.len() == N {
-        out.copy_from_slice(&numbers);
+    if out.len() == numbers.len() {
+        out.copy_from_slice(numbers);
     }
 }
 
@@ -45,8 +44,8 @@ fn tell_found(out: &mut [u64], found: Found, edition: Edition)
     let length = found.length as u64;
     let slots = found.slots as u64;
     match edition {
-        Edition::First => tell(out, [place, length, slots]),
-        Edition::Second => tell(out, [place, length, slots, found.stamp as u64]),
+        Edition::First => tell(out, &[place, length, slots]),
+        Edition::Second => tell(out, &[place, length, slots, found.stamp as u64]),
     }
 }
 
@@ -106,7 +105,7 @@ pub fn info(frame: &[u8], counts: &mut [u64], edition: Edition) -> u32
     if let Ok(c) = told {
         tell(
             counts,
-            [
+            &[
                 c.frame_length as u64,
                 c.slot_capacity as u64,
                 c.slots_given as u64,
@@ -144,7 +143,7 @@ pub fn list(
     let told = names::list(frame, prefix, start, given != 0, delimiter, buffer, edition);
     let n = answers::number(told);
     if let Ok(p) = told {
-        tell(page, [p.count as u64, u64::from(p.more)]);
+        tell(page, &[p.count as u64, u64::from(p.more)]);
     }
     n
 }

@@ -50,7 +50,8 @@ fn list_by(
     page::fill(frame, Header::root(frame), asked, buffer, word, edition)
 }
 
-// Entries after `start`, if one is given, of the keys that begin with `prefix`; a `delimiter` above 255 is none.
+// Entries after `start`, if one is given, of the keys that begin with `prefix`; a `delimiter` above 255 is none. A flag and a number, as C passes them:
+// ListPromise holds of any, which may not change.
 pub fn list<E: Editioned>(
     frame: &[u8],
     prefix: &[u8],

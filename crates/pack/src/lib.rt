@@ -14,8 +14,8 @@ use answers::Refusal;
 use editions::{Edition, Editioned};
 use fields::header::Header;
 
-// By the rule that what is freed is wiped, or by the one from before. "Each packed body is no larger than the live one, so packing has no
-// answer 6."
+// By the rule that what is freed is wiped, or by the one from before: a flag, as audit::check_by takes it, whose promise may not change. "Each packed
+// body is no larger than the live one, so packing has no answer 6."
 fn by_rule(frame: &[u8], out: &mut [u8], edition: Edition, wiped: bool) -> Result<(), Refusal>
     ensures { PackingPromise (ruled wiped (rules_of edition)) (rules_of edition) frame.now out.old (done_number result) out.new }
 {

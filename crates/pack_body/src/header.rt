@@ -8,7 +8,8 @@ use fields::header::Header;
 // The slot that the root of a packed frame has.
 const ROOT_SLOT: usize = 1;
 
-// The edition's number, F, N, B, U and R over zero bytes; nothing is dead, and no list has a slot.
+// The edition's number, F, N, B, U and R over zero bytes; nothing is dead, and no list has a slot. A number, since the format has one there and it is
+// read from the frame that is packed.
 pub fn write(
     out: &mut [u8],
     edition: usize,
