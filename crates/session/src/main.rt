@@ -5,7 +5,7 @@
 
 mod part;
 
-ghost use Rattle.std.specs.Prelude.{◌≡◌, List, ℕ, ◌≤◌, length};
+ghost use Rattle.std.specs.Prelude.{◌≡◌, List, [], ℕ, None, ◌≤◌, length};
 ghost use Rattle.model.specs.Edition.{edition1};
 ghost use Rattle.lines.specs.Input.{come, Held};
 ghost use Rattle.dialog.specs.Answer.{Wide};
@@ -53,10 +53,13 @@ fn answer_piece(
     }
 }
 
-// A proved loop has to end, and nothing says that the input does: no run uses up these turns.
+// From the start, when there is no frame and nothing has come of a line. A proved loop has to end, and nothing says that the input does: no run uses
+// up these turns.
 fn answer_all(rt: &HostRuntime, frames: &mut Frames, line: &mut Line, out: &mut [u8])
-    requires { Wide out.old }
-    ensures { (begun : List ℕ) → Held begun line.old.held.now (come line.old.have) → (input : List ℕ) × (text : List ℕ) × Part edition1 frames.old.buffer.now frames.old.long begun input frames.new.buffer.now frames.new.long line.new.held.now (come line.new.have) text }
+    requires wide { Wide out.old }
+    requires no_frame { frames.old.long ≡ None }
+    requires no_line { Held [] line.old.held.now (come line.old.have) }
+    ensures { (input : List ℕ) × (text : List ℕ) × Part edition1 frames.old.buffer.now None [] input frames.new.buffer.now frames.new.long line.new.held.now (come line.new.have) text }
 {
     for _ in 0..u64::MAX {
         let mut piece = [0; PIECE];
