@@ -18,7 +18,10 @@ pub struct Next {
     pub place: usize,
 }
 
+// Each of these that is called at every level of the walk stands in a part of the stack of its own (`inline(never)`): what it keeps is not kept there.
+
 // The Leaf at o of the frame, and its extent.
+#[inline(never)]
 pub fn leaf(f: &[u8], out: &mut [u8], o: usize, next: Next) -> Next
     requires { LeafFits f.now o out.old next }
     ensures { LeafLaid f.now o out.old next out.new result }
@@ -33,6 +36,7 @@ pub fn leaf(f: &[u8], out: &mut [u8], o: usize, next: Next) -> Next
 }
 
 // The Prefix at o of the frame; its child takes the next slot.
+#[inline(never)]
 pub fn prefix(f: &[u8], out: &mut [u8], o: usize, next: Next) -> Next
     requires { PrefixFits f.now o out.old next }
     ensures { PrefixLaid f.now o out.old next out.new result }
@@ -47,6 +51,7 @@ pub fn prefix(f: &[u8], out: &mut [u8], o: usize, next: Next) -> Next
 }
 
 // An inner node of n children, none of them there yet.
+#[inline(never)]
 pub fn node(out: &mut [u8], kind: Kind, n: usize, next: Next) -> Next
     requires { NodeFits (number_of kind) out.old next }
     ensures { Laid (entry_of (number_of kind) next.place ∷ []) (part_body (number_of kind) n [] []) next out.old out.new result }
