@@ -9,7 +9,8 @@ things in it hang on the machine, and are said here so that they do not:
 - It loads and returns small records whole, as `{ i8, ptr }`, whose places are the compiler's. With pointers of 32 bits those after the first can fall
   elsewhere. Such a record gets its gaps written out.
 - It stores an enum's tag as a number of 16, 32 or 64 bits with `align 1` (nothing else is stored so), and reads one byte of it, the lowest, where it
-  begins. Where the highest byte comes first (be), that byte alone is stored.
+  begins. Where the highest byte comes first (be), that byte alone is stored: of a number below 256, or of one that was widened from a byte. What else
+  is stored so is not known.
 - An array that is a constant stands in memory as bytes, each number's lowest byte first, and whole numbers are read of it. Where the highest byte
   comes first (be), each number is turned, but for a constant of one byte, which has no order. How wide they are is seen from what is done with the
   constant's address: nothing but reading numbers of one width, at multiples of it, which have to fill the constant. A constant in memory that is more
@@ -78,18 +79,27 @@ def records(line):
     return STRUCT.sub(lambda it: (spelled(it[1].split(", ")) or [it[0]])[0], line)
 
 
+WIDE_UNALIGNED = re.compile(r" *store (?:i16|i32|i64) .*, align 1\b")
+TAG = re.compile(r"( *)store (i16|i32|i64) (%\w+|\d+), (ptr %\w+), align 1")
+WIDENED = re.compile(r" *(%\w+) = zext i8 %\w+ to (?:i16|i32|i64)")
+# The numbers of the function at hand that were widened from a byte.
+widened = set()
 fresh = 0
 
 
 def tags(line):
-    """The lowest byte of a tag in the place of the tag."""
+    """The one byte that a tag has in the place of the tag."""
     global fresh
-    it = re.fullmatch(r"( *)store (i16|i32|i64) (%\w+|\d+), (ptr .*), align 1", line)
-    if not it:
+    if line.startswith("define "):
+        widened.clear()
+    elif it := WIDENED.fullmatch(line):
+        widened.add(it[1])
+    if not WIDE_UNALIGNED.match(line):
         return line
+    it = TAG.fullmatch(line)
+    if not it or (it[3] not in widened if it[3].startswith("%") else int(it[3]) > 255):
+        stop(f"a number of several bytes is stored at any place, and is not seen to be a tag: {line}")
     if not it[3].startswith("%"):
-        if int(it[3]) > 255:
-            stop(f"a tag has more than a byte: {line}")
         return f"{it[1]}store i8 {it[3]}, {it[4]}, align 1"
     fresh += 1
     return f"{it[1]}%tag.{fresh} = trunc {it[2]} {it[3]} to i8\n{it[1]}store i8 %tag.{fresh}, {it[4]}, align 1"
