@@ -18,7 +18,8 @@ pub struct Next {
     pub place: usize,
 }
 
-// Each of these that is called at every level of the walk stands in a part of the stack of its own (`inline(never)`): what it keeps is not kept there.
+// `leaf`, `prefix` and `node` stand each in a part of the stack of its own (`inline(never)`): what they keep is not kept at every level of the walk.
+// `child` is a part of the walk: set apart it costs a call for each child, and the walk keeps no less.
 
 // The Leaf at o of the frame, and its extent.
 #[inline(never)]
