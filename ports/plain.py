@@ -10,7 +10,7 @@ things in it hang on the machine, and are said here so that they do not:
   elsewhere. Such a record gets its gaps written out.
 - It stores an enum's tag as a number of 16, 32 or 64 bits with `align 1` (nothing else is stored so), and reads one byte of it, the lowest, where it
   begins. Where the highest byte comes first (be), that byte alone is stored: of a number below 256, or of one that was widened from a byte. What else
-  is stored so is not known.
+  is stored so is not known, nor a place of a tag of which more than a byte is read, by the name that it is stored by.
 - An array that is a constant stands in memory as bytes, each number's lowest byte first, and whole numbers are read of it. Where the highest byte
   comes first (be), each number is turned, but for a constant of one byte, which has no order. How wide they are is seen from what is done with the
   constant's address: nothing but reading numbers of one width, at multiples of it, which have to fill the constant. A constant in memory that is more
@@ -82,9 +82,18 @@ def records(line):
 WIDE_UNALIGNED = re.compile(r" *store (?:i16|i32|i64) .*, align 1\b")
 TAG = re.compile(r"( *)store (i16|i32|i64) (%\w+|\d+), (ptr %\w+), align 1")
 WIDENED = re.compile(r" *(%\w+) = zext i8 %\w+ to (?:i16|i32|i64)")
+WIDE_READ = re.compile(r" *%\w+ = load (?:i16|i32|i64), ptr (%\w+), align \d+.*")
 # The numbers of the function at hand that were widened from a byte.
 widened = set()
 fresh = 0
+
+
+def meet_tags(body):
+    """Of a tag's place the function reads one byte, wherever in it that stands."""
+    cut = {it[4].removeprefix("ptr ") for line in body if (it := TAG.fullmatch(line))}
+    for line in body:
+        if (it := WIDE_READ.fullmatch(line)) and it[1] in cut:
+            stop(f"more than a byte of a tag's place is read: {line}")
 
 
 def tags(line):
@@ -185,6 +194,7 @@ if KIND != "64":
 if KIND == "32be":
     for body in bodies(lines):
         meet_reads(body)
+        meet_tags(body)
 
 for line in lines:
     if line.startswith(("target datalayout", "target triple")):
